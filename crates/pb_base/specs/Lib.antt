@@ -1,0 +1,6 @@
+pub mod Rule
+pub mod Names
+pub mod Sets
+pub mod Answers
+pub mod Node
+pub mod NodeDepth

@@ -1,0 +1,126 @@
+//! Formulas over the codes of a book.
+ghost use Rattle.std.specs.Prelude.{◌≡◌, IsTrue, IfOk, length};
+ghost use Rattle.pb_base.specs.Rule.{code, negation, both, either, always, never, holds, codes_below};
+ghost use Rattle.pb_base.specs.Node.{rule_of_node};
+
+use crate::answer::Memory;
+use crate::code_set::CodeSet;
+use std::alloc::Global;
+use std::marker::Model;
+
+/// A propositional formula over codes, each named by its place among the codes of a book, counted from 0.
+#[cycle(formula)]
+#[derive(Drop)]
+pub struct Formula {
+    node: Node,
+}
+
+/// The outermost part of a formula.
+#[cycle(formula)]
+#[derive(Drop)]
+pub enum Node {
+    /// The code at this place is in the set.
+    Code(u32),
+    Not(Box<Formula>),
+    And(Box<Formula>, Box<Formula>),
+    Or(Box<Formula>, Box<Formula>),
+    /// Always true.
+    Yes,
+    /// Never true.
+    No,
+}
+
+impl Model for Formula {
+    ghost use Rattle.pb_base.specs.Rule.{Rule, rule_code, nodes};
+
+    ghost Value = { Rule };
+
+    ghost coded = { rule_code };
+
+    ghost use Rattle.pb_base.specs.Node.{rule_of_node};
+
+    ghost view = { λ f. rule_of_node f.node };
+
+    ghost size = { nodes };
+
+    ghost use Rattle.pb_base.specs.NodeDepth.{depth_le-nodes};
+
+    ghost size_decreases = { λ a h. depth_le-nodes a.node };
+}
+
+impl Formula {
+    /// The formula that is true where this code is in the set. The place is counted from 0.
+    pub fn code(place: u32) -> Formula
+        ensures { result ≡ code place }
+    {
+        Formula {
+            node: Node::Code(place),
+        }
+    }
+
+    /// The formula that is always true.
+    pub fn yes() -> Formula
+        ensures { result ≡ always }
+    {
+        Formula { node: Node::Yes }
+    }
+
+    /// The formula that is never true.
+    pub fn no() -> Formula
+        ensures { result ≡ never }
+    {
+        Formula { node: Node::No }
+    }
+
+    /// The negation of a formula.
+    pub fn not(alloc: Global, of: Formula) -> Result<Formula, Memory>
+        ensures { IfOk result (λ f. f ≡ negation of) }
+    {
+        let of = Box::new(alloc, of)?;
+        Ok(Formula { node: Node::Not(of) })
+    }
+
+    /// The formula that is true where both are, written `+` in a rule.
+    pub fn and(alloc: Global, left: Formula, right: Formula) -> Result<Formula, Memory>
+        ensures { IfOk result (λ f. f ≡ both left right) }
+    {
+        let left = Box::new(alloc, left)?;
+        let right = Box::new(alloc, right)?;
+        Ok(Formula {
+            node: Node::And(left, right),
+        })
+    }
+
+    /// The formula that is true where one of the two is, written `/` in a rule.
+    pub fn or(alloc: Global, left: Formula, right: Formula) -> Result<Formula, Memory>
+        ensures { IfOk result (λ f. f ≡ either left right) }
+    {
+        let left = Box::new(alloc, left)?;
+        let right = Box::new(alloc, right)?;
+        Ok(Formula {
+            node: Node::Or(left, right),
+        })
+    }
+
+    /// The outermost part of the formula, to match on.
+    pub fn node(&self) -> &Node
+        ensures { rule_of_node result.now ≡ self.now }
+    {
+        &self.node
+    }
+
+    /// Whether the formula is true over this set.
+    pub fn holds(&self, set: &CodeSet) -> bool
+        requires { IsTrue (codes_below (length set.now) self.now) }
+        ensures { result ≡ holds self.now set.now }
+    {
+        match &self.node {
+            Node::Code(place) => set.has(*place),
+            Node::Not(of) => !of.holds(set),
+            Node::And(left, right) => left.holds(set) && right.holds(set),
+            Node::Or(left, right) => left.holds(set) || right.holds(set),
+            Node::Yes => true,
+            Node::No => false,
+        }
+    }
+}
