@@ -1,0 +1,187 @@
+//! The fields of a row, each read by its form.
+ghost use Rattle.std.specs.Prelude.{◌≡◌, ◌≤◌, ◌<◌, ◌^◌, slice_index_or, [], length, codes, true};
+ghost use Rattle.std.specs.List.{list_all};
+ghost use Rattle.csv.specs.Records.{fields_of};
+ghost use Rattle.book_text.specs.Fields.{name_in, code_name_in, code_or_star_in, part_in, module_in, is_mandatory_in, is_digit, is_number, value_of, number_in, day_in, day_or, term_in, days_in, field, is_width, is_empty};
+
+use crate::fault::BookKind;
+use csv::ByteRecord;
+use pb_base::{CodeName, Id, Part};
+
+/// A span of days: the term of a book, or the days on which a record is active. Both ends belong to it.
+#[derive(Clone, Copy)]
+pub struct Days {
+    pub from: u32,
+    pub until: u32,
+}
+
+const LAST_DAY: u32 = 99_999;
+
+/// The field at a place, counted from 0; an empty one where the row ends before it.
+pub fn field(row: &ByteRecord, place: usize) -> &[u8]
+    ensures { result.now ≡ field (fields_of row.now) place }
+{
+    match row.get(place) {
+        Some(text) => text,
+        None => &[],
+    }
+}
+
+/// Whether the row has this many fields, and nothing but empty ones behind them.
+pub fn is_width(row: &ByteRecord, width: usize) -> bool
+    ensures { result ≡ is_width width (fields_of row.now) }
+{
+    if row.len() < width {
+        return false;
+    }
+    for place in width..row.len() {
+        if !field(row, place).is_empty() {
+            return false;
+        }
+    }
+    true
+}
+
+pub fn name_in(text: &[u8]) -> Result<Id, BookKind>
+    ensures { result ≡ name_in text.now }
+{
+    match Id::of(text) {
+        Some(name) => Ok(name),
+        None => Err(BookKind::BadName),
+    }
+}
+
+pub fn code_name_in(text: &[u8]) -> Result<CodeName, BookKind>
+    ensures { result ≡ code_name_in text.now }
+{
+    match CodeName::of(text) {
+        Some(name) => Ok(name),
+        None => Err(BookKind::BadName),
+    }
+}
+
+/// A code, or None for `*`.
+pub fn code_or_star_in(text: &[u8]) -> Result<Option<CodeName>, BookKind>
+    ensures { result ≡ code_or_star_in text.now }
+{
+    if text == b"*".as_slice() {
+        return Ok(None);
+    }
+    let name = code_name_in(text)?;
+    Ok(Some(name))
+}
+
+pub fn part_in(text: &[u8]) -> Result<Part, BookKind>
+    ensures { result ≡ part_in text.now }
+{
+    match Part::of(text) {
+        Some(part) => Ok(part),
+        None => Err(BookKind::BadName),
+    }
+}
+
+/// A module, or None for the empty field of a position that stands in none.
+pub fn module_in(text: &[u8]) -> Result<Option<Id>, BookKind>
+    ensures { result ≡ module_in text.now }
+{
+    if text.is_empty() {
+        return Ok(None);
+    }
+    let name = name_in(text)?;
+    Ok(Some(name))
+}
+
+pub fn is_mandatory_in(text: &[u8]) -> Result<bool, BookKind>
+    ensures { result ≡ is_mandatory_in text.now }
+{
+    if text == b"mandatory".as_slice() {
+        Ok(true)
+    } else if text == b"optional".as_slice() {
+        Ok(false)
+    } else {
+        Err(BookKind::BadName)
+    }
+}
+
+/// A number of 1 to 5 digits from `low` to `high`.
+pub fn number_in(low: u32, high: u32, text: &[u8]) -> Result<u32, BookKind>
+    ensures { result ≡ number_in low high text.now }
+{
+    if !is_number(text) {
+        return Err(BookKind::BadNumber);
+    }
+    let value = value_of(text);
+    if value < low || value > high {
+        return Err(BookKind::BadNumber);
+    }
+    Ok(value)
+}
+
+pub fn day_in(text: &[u8]) -> Result<u32, BookKind>
+    ensures { result ≡ day_in text.now }
+{
+    number_in(1, LAST_DAY, text)
+}
+
+/// A day, or the other day for an empty field.
+pub fn day_or(other: u32, text: &[u8]) -> Result<u32, BookKind>
+    ensures { result ≡ day_or other text.now }
+{
+    if text.is_empty() {
+        return Ok(other);
+    }
+    day_in(text)
+}
+
+/// The term of a book.
+pub fn term_in(first: &[u8], last: &[u8]) -> Result<Days, BookKind>
+    ensures { result ≡ term_in first.now last.now }
+{
+    let from = day_in(first)?;
+    let until = day_in(last)?;
+    if until < from {
+        return Err(BookKind::BadDays);
+    }
+    Ok(Days { from, until })
+}
+
+/// The days of a record in a book of this term: an empty field takes the term's day.
+pub fn days_in(term: Days, first: &[u8], last: &[u8]) -> Result<Days, BookKind>
+    ensures { result ≡ days_in term first.now last.now }
+{
+    let from = day_or(term.from, first)?;
+    let until = day_or(term.until, last)?;
+    if !first.is_empty() && !last.is_empty() && until < from {
+        return Err(BookKind::BadDays);
+    }
+    Ok(Days { from, until })
+}
+
+// Whether the text has 1 to 5 digits and nothing else.
+fn is_number(text: &[u8]) -> bool
+    ensures { result ≡ is_number text.now }
+{
+    if text.is_empty() || text.len() > 5 {
+        return false;
+    }
+    are_digits(text)
+}
+
+fn are_digits(text: &[u8]) -> bool
+    ensures { result ≡ list_all is_digit text.now }
+{
+    text.iter().all(|b| b.is_ascii_digit())
+}
+
+// The value of 1 to 5 digits.
+fn value_of(text: &[u8]) -> u32
+    requires short { length text.now ≤ 5 }
+    requires digits { list_all is_digit text.now ≡ true }
+    ensures { result ≡ value_of text.now }
+{
+    let mut value = 0;
+    for b in text {
+        value = 10 * value + u32::from(*b - b'0');
+    }
+    value
+}
