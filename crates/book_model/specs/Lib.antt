@@ -1,0 +1,6 @@
+pub mod Activity
+pub mod Contents
+pub mod Good
+pub mod Parts
+pub mod Sound
+pub mod Book

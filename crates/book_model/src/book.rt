@@ -1,0 +1,1 @@
+//! A book that meets its condition.
