@@ -4,3 +4,5 @@ pub mod Good
 pub mod Parts
 pub mod Sound
 pub mod Book
+pub mod Groups
+pub mod BookParts
