@@ -4,3 +4,5 @@ pub mod Sets
 pub mod Answers
 pub mod Node
 pub mod NodeDepth
+pub mod Padding
+pub mod Table

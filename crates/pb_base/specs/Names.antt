@@ -3,8 +3,8 @@
 --     is_code_name bs    a name other than TRUE and FALSE
 --     is_part bs         1 to 16 bytes of A to Z and 0 to 9
 --     place_in ns b      the place of the name b among ns, counted from 0
-use Rattle.std.specs.Prelude.{◌≡◌, ℕ, Bool, not, ◌&&◌, ◌||◌, List, [], ◌∷◌, Option, nat_le, nat_eq, length, position, IsTrue, codes}
-use Rattle.std.specs.List.{list_all, list_any}
+use Rattle.std.specs.Prelude.{ℕ, Bool, not, ◌&&◌, ◌||◌, List, [], ◌∷◌, Option, nat_le, nat_eq, length, position}
+use Rattle.std.specs.List.{list_all}
 use Rattle.std.specs.Cmp.Lexicographic.{pointwise}
 
 -- whether two names are the same

@@ -77,7 +77,9 @@ impl Formula {
         ensures { IfOk result (λ f. f ≡ negation of) }
     {
         let of = Box::new(alloc, of)?;
-        Ok(Formula { node: Node::Not(of) })
+        Ok(Formula {
+            node: Node::Not(of),
+        })
     }
 
     /// The formula that is true where both are, written `+` in a rule.

@@ -2,9 +2,20 @@
 #![tactic(auto)]
 
 mod answer;
+mod body;
+mod code_list;
 mod code_set;
+mod code_table;
+mod day;
 mod formula;
+mod names;
+mod padded;
 
 pub use answer::{Fail, Memory};
+pub use body::Body;
+pub use code_list::CodeList;
 pub use code_set::CodeSet;
+pub use code_table::CodeTable;
+pub use day::Day;
 pub use formula::{Formula, Node};
+pub use names::{CodeName, Id, Part};

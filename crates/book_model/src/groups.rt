@@ -1,0 +1,65 @@
+//! The variants of each position, so that a parts list is made without a search.
+ghost use Rattle.std.specs.Prelude.{◌≡◌, ◌<◌, ◌≤◌, ◌^◌, ◌++◌, [], ◌∷◌, All, IfOk, OnOk, length, map, slice_index_or, slice_set};
+ghost use Rattle.book_model.specs.Groups.{AreGroups};
+
+use crate::record::Variant;
+use pb_base::Memory;
+use std::alloc::Global;
+use std::marker::Model;
+
+/// For each position the places of its variants, in record order. A contract sees a list of lists of places.
+#[derive(Drop)]
+pub struct VariantGroups {
+    groups: Vec<Vec<u32>>,
+}
+
+impl Model for VariantGroups {
+    ghost use Rattle.std.specs.Prelude.{List, ℕ, map};
+
+    ghost Value = { List (List ℕ) };
+
+    ghost view = { λ g. map (λ group. group.items) g.groups.items };
+}
+
+impl VariantGroups {
+    /// The groups of these variants, each of which names one of so many positions by its place.
+    pub fn of(alloc: Global, positions: usize, variants: &[Variant]) -> Result<VariantGroups, Memory>
+        requires in_range { All (λ v. v.position < positions) variants.now }
+        requires places { length variants.now < 2 ^ 32 }
+        ensures { IfOk result (AreGroups positions variants.now) }
+    {
+        let mut groups = empty_groups(alloc, positions)?;
+        for (place, variant) in variants.iter().enumerate() {
+            add_place(&mut groups, variant.position as usize, place as u32)?;
+        }
+        Ok(VariantGroups { groups })
+    }
+
+    /// The places of the variants of the position at this place, in record order.
+    pub fn of_position(&self, place: u32) -> &[u32]
+        requires { place < length self.now }
+        ensures { result.now ≡ slice_index_or self.now place [] }
+    {
+        &self.groups[place as usize]
+    }
+}
+
+fn empty_groups(alloc: Global, positions: usize) -> Result<Vec<Vec<u32>>, Memory>
+    ensures count { IfOk result (λ groups. length groups.items ≡ positions) }
+    ensures empty { IfOk result (λ groups. All (λ group. group.items ≡ []) groups.items) }
+{
+    let mut groups = Vec::with_capacity(alloc, positions)?;
+    for _ in 0..positions {
+        groups.push(Vec::new(alloc))?;
+    }
+    Ok(groups)
+}
+
+// Puts the place of a variant behind those that its position has.
+fn add_place(groups: &mut [Vec<u32>], position: usize, place: u32) -> Result<(), Memory>
+    requires { position < length groups.old }
+    ensures { OnOk result (map (λ g. g.items) groups.new ≡ slice_set (map (λ g. g.items) groups.old) position (slice_index_or (map (λ g. g.items) groups.old) position [] ++ place ∷ [])) }
+{
+    groups[position].push(place)?;
+    Ok(())
+}

@@ -1,0 +1,11 @@
+//! A book of rules: its records, what it has to meet, and what it says of a day and a set of codes.
+#![tactic(auto)]
+
+mod activity;
+mod book;
+mod good;
+mod groups;
+mod record;
+
+pub use activity::active;
+pub use record::{Construct, Module, Position, Slice, Supplement, Variant};

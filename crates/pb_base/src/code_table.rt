@@ -1,0 +1,87 @@
+//! The codes of a book, by name and by place.
+ghost use Rattle.std.specs.Prelude.{◌≡◌, ◌+◌, ◌<◌, ◌^◌, ◌==◌, [], length, Some, slice_get, true};
+ghost use Rattle.std.specs.List.{IsDistinct, list_all};
+ghost use Rattle.pb_base.specs.Names.{is_code_name, place_in, same_name};
+ghost use Rattle.pb_base.specs.Table.{AddsName};
+
+use crate::answer::Fail;
+use crate::names::CodeName;
+use indexmap::IndexSet;
+use std::alloc::Global;
+use std::marker::Model;
+
+/// The codes of a book in record order, each under its place, counted from 0. A contract sees the list of their names.
+#[derive(Drop)]
+pub struct CodeTable {
+    names: IndexSet<CodeName>,
+}
+
+impl Model for CodeTable {
+    ghost use Rattle.std.specs.Prelude.{◌≡◌, List, ℕ, length, ◌<◌, ◌^◌, true};
+    ghost use Rattle.std.specs.List.{list_all};
+    ghost use Rattle.pb_base.specs.Names.{is_code_name};
+
+    ghost Value = { List (List ℕ) };
+
+    ghost view = { λ t. t.names.keys };
+
+    ghost invariant = { λ t. (length t.names.keys < 2 ^ 32) × (list_all is_code_name t.names.keys ≡ true) };
+}
+
+impl CodeTable {
+    /// The table without codes.
+    pub fn new(alloc: Global) -> CodeTable
+        ensures { result ≡ [] }
+    {
+        CodeTable {
+            names: IndexSet::new(alloc),
+        }
+    }
+
+    /// Adds a name behind the others and gives its place. It is refused with the place that it has where it is there already; the table is then as before.
+    pub fn add(&mut self, name: CodeName) -> Result<u32, Fail<u32>>
+        requires { length self.old + 1 < 2 ^ 32 }
+        ensures { AddsName self.old name self.new result }
+    {
+        if let Some(place) = self.names.get_index_of(&name) {
+            return Err(Fail::Refused(place as u32));
+        }
+        let _form = name.bytes();
+        let (place, _) = self.names.insert_full(name)?;
+        Ok(place as u32)
+    }
+
+    /// The place of a name, or None where the table doesn't have it.
+    pub fn place_of(&self, name: &CodeName) -> Option<u32>
+        ensures { result ≡ place_in self.now name.now }
+    {
+        match self.names.get_index_of(name) {
+            Some(place) => Some(place as u32),
+            None => None,
+        }
+    }
+
+    /// The name at a place.
+    pub fn name_of(&self, place: u32) -> &CodeName
+        requires { place < length self.now }
+        ensures { slice_get self.now place ≡ Some result.now }
+    {
+        &self.names[place as usize]
+    }
+
+    /// The number of codes. No two of them have one name.
+    pub fn len(&self) -> u32
+        ensures value { result ≡ length self.now }
+        ensures distinct { IsDistinct same_name self.now }
+        ensures form { list_all is_code_name self.now ≡ true }
+    {
+        self.names.len() as u32
+    }
+
+    /// Whether there are no codes.
+    pub fn is_empty(&self) -> bool
+        ensures { result ≡ (length self.now == 0) }
+    {
+        self.names.is_empty()
+    }
+}

@@ -1,0 +1,229 @@
+//! The names of a book's things, and the names of parts.
+ghost use Rattle.std.specs.Prelude.{◌≡◌, IfSome, IfNone, true, false, nat_eq, refl, [], ◌∷◌};
+ghost use Rattle.std.specs.Cmp.Lexicographic.{pointwise, on_texts_equal, nat_list_eq_equiv};
+ghost use Rattle.std.specs.Cmp.{partial_equiv_from_equiv};
+ghost use Rattle.std.specs.Cmp.Rules.{hashing};
+ghost use Rattle.std.proofs.Common.{rules};
+ghost use Rattle.pb_base.specs.Names.{is_name, is_part, is_code_name, is_word, is_name_byte};
+ghost use Rattle.std.specs.List.{list_all};
+
+use crate::padded::Padded;
+use std::hash::{Hash, Hasher};
+use std::marker::Model;
+
+/// The name of a book, a rule, a module, a position, a variant, a draft or a caller: 1 to 8 bytes of A to Z and 0 to 9.
+#[derive(Clone, Copy)]
+pub struct Id(Padded<8>);
+
+impl Model for Id {
+    ghost use Rattle.std.specs.Prelude.{◌≡◌, List, ℕ, true};
+    ghost use Rattle.pb_base.specs.Names.{is_name};
+
+    ghost Value = { List ℕ };
+
+    ghost view = { λ a. a.0 };
+
+    ghost invariant = { λ a. is_name a.0 ≡ true };
+
+    ghost inverse = { λ bytes. record { 0 = bytes } };
+}
+
+impl Id {
+    /// The name of these bytes, or None where they are no name.
+    pub fn of(bytes: &[u8]) -> Option<Id>
+        ensures name { IfSome result (λ id. (id ≡ bytes.now) × (is_name bytes.now ≡ true)) }
+        ensures none { IfNone result (is_name bytes.now ≡ false) }
+    {
+        if is_word(bytes, 8) {
+            Some(Id(Padded::of(bytes)))
+        } else {
+            None
+        }
+    }
+
+    /// The bytes of the name.
+    pub fn bytes(&self) -> &[u8]
+        ensures value { result.now ≡ self.now }
+        ensures form { is_name self.now ≡ true }
+    {
+        self.0.bytes()
+    }
+}
+
+impl PartialEq for Id {
+    ghost eq = { pointwise nat_eq };
+
+    ghost laws = { partial_equiv_from_equiv nat_list_eq_equiv };
+
+    #[inline]
+    fn eq(&self, other: &Id) -> bool {
+        self.bytes() == other.bytes()
+    }
+}
+
+impl Eq for Id {
+    ghost laws = { nat_list_eq_equiv };
+}
+
+impl Hash for Id {
+    ghost hash_input = { λ name. name ∷ [] };
+
+    ghost respects_eq = { Prim.search (hashing, rules) };
+
+    #[inline]
+    fn hash<H: Hasher>(&self, state: &mut H) {
+        state.write(self.bytes());
+    }
+}
+
+/// The name of a code: an `Id` other than TRUE and FALSE, which are the constants of a rule.
+#[derive(Clone, Copy)]
+pub struct CodeName(Padded<8>);
+
+impl Model for CodeName {
+    ghost use Rattle.std.specs.Prelude.{◌≡◌, List, ℕ, true};
+    ghost use Rattle.pb_base.specs.Names.{is_code_name};
+
+    ghost Value = { List ℕ };
+
+    ghost view = { λ a. a.0 };
+
+    ghost invariant = { λ a. is_code_name a.0 ≡ true };
+
+    ghost inverse = { λ bytes. record { 0 = bytes } };
+}
+
+impl CodeName {
+    /// The name of these bytes, or None where they are no name.
+    pub fn of(bytes: &[u8]) -> Option<CodeName>
+        ensures name { IfSome result (λ name. (name ≡ bytes.now) × (is_code_name bytes.now ≡ true)) }
+        ensures none { IfNone result (is_code_name bytes.now ≡ false) }
+    {
+        if is_word(bytes, 8) && bytes != b"TRUE".as_slice() && bytes != b"FALSE".as_slice() {
+            Some(CodeName(Padded::of(bytes)))
+        } else {
+            None
+        }
+    }
+
+    /// The bytes of the name.
+    pub fn bytes(&self) -> &[u8]
+        ensures value { result.now ≡ self.now }
+        ensures form { is_code_name self.now ≡ true }
+    {
+        self.0.bytes()
+    }
+}
+
+impl PartialEq for CodeName {
+    ghost eq = { pointwise nat_eq };
+
+    ghost laws = { partial_equiv_from_equiv nat_list_eq_equiv };
+
+    #[inline]
+    fn eq(&self, other: &CodeName) -> bool {
+        self.bytes() == other.bytes()
+    }
+}
+
+impl Eq for CodeName {
+    ghost laws = { nat_list_eq_equiv };
+}
+
+impl Hash for CodeName {
+    ghost hash_input = { λ name. name ∷ [] };
+
+    ghost respects_eq = { Prim.search (hashing, rules) };
+
+    #[inline]
+    fn hash<H: Hasher>(&self, state: &mut H) {
+        state.write(self.bytes());
+    }
+}
+
+/// The number of a part: 1 to 16 bytes of A to Z and 0 to 9.
+#[derive(Clone, Copy)]
+pub struct Part(Padded<16>);
+
+impl Model for Part {
+    ghost use Rattle.std.specs.Prelude.{◌≡◌, List, ℕ, true};
+    ghost use Rattle.pb_base.specs.Names.{is_part};
+
+    ghost Value = { List ℕ };
+
+    ghost view = { λ a. a.0 };
+
+    ghost invariant = { λ a. is_part a.0 ≡ true };
+
+    ghost inverse = { λ bytes. record { 0 = bytes } };
+}
+
+impl Part {
+    /// The part number of these bytes, or None where they are none.
+    pub fn of(bytes: &[u8]) -> Option<Part>
+        ensures part { IfSome result (λ part. (part ≡ bytes.now) × (is_part bytes.now ≡ true)) }
+        ensures none { IfNone result (is_part bytes.now ≡ false) }
+    {
+        if is_word(bytes, 16) {
+            Some(Part(Padded::of(bytes)))
+        } else {
+            None
+        }
+    }
+
+    /// The bytes of the part number.
+    pub fn bytes(&self) -> &[u8]
+        ensures value { result.now ≡ self.now }
+        ensures form { is_part self.now ≡ true }
+    {
+        self.0.bytes()
+    }
+}
+
+impl PartialEq for Part {
+    ghost eq = { pointwise nat_eq };
+
+    ghost laws = { partial_equiv_from_equiv nat_list_eq_equiv };
+
+    #[inline]
+    fn eq(&self, other: &Part) -> bool {
+        self.bytes() == other.bytes()
+    }
+}
+
+impl Eq for Part {
+    ghost laws = { nat_list_eq_equiv };
+}
+
+impl Hash for Part {
+    ghost hash_input = { λ name. name ∷ [] };
+
+    ghost respects_eq = { Prim.search (hashing, rules) };
+
+    #[inline]
+    fn hash<H: Hasher>(&self, state: &mut H) {
+        state.write(self.bytes());
+    }
+}
+
+// Whether the bytes are 1 to `longest` bytes of A to Z and 0 to 9.
+fn is_word(bytes: &[u8], longest: usize) -> bool
+    ensures { result ≡ is_word longest bytes.now }
+{
+    if bytes.is_empty() || bytes.len() > longest {
+        return false;
+    }
+    are_name_bytes(bytes)
+}
+
+fn are_name_bytes(bytes: &[u8]) -> bool
+    ensures { result ≡ list_all is_name_byte bytes.now }
+{
+    bytes.iter().all(|b| is_name_byte(*b))
+}
+
+fn is_name_byte(b: u8) -> bool
+    ensures { result ≡ is_name_byte b }
+{
+    b.is_ascii_uppercase() || b.is_ascii_digit()
+}
