@@ -4,9 +4,12 @@
 mod entry;
 mod fault;
 mod fields;
+mod id_table;
 mod kind;
+mod names;
 mod rows;
 
 pub use entry::{Entry, Heading, entry_of, heading_of};
 pub use fault::{BookFault, BookKind, Which};
+pub use names::Names;
 pub use rows::read_rows;
