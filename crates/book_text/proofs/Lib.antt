@@ -1,2 +1,3 @@
 pub mod RowsLemmas
 pub mod FieldLemmas
+pub mod PassLemmas

@@ -32,8 +32,12 @@ abbrev pub at_row : {A : Type 0} → ℕ → Result A BookKind → Result A Book
 at_row row (Ok value) = Ok value
 at_row row (Err kind) = Err (record { row = row; kind = kind })
 
--- a call that changes a value answers its definition: the new value is the definition's, or the fault is. Want of memory is free.
+-- a call gives what its definition answers: the value, seen as `view` says, or the fault. Want of memory is free.
+abbrev pub Gives : {U A E : Type 0} → Result U (Fail E) → (U → A) → Result A E → Type 0
+Gives (Ok value) view answer = answer ≡ Ok (view value)
+Gives (Err (Refused fault)) view answer = answer ≡ Err fault
+Gives (Err Memory) view answer = Unit {0}
+
+-- a call that changes a value makes of it what its definition answers, or gives the fault
 abbrev pub Becomes : {U A E : Type 0} → Result U (Fail E) → A → Result A E → Type 0
-Becomes (Ok _) new answer = answer ≡ Ok new
-Becomes (Err (Refused fault)) new answer = answer ≡ Err fault
-Becomes (Err Memory) new answer = Unit {0}
+Becomes result new answer = Gives result (λ _. new) answer

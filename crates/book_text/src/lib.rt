@@ -4,6 +4,7 @@
 mod entry;
 mod fault;
 mod fields;
+mod survey;
 mod id_table;
 mod kind;
 mod names;
@@ -11,5 +12,6 @@ mod rows;
 
 pub use entry::{Entry, Heading, entry_of, heading_of};
 pub use fault::{BookFault, BookKind, Which};
+pub use survey::{Survey, first_pass};
 pub use names::Names;
 pub use rows::read_rows;
