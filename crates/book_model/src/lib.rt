@@ -9,5 +9,6 @@ mod record;
 
 pub use activity::active;
 pub use book::{Book, BookParts};
+pub use good::{breaks, fires, is_good};
 pub use groups::VariantGroups;
 pub use record::{Construct, Module, Position, Slice, Supplement, Variant};
