@@ -1,5 +1,6 @@
 pub mod Activity
 pub mod Contents
+pub mod ContentsCode
 pub mod Good
 pub mod Parts
 pub mod Sound

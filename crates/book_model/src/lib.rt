@@ -8,4 +8,7 @@ mod groups;
 mod record;
 
 pub use activity::active;
+pub use book::{Book, BookParts};
+pub use good::{breaks, fires, is_good};
+pub use groups::VariantGroups;
 pub use record::{Construct, Module, Position, Slice, Supplement, Variant};

@@ -19,3 +19,6 @@ pub use code_table::CodeTable;
 pub use day::Day;
 pub use formula::{Formula, Node};
 pub use names::{CodeName, Id, Part};
+
+#[cfg(test)]
+mod tests;
