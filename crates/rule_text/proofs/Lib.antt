@@ -1,1 +1,5 @@
 mod Worked
+pub mod Stack
+pub mod TokenLemmas
+pub mod Steps
+pub mod Whole
