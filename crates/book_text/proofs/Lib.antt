@@ -1,3 +1,4 @@
 pub mod RowsLemmas
 pub mod FieldLemmas
 pub mod PassLemmas
+mod Worked

@@ -1,6 +1,7 @@
 //! Reads the text of a book.
 #![tactic(auto)]
 
+mod draft;
 mod entry;
 mod fault;
 mod fields;
@@ -10,6 +11,7 @@ mod kind;
 mod names;
 mod rows;
 
+pub use draft::{Draft, resolve};
 pub use entry::{Entry, Heading, entry_of, heading_of};
 pub use fault::{BookFault, BookKind, Which};
 pub use survey::{Survey, first_pass};

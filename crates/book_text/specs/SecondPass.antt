@@ -1,0 +1,100 @@
+-- The second pass: names become places, and rules are read. A name may stand before its record.
+use Rattle.std.specs.Prelude.{ℕ, Bool, List, [], ◌∷◌, ◌++◌, length, Option, Some, None, Result, Ok, Err, nat_le, if◌then◌else◌}
+use Rattle.pb_base.specs.Names.{place_in}
+use Rattle.pb_base.specs.Rule.{Rule}
+use Rattle.rule_text.specs.Reading.{rule_of}
+use Rattle.rule_text.specs.declared.fault.RuleFault.{RuleFault}
+use Rattle.book_model.specs.Parts.{variants_of}
+use Rattle.book_model.specs.declared.record.Supplement.{Supplement}
+use Rattle.book_model.specs.declared.record.Construct.{Construct}
+use Rattle.book_model.specs.declared.record.Position.{Position}
+use Rattle.book_model.specs.declared.record.Variant.{Variant}
+use Rattle.book_text.specs.Rows.{Row}
+use Rattle.book_text.specs.Fault.{and_then}
+use Rattle.book_text.specs.Fields.{field}
+use Rattle.book_text.specs.Entry.{entry_of}
+use Rattle.book_text.specs.Pass.{pass}
+use Rattle.book_text.specs.Records.{Records, no_records}
+use Rattle.book_text.specs.declared.fields.Days.{Days}
+use Rattle.book_text.specs.declared.names.Names.{Names}
+use Rattle.book_text.specs.declared.entry.Entry.{Entry}
+use Rattle.book_text.specs.declared.entry.Entry.TheVariants as e
+use Rattle.book_text.specs.declared.fault.BookFault.{BookFault}
+use Rattle.book_text.specs.declared.fault.BookKind.{BookKind}
+use Rattle.book_text.specs.declared.fault.BookKind.TheVariants.{UnknownName, BadRule, Limit}
+use Rattle.book_text.specs.declared.fault.Which.TheVariants.{Choices}
+
+abbrev pub known : Option ℕ → Result ℕ BookKind
+known (Some place) = Ok place
+known None = Err UnknownName
+
+-- the place of the record with this name
+abbrev pub place_of : List (List ℕ) → List ℕ → Result ℕ BookKind
+place_of names name = known (place_in names name)
+
+-- the same of a name that may be left out
+abbrev pub place_if_named : List (List ℕ) → Option (List ℕ) → Result (Option ℕ) BookKind
+place_if_named names None = Ok None
+place_if_named names (Some name) = and_then (place_of names name) (λ place. Ok (Some place))
+
+abbrev pub as_rule : Result Rule RuleFault → Result Rule BookKind
+as_rule (Ok rule) = Ok rule
+as_rule (Err fault) = Err (BadRule fault)
+
+-- the rule that a text spells over the codes of the book
+abbrev pub rule_in : List (List ℕ) → List ℕ → Result Rule BookKind
+rule_in codes text = as_rule (rule_of codes text)
+
+-- a supplementing rule: its code is one of the book's
+abbrev pub supplement_of : List (List ℕ) → List ℕ → ℕ → List ℕ → Days → List ℕ → Result Supplement BookKind
+supplement_of codes id rank code days text =
+    and_then (place_of codes code) (λ place.
+    and_then (rule_in codes text) (λ rule.
+    Ok (record { id = id; rank = rank; code = place; rule = rule; from = days.from; until = days.until })))
+
+-- a constructibility rule: its code, where it has one, is one of the book's
+abbrev pub construct_of : List (List ℕ) → List ℕ → Option (List ℕ) → Days → List ℕ → Result Construct BookKind
+construct_of codes id on days text =
+    and_then (place_if_named codes on) (λ place.
+    and_then (rule_in codes text) (λ rule.
+    Ok (record { id = id; on = place; rule = rule; from = days.from; until = days.until })))
+
+-- a position: its module, where it stands in one, is one of the book's
+abbrev pub position_of : List (List ℕ) → List ℕ → Option (List ℕ) → Bool → Days → Result Position BookKind
+position_of modules id group mandatory days =
+    and_then (place_if_named modules group) (λ place.
+    Ok (record { id = id; «module» = place; mandatory = mandatory; from = days.from; until = days.until }))
+
+-- a variant: its position is one of the book's
+abbrev pub variant_of : Names → List ℕ → List ℕ → List ℕ → ℕ → Days → List ℕ → Result Variant BookKind
+variant_of names id position part quantity days text =
+    and_then (place_of names.positions position) (λ place.
+    and_then (rule_in names.codes text) (λ rule.
+    Ok (record { id = id; position = place; part = part; quantity = quantity; rule = rule; from = days.from; until = days.until })))
+
+-- the variants with one more, of which its position has at most 200
+abbrev pub with_variant : List Variant → Variant → Result (List Variant) BookKind
+with_variant variants v =
+    if nat_le 200 (length (variants_of v.position variants)) then Err (Limit Choices) else Ok (variants ++ v ∷ [])
+
+-- the records with that of a row; the codes stand among the names already
+abbrev pub resolved : Names → Records → Entry → Row → Result Records BookKind
+resolved names r (e.Code name) row = Ok r
+resolved names r (e.Supplement id rank code days) row =
+    and_then (supplement_of names.codes id rank code days (field row 4)) (λ s. Ok (record r { supplements = r.supplements ++ s ∷ [] }))
+resolved names r (e.Construct id on days) row =
+    and_then (construct_of names.codes id on days (field row 3)) (λ c. Ok (record r { constructs = r.constructs ++ c ∷ [] }))
+resolved names r (e.Module id) row =
+    Ok (record r { modules = r.modules ++ record { id = id } ∷ [] })
+resolved names r (e.Position id group mandatory days) row =
+    and_then (position_of names.modules id group mandatory days) (λ p. Ok (record r { positions = r.positions ++ p ∷ [] }))
+resolved names r (e.Variant id position part quantity days) row =
+    and_then (variant_of names id position part quantity days (field row 5)) (λ v.
+    and_then (with_variant r.variants v) (λ variants. Ok (record r { variants = variants })))
+
+abbrev pub resolved_row : Days → Names → Records → Row → Result Records BookKind
+resolved_row term names r row = and_then (entry_of term row) (λ entry. resolved names r entry row)
+
+-- the records of the rows behind the heading, which is row 1
+abbrev pub second_pass : Days → Names → List Row → Result Records BookFault
+second_pass term names rows = pass (resolved_row term names) 2 no_records rows
