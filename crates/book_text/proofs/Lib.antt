@@ -1,4 +1,5 @@
 pub mod RowsLemmas
 pub mod FieldLemmas
 pub mod PassLemmas
+pub mod ChoiceLemmas
 mod Worked

@@ -239,18 +239,18 @@ fn variant_of(
 fn add_variant(
     variants: &mut Vec<Variant>,
     choices: &mut [u32],
-    record: Variant,
+    variant: Variant,
 ) -> Result<(), Fail<BookKind>>
-    requires within { record.position < length choices.old }
+    requires within { variant.position < length choices.old }
     requires counted { AreCounted choices.old variants.old.items }
-    ensures value { Gives result (λ _. variants.new.items) (with_variant variants.old.items record) }
+    ensures value { Gives result (λ _. variants.new.items) (with_variant variants.old.items variant) }
     ensures counted { OnOk result (AreCounted choices.new variants.new.items) }
 {
-    let place = record.position as usize;
+    let place = variant.position as usize;
     if choices[place] >= 200 {
         return Err(Fail::Refused(BookKind::Limit(Which::Choices)));
     }
-    variants.push(record)?;
+    variants.push(variant)?;
     choices[place] += 1;
     Ok(())
 }
