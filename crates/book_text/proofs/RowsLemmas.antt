@@ -1,9 +1,11 @@
 -- The rows that a reader gives in turn are the rows of the text.
-use Rattle.std.proofs.Common.{◌≡◌, ◌≤◌, ◌<◌, ◌+◌, ℕ, drop, length-drop, zero, suc, List, [], ◌∷◌, ◌++◌, length, Option, Some, None, true, false, refl, sym, ap, arith, ◌∙◌, Bool, subst, if◌then◌else◌}
+use Rattle.std.proofs.Common.{◌≡◌, ◌≤◌, ◌<◌, ◌+◌, ℕ, drop, get_or, length-drop, length-append, zero, suc, List, [], ◌∷◌, ◌++◌, length, Option, Some, None, true, false, refl, sym, ap, arith, ◌∙◌, Bool, subst, if◌then◌else◌}
 use Rattle.csv.specs.Machine.{Read, ends_at_end, field_after, fields_after, is_end, next_record, step}
-use Rattle.csv.specs.Reading.{AreRecords, Reached, default_config, records, records_from, records_next}
+use Rattle.csv.specs.Reading.{AreRecords, Reached, default_config, records, records_from, records_next, is_bom, strip_bom}
 use Rattle.csv.specs.declared.parser.State.{State}
 use Rattle.csv.specs.declared.parser.State.TheVariants as st
+use Rattle.csv.specs.declared.parser.Action.{Action}
+use Rattle.csv.specs.declared.parser.Action.TheVariants as act
 
 -- a byte that ends a record leaves a state between two records
 pub ends_at_end-step : (s : State) (c : ℕ) → is_end (step default_config s c).1 ≡ true → ends_at_end (step default_config s c).0 ≡ false
@@ -20,21 +22,22 @@ ends_at_end-step st.AfterCr c h = grind arith
 abbrev pub EndsWithin : ℕ → Read → Type 0
 EndsWithin n p = (ends_at_end p.1 ≡ false) × (length p.2 ≤ n)
 
-ends-at : (b : Bool) (n : ℕ) (r : Read) (more : Option Read) (p : Read)
-    → (b ≡ true → EndsWithin n r) → ((q : Read) → more ≡ Some q → EndsWithin n q)
-    → (if b then Some r else more) ≡ Some p → EndsWithin n p
-ends-at true n r more p here later e = let same : r ≡ p = cc in subst (EndsWithin n) same (here refl)
-ends-at false n r more p here later e = later p e
+-- what holds of both ends of a test holds of what it gives
+ends-at : (P : Read → Type 0) (b : Bool) (r : Read) (more : Option Read) (p : Read)
+    → (b ≡ true → P r) → ((q : Read) → more ≡ Some q → P q)
+    → (if b then Some r else more) ≡ Some p → P p
+ends-at P true r more p here later e = let same : r ≡ p = cc in subst P same (here refl)
+ends-at P false r more p here later e = later p e
 
 -- a record that is read ends between two records, and takes a byte or more where there are any
 pub next_record-after : (s : State) (fields : List (List ℕ)) (field xs : List ℕ) (p : Read)
     → next_record default_config s fields field xs ≡ Some p → EndsWithin (length (drop 1 xs)) p
 unfolding next_record
 next_record-after s fields field [] p e =
-    ends-at (ends_at_end s) 0 (fields ++ (field ∷ []), st.StartRecord, []) None p (λ _. (refl, omega arith)) (λ q h. cc) e
+    ends-at (EndsWithin 0) (ends_at_end s) (fields ++ (field ∷ []), st.StartRecord, []) None p (λ _. (refl, omega arith)) (λ q h. cc) e
 next_record-after s fields field (c ∷ rest) p e =
     let next = step default_config s c in
-    ends-at (is_end next.1) (length rest) (fields_after next.1 fields field, next.0, rest)
+    ends-at (EndsWithin (length rest)) (is_end next.1) (fields_after next.1 fields field, next.0, rest)
     (next_record default_config next.0 (fields_after next.1 fields field) (field_after next.1 c field) rest) p
     (λ h. (ends_at_end-step s c h, omega arith))
     (λ q h. let deeper : EndsWithin (length (drop 1 rest)) q = next_record-after next.0 (fields_after next.1 fields field) (field_after next.1 c field) rest q h in (deeper.0, omega (arith, deeper.1, length-drop 1 rest)))
@@ -62,3 +65,72 @@ pub records-reached : (s2 : State) (xs ys : List ℕ) (rows : List (List (List �
     → Reached default_config st.StartRecord xs rows s2 ys → next_record default_config s2 [] [] ys ≡ None
     → rows ≡ records default_config xs
 records-reached s2 xs ys rows r e = sym (records_from-reached (length xs + 1) st.StartRecord s2 xs ys rows refl (omega arith) r e)
+
+-- no field is longer than n
+abbrev pub Short : ℕ → List (List ℕ) → Type 0
+Short n fields = (place : ℕ) → length (get_or fields place []) ≤ n
+
+short-push : (n : ℕ) (fields : List (List ℕ)) (field : List ℕ) → Short n fields → length field ≤ n → Short n (fields ++ field ∷ [])
+short-push n [] field h l zero = l
+short-push n [] field h l (suc place) = omega arith
+short-push n (f ∷ fields) field h l zero = h 0
+short-push n (f ∷ fields) field h l (suc place) = short-push n fields field (λ k. h (suc k)) l place
+
+short-after : (a : Action) (n : ℕ) (fields : List (List ℕ)) (field : List ℕ) → Short n fields → length field ≤ n → Short n (fields_after a fields field)
+short-after act.EndField n fields field h l = short-push n fields field h l
+short-after act.EndRecord n fields field h l = short-push n fields field h l
+short-after act.Skip n fields field h l = h
+short-after act.Copy n fields field h l = h
+
+field_after-longer : (a : Action) (c : ℕ) (field : List ℕ) → length (field_after a c field) ≤ length field + 1
+field_after-longer act.Copy c field = omega (arith, length-append field (c ∷ []))
+field_after-longer act.EndField c field = omega arith
+field_after-longer act.Skip c field = omega arith
+field_after-longer act.EndRecord c field = omega arith
+
+-- a record's fields are no longer than what was there to read
+pub next_record-short : (n : ℕ) (s : State) (fields : List (List ℕ)) (field xs : List ℕ) (p : Read)
+    → Short n fields → length field + length xs ≤ n → next_record default_config s fields field xs ≡ Some p → Short n p.0
+unfolding next_record
+next_record-short n s fields field [] p h l e =
+    ends-at (λ q. Short n q.0) (ends_at_end s) (fields ++ (field ∷ []), st.StartRecord, []) None p (λ _. short-push n fields field h (omega arith)) (λ q none. cc) e
+next_record-short n s fields field (c ∷ rest) p h l e =
+    let next = step default_config s c in
+    let longer = field_after-longer next.1 c field in
+    let so_far : Short n (fields_after next.1 fields field) = short-after next.1 n fields field h (omega arith) in
+    ends-at (λ q. Short n q.0) (is_end next.1) (fields_after next.1 fields field, next.0, rest)
+    (next_record default_config next.0 (fields_after next.1 fields field) (field_after next.1 c field) rest) p
+    (λ _. so_far)
+    (λ q found. next_record-short n next.0 (fields_after next.1 fields field) (field_after next.1 c field) rest q so_far (omega arith) found)
+    e
+
+pub reached-short : (n : ℕ) (s s2 : State) (xs ys : List ℕ) (rows : List (List (List ℕ)))
+    → length xs ≤ n → Reached default_config s xs rows s2 ys → (k : ℕ) → Short n (get_or rows k [])
+unfolding Reached
+reached-short n s s2 xs ys [] l r k place = omega arith
+reached-short n s s2 xs ys (row ∷ rows) l (p, is, first, more) zero place =
+    rw first (next_record-short n s [] [] xs p (λ k. omega arith) (omega arith) is place)
+reached-short n s s2 xs ys (row ∷ rows) l (p, is, first, more) (suc k) place =
+    let after = next_record-after s [] [] xs p is in
+    reached-short n p.1 s2 p.2 ys rows (omega (arith, after.1, length-drop 1 xs)) more k place
+
+-- each row takes a byte or more
+pub reached-count : (s s2 : State) (xs ys : List ℕ) (rows : List (List (List ℕ)))
+    → ends_at_end s ≡ false → Reached default_config s xs rows s2 ys → length rows ≤ length xs
+unfolding Reached
+reached-count s s2 xs ys [] b r = omega arith
+reached-count s s2 xs ys (row ∷ rows) b (p, is, first, more) =
+    let takes = next_record-takes s xs p b is in
+    let others = reached-count p.1 s2 p.2 ys rows (next_record-after s [] [] xs p is).0 more in
+    omega arith
+
+if-shorter : (b : Bool) (n : ℕ) (xs ys : List ℕ) → length xs ≤ n → length ys ≤ n → length (if b then xs else ys) ≤ n
+if-shorter true n xs ys h g = h
+if-shorter false n xs ys h g = g
+
+pub strip_bom-shorter : (text : List ℕ) → length (strip_bom text) ≤ length text
+unfolding strip_bom
+strip_bom-shorter [] = omega arith
+strip_bom-shorter (a ∷ []) = omega arith
+strip_bom-shorter (a ∷ b ∷ []) = omega arith
+strip_bom-shorter (a ∷ b ∷ c ∷ rest) = if-shorter (is_bom a b c) (suc (suc (suc (length rest)))) rest (a ∷ b ∷ c ∷ rest) (omega arith) (omega arith)

@@ -1,7 +1,7 @@
 //! The rows of a book's text, as `csv` reads them.
-ghost use Rattle.std.specs.Prelude.{◌≡◌, IfOk, map};
+ghost use Rattle.std.specs.Prelude.{◌≡◌, ◌≤◌, IfOk, length, map};
 ghost use Rattle.csv.specs.Records.{fields_of};
-ghost use Rattle.book_text.specs.Rows.{rows_of};
+ghost use Rattle.book_text.specs.Rows.{rows_of, AreWithin};
 
 use csv::{ByteRecord, ReaderBuilder};
 use std::alloc::{AllocError, Global};
@@ -9,7 +9,9 @@ use std::alloc::{AllocError, Global};
 /// The rows of a text, in order: no header row, and rows of any length. The only error is want of
 /// memory.
 pub fn read_rows(alloc: Global, text: &[u8]) -> Result<Vec<ByteRecord>, AllocError>
-    ensures { IfOk result (λ rows. map fields_of rows.items ≡ rows_of text.now) }
+    ensures rows { IfOk result (λ rows. map fields_of rows.items ≡ rows_of text.now) }
+    ensures count { IfOk result (λ rows. length rows.items ≤ length text.now) }
+    ensures short { IfOk result (λ rows. AreWithin (length text.now) (map fields_of rows.items)) }
 {
     let reader = ReaderBuilder::new()
         .has_headers(false)

@@ -1,11 +1,11 @@
-use Rattle.std.proofs.Common.{Bor, List, ℕ, ◌≡◌, ◌∙◌, sym, refl, rules, inl, inr, true, map, Some, ◌∷◌, []}
+use Rattle.std.proofs.Common.{Bor, List, ℕ, ◌≡◌, ◌∙◌, sym, refl, rules, inl, inr, true, map, length, Some, ◌∷◌, [], arith}
 use Rattle.std.specs.Result.{is_ok}
-use Rattle.std.proofs.lemmas.List.{map-append}
+use Rattle.std.proofs.lemmas.List.{length-map, map-append}
 use Rattle.csv.specs.Reading.{Reached, default_config, strip_bom}
 use Rattle.csv.specs.Records.{fields_of}
 use Rattle.csv.specs.declared.parser.State.TheVariants as st
 use Rattle.csv.proofs.ReadFacts.{rows-end, rows-more}
-use Rattle.book_text.proofs.RowsLemmas.{records-reached}
+use Rattle.book_text.proofs.RowsLemmas.{records-reached, reached-count, reached-short, strip_bom-shorter}
 use Rattle.book_text.proofs.rows.read_rows.Goals as goal
 
 pub loop-row-init : goal.loop-row-init
@@ -36,9 +36,21 @@ loop-row-preserved c =
     let m = rows-more (λ (s : Bor (List ℕ)). Some s.now) c.loop-row.row-iterator.rdr c.next.new.self.rdr (fields_of c.in-Ok.row) default_config st.StartRecord (strip_bom c.args.text.now) inv.4 (map fields_of c.loop-row.rows.items) inv.3 inv.5 inv.6 s.0 in
     (s.0.3 ∙ inv.0, inl s.1, s.2, s.0.2 ∙ inv.3, m.0, m.1, rw (items, map-append fields_of c.loop-row.rows.items (c.in-Ok.row ∷ [])) m.2)
 
-pub returns : goal.returns
-returns c =
+pub returns-clause-rows : goal.returns-clause-rows
+returns-clause-rows c =
     let inv = c.loop-row.invariant in
     let s = rw c.in-None.is at ((c.next.ensures.steps inv.2 inv.0).0 inv.1) in
     records-reached c.loop-row.row-iterator.rdr.state (strip_bom c.args.text.now) inv.4 (map fields_of c.loop-row.rows.items) inv.6
     (rows-end (λ (s : Bor (List ℕ)). Some s.now) c.loop-row.row-iterator.rdr c.next.new.self.rdr [] default_config inv.4 inv.3 inv.5 s)
+
+pub returns-clause-count : goal.returns-clause-count
+returns-clause-count c =
+    let inv = c.loop-row.invariant in
+    let shorter = strip_bom-shorter c.args.text.now in
+    let rows = reached-count st.StartRecord c.loop-row.row-iterator.rdr.state (strip_bom c.args.text.now) inv.4 (map fields_of c.loop-row.rows.items) refl inv.6 in
+    omega (arith, length-map c.loop-row.rows.items fields_of)
+
+pub returns-clause-short : goal.returns-clause-short
+returns-clause-short c =
+    let inv = c.loop-row.invariant in
+    reached-short (length c.args.text.now) st.StartRecord c.loop-row.row-iterator.rdr.state (strip_bom c.args.text.now) inv.4 (map fields_of c.loop-row.rows.items) (strip_bom-shorter c.args.text.now) inv.6
