@@ -1,13 +1,17 @@
 //! The second pass over the rows: names become places, and rules are read.
-ghost use Rattle.std.specs.Prelude.{◌≡◌, ◌<◌, ◌^◌, ◌++◌, [], ◌∷◌, Ok, OnOk, length};
+ghost use Rattle.std.specs.Prelude.{◌≡◌, ◌+◌, ◌<◌, ◌^◌, Ok, OnOk, length, map};
 ghost use Rattle.pb_base.specs.Answers.{Answers};
 ghost use Rattle.csv.specs.Records.{fields_of};
 ghost use Rattle.book_text.specs.Draft.{records_of, AreCounted, IsCounted, HasShortFields};
-ghost use Rattle.book_text.specs.Fault.{Gives, and_then};
-ghost use Rattle.book_text.specs.SecondPass.{place_of, place_if_named, rule_in, supplement_of, construct_of, position_of, variant_of, with_variant, resolved};
+ghost use Rattle.book_text.specs.Fault.{Gives};
+ghost use Rattle.book_text.specs.SecondPass.{place_of, place_if_named, rule_in, supplement_of, construct_of, position_of, variant_of, with_variant, resolved, resolved_row};
+ghost use Rattle.book_text.specs.Entry.{entry_of};
+ghost use Rattle.book_text.specs.Pass.{pass};
+ghost use Rattle.book_text.specs.Rows.{AreWithin};
+ghost use Rattle.book_text.specs.declared.fields.Days.{Days};
 
 use crate::entry::Entry;
-use crate::fault::{BookKind, Which};
+use crate::fault::{BookFault, BookKind, Which};
 use crate::fields::{Days, field};
 use crate::id_table::IdTable;
 use crate::names::Names;
@@ -252,5 +256,34 @@ fn add_variant(
     }
     variants.push(variant)?;
     choices[place] += 1;
+    Ok(())
+}
+
+/// Adds the records of rows, the first of which is row 2. `entries` are what the rows say by themselves.
+pub fn resolve_rows(
+    alloc: Global,
+    draft: &mut Draft,
+    names: &Names,
+    entries: &[Entry],
+    rows: &[ByteRecord],
+) -> Result<(), Fail<BookFault>>
+    requires count { length entries.now ≡ length rows.now }
+    requires few { length rows.now + 2 < 2 ^ 32 }
+    requires short { AreWithin 1048576 (map fields_of rows.now) }
+    requires counted { IsCounted (length names.now.positions) draft.old }
+    ensures { (term : Days) → map Ok entries.now ≡ map (λ row. entry_of term (fields_of row)) rows.now
+        → Gives result (λ _. records_of draft.new) (pass (resolved_row term names.now) 2 (records_of draft.old) (map fields_of rows.now)) }
+{
+    for (k, entry) in entries.iter().enumerate() {
+        let row = &rows[k];
+        match resolve(alloc, draft, names, entry, row) {
+            Ok(()) => {}
+            Err(Fail::Refused(kind)) => {
+                let row = k as u32 + 2;
+                return Err(Fail::Refused(BookFault { row, kind }));
+            }
+            Err(Fail::Memory) => return Err(Fail::Memory),
+        }
+    }
     Ok(())
 }

@@ -11,7 +11,7 @@ mod kind;
 mod names;
 mod rows;
 
-pub use draft::{Draft, resolve};
+pub use draft::{Draft, resolve_rows};
 pub use entry::{Entry, Heading, entry_of, heading_of};
 pub use fault::{BookFault, BookKind, Which};
 pub use survey::{Survey, first_pass};
