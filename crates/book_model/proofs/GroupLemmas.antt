@@ -33,7 +33,7 @@ add-AreGroupsTo positions variants i groups v lt is in_range so_far = record {
       let next : drop i variants ≡ v ∷ drop (suc i) variants = subst (λ (n : ℕ). drop i variants ≡ v ∷ drop n variants) (add-one i) split in
       let in_groups : v.position < length groups = subst (λ (n : ℕ). v.position < n) (sym so_far.count) in_range in
       let added : get_or (set groups v.position (get_or groups v.position [] ++ i ∷ [])) p [] ++ variants_from (suc i) p (drop (suc i) variants) ≡ get_or groups p [] ++ variants_from i p (v ∷ drop (suc i) variants)
-            = place_added groups i p v (drop (suc i) variants) (nat_eq v.position p) refl in_groups in
+      = place_added groups i p v (drop (suc i) variants) (nat_eq v.position p) refl in_groups in
       let here : get_or groups p [] ++ variants_from i p (v ∷ drop (suc i) variants) ≡ variants_of p variants = subst (λ (rest : List Variant). get_or groups p [] ++ variants_from i p rest ≡ variants_of p variants) next (so_far.each p within) in
       rw (add-one i) (added ∙ here);
 }
@@ -60,11 +60,11 @@ start-AreGroupsTo positions variants groups count empty = record {
 
 pub push-group : (groups : List (Vec ℕ Global)) (i place : ℕ) (old new : Vec ℕ Global) → i < length groups → new.items ≡ (get_or groups i old).items ++ place ∷ []
     → map (λ (group : Vec ℕ Global). group.items) (set groups i new)
-      ≡ set (map (λ (group : Vec ℕ Global). group.items) groups) i (get_or (map (λ (group : Vec ℕ Global). group.items) groups) i [] ++ place ∷ [])
+    ≡ set (map (λ (group : Vec ℕ Global). group.items) groups) i (get_or (map (λ (group : Vec ℕ Global). group.items) groups) i [] ++ place ∷ [])
 push-group groups i place old new lt pushed =
     map-set (λ (group : Vec ℕ Global). group.items) groups i new
     ∙ ap (λ (group : List ℕ). set (map (λ (g : Vec ℕ Global). g.items) groups) i group)
-        (pushed ∙ ap (λ (group : List ℕ). group ++ place ∷ []) (sym (get_or-map (λ (g : Vec ℕ Global). g.items) groups i old [] lt)))
+    (pushed ∙ ap (λ (group : List ℕ). group ++ place ∷ []) (sym (get_or-map (λ (g : Vec ℕ Global). g.items) groups i old [] lt)))
 
 -- a place below n, before places below n
 below_if : (n i : ℕ) (b : Bool) (rest : List ℕ) → i < n → All (λ (w : ℕ). w < n) rest → All (λ (w : ℕ). w < n) (if b then i ∷ rest else rest)

@@ -2,7 +2,7 @@
 --     RuleFits n f             the formula speaks of n codes and has at most 512 nodes
 --     SupplementFits ..        a record whose references are in range
 --     IsBook b                 all of it
-use Rattle.std.specs.Prelude.{◌≡◌, ℕ, ◌<◌, ◌≤◌, List, ◌++◌, length, map, IsTrue, IfSome, All}
+use Rattle.std.specs.Prelude.{ℕ, ◌<◌, ◌≤◌, List, ◌++◌, length, map, IsTrue, IfSome, All}
 use Rattle.std.specs.List.{IsDistinct}
 use Rattle.pb_base.specs.Names.{same_name}
 use Rattle.pb_base.specs.Rule.{Rule, codes_below, nodes}

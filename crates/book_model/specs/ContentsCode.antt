@@ -52,7 +52,7 @@ contents_code =
     code_by
     ((List ℕ × (ℕ × ℕ)) × (List (List ℕ) × (List Supplement × (List Construct × (List Module × (List Position × List Variant))))))
     (coded× (coded× name_code (coded× coded_ℕ coded_ℕ))
-        (coded× (coded_list name_code) (coded× (coded_list supplement_code) (coded× (coded_list construct_code) (coded× (coded_list module_code) (coded× (coded_list position_code) (coded_list variant_code)))))))
+    (coded× (coded_list name_code) (coded× (coded_list supplement_code) (coded× (coded_list construct_code) (coded× (coded_list module_code) (coded× (coded_list position_code) (coded_list variant_code)))))))
     (λ b. ((b.name, (b.first, b.last)), (b.codes, (b.supplements, (b.constructs, (b.modules, (b.positions, b.variants)))))))
     (λ t. record {
       name = t.0.0;

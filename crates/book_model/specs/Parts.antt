@@ -3,7 +3,7 @@
 --     is_chosen b day x v        the variant at the place v is active and its formula is true
 --     selected b day x place     the selected variants of a position: none where it is not active
 --     parts b day x              all of them, as lines of position and variant
-use Rattle.std.specs.Prelude.{ℕ, zero, suc, Bool, false, ◌&&◌, ◌==◌, List, [], ◌∷◌, ◌++◌, Option, None, Some, filter, map, length, slice_get, if◌then◌else◌}
+use Rattle.std.specs.Prelude.{ℕ, suc, Bool, false, ◌&&◌, ◌==◌, List, [], ◌∷◌, ◌++◌, filter, map, slice_get, if◌then◌else◌}
 use Rattle.std.specs.Option.{option_map_or}
 use Rattle.pb_base.specs.Rule.{holds}
 use Rattle.book_model.specs.Activity.{is_within}

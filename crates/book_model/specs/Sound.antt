@@ -2,7 +2,7 @@
 --     permits p n              a position may have n selected variants
 --     is_sound b day x         each active position has a permitted number of them
 --     IsReleasable b           on every day of the term some set is good, and every good set is sound
-use Rattle.std.specs.Prelude.{◌≡◌, ℕ, suc, ◌≤◌, Bool, true, not, ◌&&◌, ◌||◌, ◌==◌, List, [], ◌∷◌, length, nat_le, IsTrue, if◌then◌else◌}
+use Rattle.std.specs.Prelude.{ℕ, suc, ◌≤◌, Bool, true, not, ◌&&◌, ◌||◌, ◌==◌, List, [], ◌∷◌, length, nat_le, IsTrue, if◌then◌else◌}
 use Rattle.book_model.specs.Contents.{Contents}
 use Rattle.book_model.specs.Good.{is_good}
 use Rattle.book_model.specs.Parts.{selected, is_active_position}

@@ -38,7 +38,9 @@ pub fn fires(supplement: &Supplement, day: Day, set: &CodeSet) -> bool
     requires { SupplementFits (length set.now) supplement.now }
     ensures { result ≡ fires day set.now supplement.now }
 {
-    active(supplement.from, supplement.until, day) && supplement.rule.holds(set) && !set.has(supplement.code)
+    active(supplement.from, supplement.until, day)
+        && supplement.rule.holds(set)
+        && !set.has(supplement.code)
 }
 
 /// Whether a set breaks a constructibility rule: it is active, its code is present or it is a rule of no code, and its formula is false.
@@ -46,7 +48,9 @@ pub fn breaks(construct: &Construct, day: Day, set: &CodeSet) -> bool
     requires { ConstructFits (length set.now) construct.now }
     ensures { result ≡ breaks day set.now construct.now }
 {
-    active(construct.from, construct.until, day) && applies(construct.on, set) && !construct.rule.holds(set)
+    active(construct.from, construct.until, day)
+        && applies(construct.on, set)
+        && !construct.rule.holds(set)
 }
 
 fn applies(on: Option<u32>, set: &CodeSet) -> bool

@@ -23,7 +23,11 @@ impl Model for VariantGroups {
 
 impl VariantGroups {
     /// The groups of these variants, each of which names one of so many positions by its place.
-    pub fn of(alloc: Global, positions: usize, variants: &[Variant]) -> Result<VariantGroups, Memory>
+    pub fn of(
+        alloc: Global,
+        positions: usize,
+        variants: &[Variant],
+    ) -> Result<VariantGroups, Memory>
         requires in_range { All (λ v. v.position < positions) variants.now }
         requires places { length variants.now < 2 ^ 32 }
         ensures { IfOk result (AreGroups positions variants.now) }

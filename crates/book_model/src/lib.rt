@@ -12,3 +12,6 @@ pub use book::{Book, BookParts};
 pub use good::{breaks, fires, is_good};
 pub use groups::VariantGroups;
 pub use record::{Construct, Module, Position, Slice, Supplement, Variant};
+
+#[cfg(test)]
+mod tests;

@@ -1,4 +1,4 @@
-use Rattle.std.proofs.Common.{◌≡◌, ℕ, List, [], length, Vec, Global}
+use Rattle.std.proofs.Common.{◌≡◌, ℕ, [], length, Vec, Global}
 use Rattle.std.specs.List.{All}
 use Rattle.book_model.proofs.groups.empty_groups.Given as goal
 
