@@ -3,3 +3,4 @@ pub mod FieldLemmas
 pub mod PassLemmas
 pub mod ChoiceLemmas
 mod Worked
+pub mod BookLaw
