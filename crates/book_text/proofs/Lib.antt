@@ -3,4 +3,5 @@ pub mod FieldLemmas
 pub mod PassLemmas
 pub mod ChoiceLemmas
 mod Worked
+pub mod DistinctLemmas
 pub mod BookLaw
