@@ -4,4 +4,5 @@ pub mod PassLemmas
 pub mod ChoiceLemmas
 mod Worked
 pub mod DistinctLemmas
-pub mod BookLaw
+pub mod Faultless
+pub mod NamesLaw
