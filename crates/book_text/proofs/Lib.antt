@@ -6,3 +6,4 @@ mod Worked
 pub mod DistinctLemmas
 pub mod Faultless
 pub mod NamesLaw
+pub mod RecordsLaw

@@ -1,0 +1,278 @@
+-- The records that the second pass gives without a fault refer to records of the book, and carry the ids of the first pass.
+use Rattle.std.proofs.Common.{◌≡◌, ◌≤◌, ◌<◌, ◌+◌, ◌==◌, ℕ, Bool, true, false, List, [], ◌∷◌, ◌++◌, length, map, Option, Some, None, Result, Ok, Err, refl, sym, ap, ◌∙◌, subst, arith, if◌then◌else◌}
+use Rattle.std.specs.Prelude.{nat_le, nat_eq, IfSome, All}
+use Rattle.std.proofs.lemmas.List.{map_push, length-map}
+use Rattle.std.proofs.lemmas.List.Elements.{All-push, All-nil}
+use Rattle.std.proofs.lemmas.List.Quantifiers.{position-Some}
+use Rattle.pb_base.specs.Names.{same_name, place_in}
+use Rattle.pb_base.specs.Rule.{Rule, codes_below, nodes}
+use Rattle.rule_text.specs.Reading.{rule_of}
+use Rattle.rule_text.specs.declared.fault.RuleFault.{RuleFault}
+use Rattle.rule_text.proofs.Counts.{rule_of-codes, rule_of-nodes}
+use Rattle.book_model.specs.Book.{RuleFits, SupplementFits, ConstructFits, PositionFits, VariantFits}
+use Rattle.book_model.specs.Parts.{variants_of}
+use Rattle.book_model.specs.declared.record.Supplement.{Supplement}
+use Rattle.book_model.specs.declared.record.Construct.{Construct}
+use Rattle.book_model.specs.declared.record.Module.{Module}
+use Rattle.book_model.specs.declared.record.Position.{Position}
+use Rattle.book_model.specs.declared.record.Variant.{Variant}
+use Rattle.book_text.specs.Rows.{Row}
+use Rattle.book_text.specs.Fault.{and_then}
+use Rattle.book_text.specs.Fields.{field}
+use Rattle.book_text.specs.Entry.{entry_of}
+use Rattle.book_text.specs.Names.{no_names, added, added_beside, entered}
+use Rattle.book_text.specs.FirstPass.{entered_row, first_pass}
+use Rattle.book_text.specs.Records.{Records, no_records}
+use Rattle.book_text.specs.SecondPass.{known, place_of, place_if_named, as_rule, rule_in, supplement_of, construct_of, position_of, variant_of, with_variant, resolved, resolved_row, second_pass}
+use Rattle.book_text.specs.declared.fields.Days.{Days}
+use Rattle.book_text.specs.declared.names.Names.{Names}
+use Rattle.book_text.specs.declared.entry.Entry.{Entry}
+use Rattle.book_text.specs.declared.entry.Entry.TheVariants as e
+use Rattle.book_text.specs.declared.fault.BookKind.{BookKind}
+use Rattle.book_text.specs.declared.fault.BookKind.TheVariants.{Limit}
+use Rattle.book_text.specs.declared.fault.Which.TheVariants.{Codes, Supplements, Constructs, Modules, Positions, Variants, Choices}
+use Rattle.book_text.proofs.ChoiceLemmas.{length-variants_from-push}
+use Rattle.book_text.proofs.Faultless.{and_then-Ok, pass-keeps, passes-keep}
+use Rattle.book_text.proofs.NamesLaw.{added-Ok, added_beside-Ok}
+
+-- ---- places and rules
+
+known-Ok : (o : Option ℕ) (place : ℕ) → known o ≡ Ok place → o ≡ Some place
+known-Ok (Some p) place h = let same : p ≡ place = cc in ap (λ n. Some n) same
+known-Ok None place h = cc
+
+place_of-below : (names : List (List ℕ)) (name : List ℕ) (place : ℕ) → place_of names name ≡ Ok place → place < length names
+place_of-below names name place h = (position-Some (same_name name) names place [] (known-Ok (place_in names name) place h)).0
+
+place_if_named-below : (names : List (List ℕ)) (name : Option (List ℕ)) (place : Option ℕ) → place_if_named names name ≡ Ok place → IfSome place (λ p. p < length names)
+place_if_named-below names None place h =
+    let none : None ≡ place = cc in let P : Option ℕ → Type 0 = λ o. IfSome o (λ p. p < length names) in subst P none tt
+place_if_named-below names (Some name) place h =
+    let (p, is, whole) = and_then-Ok (place_of names name) (λ p. Ok (Some p)) place h in
+    let some : Some p ≡ place = cc in
+    let P : Option ℕ → Type 0 = λ o. IfSome o (λ q. q < length names) in
+    subst P some (place_of-below names name p is)
+
+as_rule-Ok : (r : Result Rule RuleFault) (rule : Rule) → as_rule r ≡ Ok rule → r ≡ Ok rule
+as_rule-Ok (Ok f) rule h = let same : f ≡ rule = cc in ap (λ g. Ok g) same
+as_rule-Ok (Err fault) rule h = cc
+
+rule_in-fits : (codes : List (List ℕ)) (text : List ℕ) (rule : Rule) → rule_in codes text ≡ Ok rule → RuleFits (length codes) rule
+rule_in-fits codes text rule h =
+    let is_read = as_rule-Ok (rule_of codes text) rule h in
+    record { in_range = rule_of-codes codes text rule is_read; size = rule_of-nodes codes text rule is_read }
+
+-- ---- one record of each kind
+
+supplement_of-Ok : (codes : List (List ℕ)) (id : List ℕ) (rank : ℕ) (code : List ℕ) (days : Days) (text : List ℕ) (s : Supplement)
+    → supplement_of codes id rank code days text ≡ Ok s → (s.id ≡ id) × SupplementFits (length codes) s
+supplement_of-Ok codes id rank code days text s h =
+    let (place, found, rest) = and_then-Ok (place_of codes code) (λ place. and_then (rule_in codes text) (λ rule. Ok (record { id = id; rank = rank; code = place; rule = rule; from = days.from; until = days.until }))) s h in
+    let (rule, read, whole) = and_then-Ok (rule_in codes text) (λ rule. Ok (record { id = id; rank = rank; code = place; rule = rule; from = days.from; until = days.until })) s rest in
+    let made : Supplement = record { id = id; rank = rank; code = place; rule = rule; from = days.from; until = days.until } in
+    let same : made ≡ s = cc in
+    subst (λ (t : Supplement). (t.id ≡ id) × SupplementFits (length codes) t) same (refl, record { code = place_of-below codes code place found; rule = rule_in-fits codes text rule read })
+
+construct_of-Ok : (codes : List (List ℕ)) (id : List ℕ) (on : Option (List ℕ)) (days : Days) (text : List ℕ) (c : Construct)
+    → construct_of codes id on days text ≡ Ok c → (c.id ≡ id) × ConstructFits (length codes) c
+construct_of-Ok codes id on days text c h =
+    let (place, found, rest) = and_then-Ok (place_if_named codes on) (λ place. and_then (rule_in codes text) (λ rule. Ok (record { id = id; on = place; rule = rule; from = days.from; until = days.until }))) c h in
+    let (rule, read, whole) = and_then-Ok (rule_in codes text) (λ rule. Ok (record { id = id; on = place; rule = rule; from = days.from; until = days.until })) c rest in
+    let made : Construct = record { id = id; on = place; rule = rule; from = days.from; until = days.until } in
+    let same : made ≡ c = cc in
+    subst (λ (t : Construct). (t.id ≡ id) × ConstructFits (length codes) t) same (refl, record { on = place_if_named-below codes on place found; rule = rule_in-fits codes text rule read })
+
+position_of-Ok : (modules : List (List ℕ)) (id : List ℕ) (group : Option (List ℕ)) (mandatory : Bool) (days : Days) (p : Position)
+    → position_of modules id group mandatory days ≡ Ok p → (p.id ≡ id) × PositionFits (length modules) p
+position_of-Ok modules id group mandatory days p h =
+    let (place, found, whole) = and_then-Ok (place_if_named modules group) (λ place. Ok (record { id = id; «module» = place; mandatory = mandatory; from = days.from; until = days.until })) p h in
+    let made : Position = record { id = id; «module» = place; mandatory = mandatory; from = days.from; until = days.until } in
+    let same : made ≡ p = cc in
+    subst (λ (t : Position). (t.id ≡ id) × PositionFits (length modules) t) same (refl, record { module_ = place_if_named-below modules group place found })
+
+variant_of-Ok : (names : Names) (id position part : List ℕ) (quantity : ℕ) (days : Days) (text : List ℕ) (v : Variant)
+    → variant_of names id position part quantity days text ≡ Ok v → (v.id ≡ id) × VariantFits (length names.codes) (length names.positions) v
+variant_of-Ok names id position part quantity days text v h =
+    let (place, found, rest) = and_then-Ok (place_of names.positions position) (λ place. and_then (rule_in names.codes text) (λ rule. Ok (record { id = id; position = place; part = part; quantity = quantity; rule = rule; from = days.from; until = days.until }))) v h in
+    let (rule, read, whole) = and_then-Ok (rule_in names.codes text) (λ rule. Ok (record { id = id; position = place; part = part; quantity = quantity; rule = rule; from = days.from; until = days.until })) v rest in
+    let made : Variant = record { id = id; position = place; part = part; quantity = quantity; rule = rule; from = days.from; until = days.until } in
+    let same : made ≡ v = cc in
+    subst (λ (t : Variant). (t.id ≡ id) × VariantFits (length names.codes) (length names.positions) t) same
+    (refl, record { position = place_of-below names.positions position place found; rule = rule_in-fits names.codes text rule read })
+
+full-by : (full : Bool) (variants new : List Variant) → (if full then Err (Limit Choices) else Ok variants) ≡ Ok new → (full ≡ false) × (new ≡ variants)
+full-by true variants new h = cc
+full-by false variants new h = (refl, cc)
+
+with_variant-Ok : (variants : List Variant) (v : Variant) (new : List Variant) → with_variant variants v ≡ Ok new
+    → (length (variants_of v.position variants) < 200) × (new ≡ variants ++ v ∷ [])
+with_variant-Ok variants v new h =
+    let (full, is) = full-by (nat_le 200 (length (variants_of v.position variants))) (variants ++ v ∷ []) new h in (grind (arith, full), is)
+
+abbrev pub HasFewChoices : List Variant → Type 0
+HasFewChoices variants = (place : ℕ) → length (variants_of place variants) ≤ 200
+
+few-at : (same : Bool) (position place n m : ℕ) → nat_eq position place ≡ same → (position ≡ place → n < 200) → n ≤ 200 → m ≡ n + (if same then 1 else 0) → m ≤ 200
+few-at true position place n m e here all is = let at : position ≡ place = grind (arith, e) in omega (arith, here at)
+few-at false position place n m e here all is = omega arith
+
+HasFewChoices-push : (variants : List Variant) (v : Variant) → length (variants_of v.position variants) < 200 → HasFewChoices variants → HasFewChoices (variants ++ v ∷ [])
+HasFewChoices-push variants v room few place =
+    few-at (nat_eq v.position place) v.position place (length (variants_of place variants)) (length (variants_of place (variants ++ v ∷ []))) refl
+    (λ at. subst (λ (p : ℕ). length (variants_of p variants) < 200) at room) (few place) (length-variants_from-push 0 place variants v)
+
+-- ---- the second pass
+
+-- each record fits among the names
+pub record RecordsFit (all : Names) (r : Records) : Type 0 where
+  pub supplements : All (SupplementFits (length all.codes)) r.supplements
+  pub constructs : All (ConstructFits (length all.codes)) r.constructs
+  pub positions : All (PositionFits (length all.modules)) r.positions
+  pub variants : All (VariantFits (length all.codes) (length all.positions)) r.variants
+  pub choices : HasFewChoices r.variants
+
+RecordsFit-resolved : (all : Names) (r new : Records) (entry : Entry) (row : Row) → RecordsFit all r → resolved all r entry row ≡ Ok new → RecordsFit all new
+RecordsFit-resolved all r new (e.Code name) row fits h = let same : r ≡ new = cc in subst (RecordsFit all) same fits
+RecordsFit-resolved all r new (e.Supplement id rank code days) row fits h =
+    let (s, is, whole) = and_then-Ok (supplement_of all.codes id rank code days (field row 4)) (λ s. Ok (record r { supplements = r.supplements ++ s ∷ [] })) new h in
+    let same : record r { supplements = r.supplements ++ s ∷ [] } ≡ new = cc in
+    let fit = supplement_of-Ok all.codes id rank code days (field row 4) s is in
+    subst (RecordsFit all) same (record { supplements = All-push (SupplementFits (length all.codes)) r.supplements s fits.supplements fit.1; constructs = fits.constructs; positions = fits.positions; variants = fits.variants; choices = fits.choices })
+RecordsFit-resolved all r new (e.Construct id on days) row fits h =
+    let (c, is, whole) = and_then-Ok (construct_of all.codes id on days (field row 3)) (λ c. Ok (record r { constructs = r.constructs ++ c ∷ [] })) new h in
+    let same : record r { constructs = r.constructs ++ c ∷ [] } ≡ new = cc in
+    let fit = construct_of-Ok all.codes id on days (field row 3) c is in
+    subst (RecordsFit all) same (record { supplements = fits.supplements; constructs = All-push (ConstructFits (length all.codes)) r.constructs c fits.constructs fit.1; positions = fits.positions; variants = fits.variants; choices = fits.choices })
+RecordsFit-resolved all r new (e.Module id) row fits h =
+    let same : record r { modules = r.modules ++ record { id = id } ∷ [] } ≡ new = cc in
+    subst (RecordsFit all) same (record { supplements = fits.supplements; constructs = fits.constructs; positions = fits.positions; variants = fits.variants; choices = fits.choices })
+RecordsFit-resolved all r new (e.Position id group mandatory days) row fits h =
+    let (p, is, whole) = and_then-Ok (position_of all.modules id group mandatory days) (λ p. Ok (record r { positions = r.positions ++ p ∷ [] })) new h in
+    let same : record r { positions = r.positions ++ p ∷ [] } ≡ new = cc in
+    let fit = position_of-Ok all.modules id group mandatory days p is in
+    subst (RecordsFit all) same (record { supplements = fits.supplements; constructs = fits.constructs; positions = All-push (PositionFits (length all.modules)) r.positions p fits.positions fit.1; variants = fits.variants; choices = fits.choices })
+RecordsFit-resolved all r new (e.Variant id position part quantity days) row fits h =
+    let (v, is, rest) = and_then-Ok (variant_of all id position part quantity days (field row 5)) (λ v. and_then (with_variant r.variants v) (λ variants. Ok (record r { variants = variants }))) new h in
+    let (variants, joined, whole) = and_then-Ok (with_variant r.variants v) (λ variants. Ok (record r { variants = variants })) new rest in
+    let same : record r { variants = variants } ≡ new = cc in
+    let fit = variant_of-Ok all id position part quantity days (field row 5) v is in
+    let (room, more) = with_variant-Ok r.variants v variants joined in
+    subst (RecordsFit all) same (record {
+      supplements = fits.supplements; constructs = fits.constructs; positions = fits.positions;
+      variants = subst (All (VariantFits (length all.codes) (length all.positions))) (sym more) (All-push (VariantFits (length all.codes) (length all.positions)) r.variants v fits.variants fit.1);
+      choices = subst HasFewChoices (sym more) (HasFewChoices-push r.variants v room fits.choices);
+    })
+
+no_records-fit : (all : Names) → RecordsFit all no_records
+no_records-fit all = record {
+  supplements = All-nil (SupplementFits (length all.codes));
+  constructs = All-nil (ConstructFits (length all.codes));
+  positions = All-nil (PositionFits (length all.modules));
+  variants = All-nil (VariantFits (length all.codes) (length all.positions));
+  choices = λ place. omega arith;
+}
+
+pub second_pass-fits : (term : Days) (names : Names) (rows : List Row) (records : Records) → second_pass term names rows ≡ Ok records → RecordsFit names records
+second_pass-fits term names rows records h =
+    pass-keeps (resolved_row term names) (RecordsFit names)
+    (λ r new row fits is. let (entry, read, resolving) = and_then-Ok (entry_of term row) (λ entry. resolved names r entry row) new is in RecordsFit-resolved names r new entry row fits resolving)
+    2 no_records records rows (no_records-fit names) h
+
+-- ---- both passes
+
+-- the records have the ids that the names are
+pub record AreNamed (n : Names) (r : Records) : Type 0 where
+  pub supplements : map (λ s. s.id) r.supplements ≡ n.supplements
+  pub constructs : map (λ c. c.id) r.constructs ≡ n.constructs
+  pub modules : map (λ m. m.id) r.modules ≡ n.modules
+  pub positions : map (λ p. p.id) r.positions ≡ n.positions
+  pub variants : map (λ v. v.id) r.variants ≡ n.variants
+
+named-push : {X : Type 0} (id_of : X → List ℕ) (records : List X) (x : X) (names new : List (List ℕ)) (id : List ℕ)
+    → map id_of records ≡ names → id_of x ≡ id → new ≡ names ++ id ∷ [] → map id_of (records ++ x ∷ []) ≡ new
+named-push id_of records x names new id same at is =
+    map_push id_of records x ∙ ap (λ (l : List (List ℕ)). l ++ id_of x ∷ []) same ∙ ap (λ (i : List ℕ). names ++ i ∷ []) at ∙ sym is
+
+AreNamed-row : (all n n' : Names) (r r' : Records) (entry : Entry) (row : Row) → AreNamed n r → entered n entry ≡ Ok n' → resolved all r entry row ≡ Ok r' → AreNamed n' r'
+AreNamed-row all n n' r r' (e.Code name) row named h g =
+    let (l, is, whole) = and_then-Ok (added 2000 Codes n.codes name) (λ l. Ok (record n { codes = l })) n' h in
+    let one : record n { codes = l } ≡ n' = cc in
+    let other : r ≡ r' = cc in
+    let start : AreNamed (record n { codes = l }) r = record { supplements = named.supplements; constructs = named.constructs; modules = named.modules; positions = named.positions; variants = named.variants } in
+    subst (AreNamed n') other (subst (λ (m : Names). AreNamed m r) one start)
+AreNamed-row all n n' r r' (e.Supplement id rank code days) row named h g =
+    let (l, is, whole) = and_then-Ok (added_beside n.constructs 5000 Supplements n.supplements id) (λ l. Ok (record n { supplements = l })) n' h in
+    let (s, made, rest) = and_then-Ok (supplement_of all.codes id rank code days (field row 4)) (λ s. Ok (record r { supplements = r.supplements ++ s ∷ [] })) r' g in
+    let one : record n { supplements = l } ≡ n' = cc in
+    let other : record r { supplements = r.supplements ++ s ∷ [] } ≡ r' = cc in
+    let more = (added_beside-Ok n.constructs 5000 Supplements n.supplements id l is).1 in
+    let id_of : Supplement → List ℕ = λ s. s.id in
+    let start : AreNamed (record n { supplements = l }) (record r { supplements = r.supplements ++ s ∷ [] }) = record {
+          supplements = named-push id_of r.supplements s n.supplements l id named.supplements (supplement_of-Ok all.codes id rank code days (field row 4) s made).0 more.is;
+          constructs = named.constructs; modules = named.modules; positions = named.positions; variants = named.variants;
+        } in
+    subst (AreNamed n') other (subst (λ (m : Names). AreNamed m (record r { supplements = r.supplements ++ s ∷ [] })) one start)
+AreNamed-row all n n' r r' (e.Construct id on days) row named h g =
+    let (l, is, whole) = and_then-Ok (added_beside n.supplements 10000 Constructs n.constructs id) (λ l. Ok (record n { constructs = l })) n' h in
+    let (c, made, rest) = and_then-Ok (construct_of all.codes id on days (field row 3)) (λ c. Ok (record r { constructs = r.constructs ++ c ∷ [] })) r' g in
+    let one : record n { constructs = l } ≡ n' = cc in
+    let other : record r { constructs = r.constructs ++ c ∷ [] } ≡ r' = cc in
+    let more = (added_beside-Ok n.supplements 10000 Constructs n.constructs id l is).1 in
+    let id_of : Construct → List ℕ = λ c. c.id in
+    let start : AreNamed (record n { constructs = l }) (record r { constructs = r.constructs ++ c ∷ [] }) = record {
+          supplements = named.supplements;
+          constructs = named-push id_of r.constructs c n.constructs l id named.constructs (construct_of-Ok all.codes id on days (field row 3) c made).0 more.is;
+          modules = named.modules; positions = named.positions; variants = named.variants;
+        } in
+    subst (AreNamed n') other (subst (λ (m : Names). AreNamed m (record r { constructs = r.constructs ++ c ∷ [] })) one start)
+AreNamed-row all n n' r r' (e.Module id) row named h g =
+    let (l, is, whole) = and_then-Ok (added 1000 Modules n.modules id) (λ l. Ok (record n { modules = l })) n' h in
+    let one : record n { modules = l } ≡ n' = cc in
+    let m : Module = record { id = id } in
+    let other : record r { modules = r.modules ++ m ∷ [] } ≡ r' = cc in
+    let id_of : Module → List ℕ = λ m. m.id in
+    let start : AreNamed (record n { modules = l }) (record r { modules = r.modules ++ m ∷ [] }) = record {
+          supplements = named.supplements; constructs = named.constructs;
+          modules = named-push id_of r.modules m n.modules l id named.modules refl (added-Ok 1000 Modules n.modules id l is).is;
+          positions = named.positions; variants = named.variants;
+        } in
+    subst (AreNamed n') other (subst (λ (k : Names). AreNamed k (record r { modules = r.modules ++ m ∷ [] })) one start)
+AreNamed-row all n n' r r' (e.Position id group mandatory days) row named h g =
+    let (l, is, whole) = and_then-Ok (added 5000 Positions n.positions id) (λ l. Ok (record n { positions = l })) n' h in
+    let (p, made, rest) = and_then-Ok (position_of all.modules id group mandatory days) (λ p. Ok (record r { positions = r.positions ++ p ∷ [] })) r' g in
+    let one : record n { positions = l } ≡ n' = cc in
+    let other : record r { positions = r.positions ++ p ∷ [] } ≡ r' = cc in
+    let id_of : Position → List ℕ = λ p. p.id in
+    let start : AreNamed (record n { positions = l }) (record r { positions = r.positions ++ p ∷ [] }) = record {
+          supplements = named.supplements; constructs = named.constructs; modules = named.modules;
+          positions = named-push id_of r.positions p n.positions l id named.positions (position_of-Ok all.modules id group mandatory days p made).0 (added-Ok 5000 Positions n.positions id l is).is;
+          variants = named.variants;
+        } in
+    subst (AreNamed n') other (subst (λ (m : Names). AreNamed m (record r { positions = r.positions ++ p ∷ [] })) one start)
+AreNamed-row all n n' r r' (e.Variant id position part quantity days) row named h g =
+    let (l, is, whole) = and_then-Ok (added 20000 Variants n.variants id) (λ l. Ok (record n { variants = l })) n' h in
+    let (v, made, rest) = and_then-Ok (variant_of all id position part quantity days (field row 5)) (λ v. and_then (with_variant r.variants v) (λ variants. Ok (record r { variants = variants }))) r' g in
+    let (variants, joined, last) = and_then-Ok (with_variant r.variants v) (λ variants. Ok (record r { variants = variants })) r' rest in
+    let one : record n { variants = l } ≡ n' = cc in
+    let other : record r { variants = variants } ≡ r' = cc in
+    let id_of : Variant → List ℕ = λ v. v.id in
+    let pushed = named-push id_of r.variants v n.variants l id named.variants (variant_of-Ok all id position part quantity days (field row 5) v made).0 (added-Ok 20000 Variants n.variants id l is).is in
+    let start : AreNamed (record n { variants = l }) (record r { variants = variants }) = record {
+          supplements = named.supplements; constructs = named.constructs; modules = named.modules; positions = named.positions;
+          variants = subst (λ (vs : List Variant). map id_of vs ≡ l) (sym (with_variant-Ok r.variants v variants joined).1) pushed;
+        } in
+    subst (AreNamed n') other (subst (λ (m : Names). AreNamed m (record r { variants = variants })) one start)
+
+same-entry : (a b : Entry) (r : Result Entry BookKind) → r ≡ Ok a → r ≡ Ok b → a ≡ b
+same-entry a b r h g = cc
+
+pub passes-named : (term : Days) (names : Names) (rows : List Row) (records : Records) → first_pass term rows ≡ Ok names → second_pass term names rows ≡ Ok records → AreNamed names records
+passes-named term names rows records h g =
+    passes-keep (entered_row term) (resolved_row term names) AreNamed
+    (λ n n' r r' row named entering resolving.
+        let (entry, read, here) = and_then-Ok (entry_of term row) (λ entry. entered n entry) n' entering in
+        let (again, read_again, there) = and_then-Ok (entry_of term row) (λ entry. resolved names r entry row) r' resolving in
+        let same = same-entry again entry (entry_of term row) read_again read in
+        AreNamed-row names n n' r r' entry row named here (subst (λ (x : Entry). resolved names r x row ≡ Ok r') same there))
+    2 no_names names no_records records rows
+    (record { supplements = refl; constructs = refl; modules = refl; positions = refl; variants = refl }) h g
