@@ -7,3 +7,4 @@ pub mod DistinctLemmas
 pub mod Faultless
 pub mod NamesLaw
 pub mod RecordsLaw
+pub mod BookLaw

@@ -1,5 +1,5 @@
 //! The second pass over the rows: names become places, and rules are read.
-ghost use Rattle.std.specs.Prelude.{◌≡◌, ◌+◌, ◌<◌, ◌^◌, Ok, OnOk, length, map};
+ghost use Rattle.std.specs.Prelude.{◌≡◌, ◌+◌, ◌<◌, ◌^◌, Ok, IfOk, OnOk, length, map};
 ghost use Rattle.pb_base.specs.Answers.{Answers};
 ghost use Rattle.csv.specs.Records.{fields_of};
 ghost use Rattle.book_text.specs.Draft.{records_of, AreCounted, IsCounted, HasShortFields};
@@ -7,6 +7,7 @@ ghost use Rattle.book_text.specs.Fault.{Gives};
 ghost use Rattle.book_text.specs.SecondPass.{place_of, place_if_named, rule_in, supplement_of, construct_of, position_of, variant_of, with_variant, resolved, resolved_row};
 ghost use Rattle.book_text.specs.Entry.{entry_of};
 ghost use Rattle.book_text.specs.Pass.{pass};
+ghost use Rattle.book_text.specs.Records.{no_records};
 ghost use Rattle.book_text.specs.Rows.{AreWithin};
 ghost use Rattle.book_text.specs.declared.fields.Days.{Days};
 
@@ -17,7 +18,7 @@ use crate::id_table::IdTable;
 use crate::names::Names;
 use book_model::{Construct, Module, Position, Supplement, Variant};
 use csv::ByteRecord;
-use pb_base::{CodeName, CodeTable, Fail, Formula, Id, Part};
+use pb_base::{CodeName, CodeTable, Fail, Formula, Id, Memory, Part};
 use rule_text::read_rule;
 use std::alloc::Global;
 
@@ -31,6 +32,24 @@ pub struct Draft {
     pub variants: Vec<Variant>,
     /// How many variants each position has, by its place.
     pub choices: Vec<u32>,
+}
+
+impl Draft {
+    /// The draft without records, of a book with so many positions.
+    pub fn new(alloc: Global, positions: u32) -> Result<Draft, Memory>
+        ensures empty { IfOk result (λ d. records_of d ≡ no_records) }
+        ensures counted { IfOk result (IsCounted positions) }
+    {
+        let choices = vec![in alloc; 0; positions as usize]?;
+        Ok(Draft {
+            supplements: Vec::new(alloc),
+            constructs: Vec::new(alloc),
+            modules: Vec::new(alloc),
+            positions: Vec::new(alloc),
+            variants: Vec::new(alloc),
+            choices,
+        })
+    }
 }
 
 /// Adds the record of a row.

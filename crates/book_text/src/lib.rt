@@ -1,19 +1,16 @@
-//! Reads the text of a book.
+//! Reads the text of a book: the whole book, or its first fault.
 #![tactic(auto)]
 
 mod draft;
 mod entry;
 mod fault;
 mod fields;
-mod survey;
 mod id_table;
 mod kind;
 mod names;
+mod read;
 mod rows;
+mod survey;
 
-pub use draft::{Draft, resolve_rows};
-pub use entry::{Entry, Heading, entry_of, heading_of};
 pub use fault::{BookFault, BookKind, Which};
-pub use survey::{Survey, first_pass};
-pub use names::Names;
-pub use rows::read_rows;
+pub use read::read_book;

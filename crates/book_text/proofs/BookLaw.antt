@@ -1,0 +1,113 @@
+-- Where the passes find no fault, the heading, the names and the records make a book that meets its condition.
+use Rattle.std.proofs.Common.{◌≡◌, ◌≤◌, ◌<◌, ◌++◌, ℕ, Bool, true, false, List, length, map, Option, Some, None, Result, Ok, Err, refl, sym, ap, ◌∙◌, subst, arith, if◌then◌else◌}
+use Rattle.std.specs.Prelude.{nat_lt, All}
+use Rattle.std.specs.List.{IsDistinct}
+use Rattle.std.proofs.lemmas.List.{length-map}
+use Rattle.pb_base.specs.Names.{same_name}
+use Rattle.book_model.specs.Book.{IsBook, PositionFits, VariantFits}
+use Rattle.book_model.specs.declared.record.Supplement.{Supplement}
+use Rattle.book_model.specs.declared.record.Construct.{Construct}
+use Rattle.book_model.specs.declared.record.Module.{Module}
+use Rattle.book_model.specs.declared.record.Position.{Position}
+use Rattle.book_model.specs.declared.record.Variant.{Variant}
+use Rattle.book_text.specs.Rows.{Row}
+use Rattle.book_text.specs.Fault.{and_then}
+use Rattle.book_text.specs.Fields.{field, is_width, name_in, day_in, term_in}
+use Rattle.book_text.specs.Kind.{kind_of}
+use Rattle.book_text.specs.Entry.{of_width, book_in, heading_of_kind, heading_of}
+use Rattle.book_text.specs.FirstPass.{first_pass}
+use Rattle.book_text.specs.Records.{Records, book_with}
+use Rattle.book_text.specs.SecondPass.{second_pass}
+use Rattle.book_text.specs.declared.kind.Kind.{Kind}
+use Rattle.book_text.specs.declared.kind.Kind.TheVariants as kind
+use Rattle.book_text.specs.declared.fields.Days.{Days}
+use Rattle.book_text.specs.declared.names.Names.{Names}
+use Rattle.book_text.specs.declared.entry.Heading.{Heading}
+use Rattle.book_text.specs.declared.fault.BookKind.{BookKind}
+use Rattle.book_text.specs.declared.fault.BookKind.TheVariants.{FieldCount, BadDays, NoBookRecord}
+use Rattle.book_text.proofs.Faultless.{and_then-Ok}
+use Rattle.book_text.proofs.NamesLaw.{NamesFit, first_pass-fits}
+use Rattle.book_text.proofs.RecordsLaw.{RecordsFit, AreNamed, second_pass-fits, passes-named}
+
+-- ---- the term
+
+abbrev pub IsOrdered : Days → Type 0
+IsOrdered days = days.from ≤ days.until
+
+ordered-by : (b : Bool) (days got : Days) → nat_lt days.until days.from ≡ b → (if b then Err BadDays else Ok days) ≡ Ok got → IsOrdered got
+ordered-by true days got e h = cc
+ordered-by false days got e h = let same : days ≡ got = cc in subst IsOrdered same (grind (arith, e))
+
+term_in-ordered : (first last : List ℕ) (days : Days) → term_in first last ≡ Ok days → IsOrdered days
+term_in-ordered first last days h =
+    let (from, _, rest) = and_then-Ok (day_in first) (λ from. and_then (day_in last) (λ until. if nat_lt until from then Err BadDays else Ok (record { from = from; until = until }))) days h in
+    let (until, _, made) = and_then-Ok (day_in last) (λ until. if nat_lt until from then Err BadDays else Ok (record { from = from; until = until })) days rest in
+    ordered-by (nat_lt until from) (record { from = from; until = until }) days refl made
+
+wide-by : {A : Type 0} (b : Bool) (r : Result A BookKind) (a : A) → (if b then r else Err FieldCount) ≡ Ok a → r ≡ Ok a
+wide-by true r a h = h
+wide-by false r a h = cc
+
+book_in-ordered : (row : Row) (heading : Heading) → book_in row ≡ Ok heading → IsOrdered heading.term
+book_in-ordered row heading h =
+    let said = wide-by (is_width 4 row) (and_then (name_in (field row 1)) (λ name. and_then (term_in (field row 2) (field row 3)) (λ term. Ok (record { name = name; term = term })))) heading h in
+    let (name, _, rest) = and_then-Ok (name_in (field row 1)) (λ name. and_then (term_in (field row 2) (field row 3)) (λ term. Ok (record { name = name; term = term }))) heading said in
+    let (term, is, made) = and_then-Ok (term_in (field row 2) (field row 3)) (λ term. Ok (record { name = name; term = term })) heading rest in
+    let whole : Heading = record { name = name; term = term } in
+    let same : whole ≡ heading = cc in
+    subst (λ (x : Heading). IsOrdered x.term) same (term_in-ordered (field row 2) (field row 3) term is)
+
+of_kind-ordered : (k : Option Kind) (row : Row) (heading : Heading) → heading_of_kind k row ≡ Ok heading → IsOrdered heading.term
+of_kind-ordered None row heading h = cc
+of_kind-ordered (Some kind.Book) row heading h = book_in-ordered row heading h
+of_kind-ordered (Some kind.Code) row heading h = cc
+of_kind-ordered (Some kind.Supplement) row heading h = cc
+of_kind-ordered (Some kind.Construct) row heading h = cc
+of_kind-ordered (Some kind.Module) row heading h = cc
+of_kind-ordered (Some kind.Position) row heading h = cc
+of_kind-ordered (Some kind.Variant) row heading h = cc
+
+-- a heading's first day is not after its last
+pub heading_of-ordered : (row : Row) (heading : Heading) → heading_of row ≡ Ok heading → IsOrdered heading.term
+heading_of-ordered row heading h = of_kind-ordered (kind_of (field row 0)) row heading h
+
+-- ---- the book
+
+as-many : {X : Type 0} (id_of : X → List ℕ) (records : List X) (names : List (List ℕ)) → map id_of records ≡ names → length records ≡ length names
+as-many id_of records names h = sym (length-map records id_of) ∙ ap length h
+
+whole-book : (heading : Heading) (names : Names) (r : Records) → IsOrdered heading.term → NamesFit names → RecordsFit names r → AreNamed names r → IsBook (book_with heading names r)
+whole-book heading names r ordered fit fits named =
+    let supplements = as-many (λ (s : Supplement). s.id) r.supplements names.supplements named.supplements in
+    let constructs = as-many (λ (c : Construct). c.id) r.constructs names.constructs named.constructs in
+    let modules = as-many (λ (m : Module). m.id) r.modules names.modules named.modules in
+    let positions = as-many (λ (p : Position). p.id) r.positions names.positions named.positions in
+    let variants = as-many (λ (v : Variant). v.id) r.variants names.variants named.variants in
+    record {
+      term = ordered;
+      codes_limit = fit.codes.within;
+      supplements_limit = omega (arith, supplements, fit.rules.supplements_within);
+      constructs_limit = omega (arith, constructs, fit.rules.constructs_within);
+      modules_limit = omega (arith, modules, fit.modules.within);
+      positions_limit = omega (arith, positions, fit.positions.within);
+      variants_limit = omega (arith, variants, fit.variants.within);
+      choices_limit = fits.choices;
+      supplements_fit = fits.supplements;
+      constructs_fit = fits.constructs;
+      positions_fit = subst (λ (n : ℕ). All (PositionFits n) r.positions) (sym modules) fits.positions;
+      variants_fit = subst (λ (n : ℕ). All (VariantFits (length names.codes) n) r.variants) (sym positions) fits.variants;
+      rule_ids_distinct =
+        subst (λ (ids : List (List ℕ)). IsDistinct same_name (ids ++ map (λ (c : Construct). c.id) r.constructs)) (sym named.supplements)
+        (subst (λ (ids : List (List ℕ)). IsDistinct same_name (names.supplements ++ ids)) (sym named.constructs) fit.rules.distinct);
+      module_ids_distinct = subst (IsDistinct same_name) (sym named.modules) fit.modules.distinct;
+      position_ids_distinct = subst (IsDistinct same_name) (sym named.positions) fit.positions.distinct;
+      variant_ids_distinct = subst (IsDistinct same_name) (sym named.variants) fit.variants.distinct;
+    }
+
+-- what the passes make of the rows behind a heading is a book
+pub passes-book : (heading : Heading) (rows : List Row) (names : Names) (records : Records)
+    → IsOrdered heading.term → first_pass heading.term rows ≡ Ok names → second_pass heading.term names rows ≡ Ok records
+    → IsBook (book_with heading names records)
+passes-book heading rows names records ordered first second =
+    whole-book heading names records ordered (first_pass-fits heading.term rows names first)
+    (second_pass-fits heading.term names rows records second) (passes-named heading.term names rows records first second)
