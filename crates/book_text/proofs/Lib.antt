@@ -8,3 +8,4 @@ pub mod Faultless
 pub mod NamesLaw
 pub mod RecordsLaw
 pub mod BookLaw
+pub mod ReadLemmas

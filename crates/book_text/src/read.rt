@@ -1,5 +1,6 @@
 //! The book of a text.
 ghost use Rattle.std.specs.Prelude.{◌≡◌, ◌≤◌, ◌<◌, ◌^◌, Ok, IfOk, OnOk, length, map};
+ghost use Rattle.std.specs.Str.{is_utf8};
 ghost use Rattle.pb_base.specs.Answers.{Answers};
 ghost use Rattle.csv.specs.Records.{fields_of};
 ghost use Rattle.book_model.specs.Book.{IsBook};
@@ -35,11 +36,21 @@ pub fn read_book(alloc: Global, text: &[u8]) -> Result<Book, Fail<BookFault>>
     if text.len() > LONGEST_TEXT {
         return Err(fault(0, BookKind::TooLarge));
     }
-    if std::str::from_utf8(text).is_err() {
+    if !is_text(text) {
         return Err(fault(0, BookKind::NotUtf8));
     }
     let rows = read_rows(alloc, text)?;
     book_of_rows(alloc, &rows)
+}
+
+// Whether the bytes are UTF-8.
+fn is_text(bytes: &[u8]) -> bool
+    ensures { result ≡ is_utf8 bytes.now }
+{
+    match std::str::from_utf8(bytes) {
+        Ok(_) => true,
+        Err(_) => false,
+    }
 }
 
 fn fault(row: u32, kind: BookKind) -> Fail<BookFault>

@@ -1,0 +1,13 @@
+use Rattle.std.proofs.Common.{◌≡◌, refl, sym, rules}
+use Rattle.pb_base.specs.Answers.{Answers}
+use Rattle.book_text.proofs.ReadLemmas.{book_of-large, book_of-not_utf8, book_of-rows}
+use Rattle.book_text.proofs.read.read_book.Goals as goal
+
+pub returns-then-text-gt-LONGEST_TEXT : goal.returns-then-text-gt-LONGEST_TEXT
+returns-then-text-gt-LONGEST_TEXT c = rw (c.fault.ensures, book_of-large c.args.text.now c.if-text-gt-LONGEST_TEXT.true) refl
+
+pub returns-then-not-is_text : goal.returns-then-not-is_text
+returns-then-not-is_text c = ?
+
+pub returns : goal.returns
+returns c = ?
