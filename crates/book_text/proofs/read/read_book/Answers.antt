@@ -1,5 +1,4 @@
-use Rattle.std.proofs.Common.{◌≡◌, refl, sym, rules}
-use Rattle.pb_base.specs.Answers.{Answers}
+use Rattle.std.proofs.Common.{refl, sym, ◌∙◌}
 use Rattle.book_text.proofs.ReadLemmas.{book_of-large, book_of-not_utf8, book_of-rows}
 use Rattle.book_text.proofs.read.read_book.Goals as goal
 
@@ -7,7 +6,10 @@ pub returns-then-text-gt-LONGEST_TEXT : goal.returns-then-text-gt-LONGEST_TEXT
 returns-then-text-gt-LONGEST_TEXT c = rw (c.fault.ensures, book_of-large c.args.text.now c.if-text-gt-LONGEST_TEXT.true) refl
 
 pub returns-then-not-is_text : goal.returns-then-not-is_text
-returns-then-not-is_text c = ?
+returns-then-not-is_text c =
+    rw (c.fault-then-not-is_text.ensures, book_of-not_utf8 c.args.text.now c.if-text-gt-LONGEST_TEXT.false (sym c.is_text.ensures ∙ c.if-not-is_text.true)) refl
 
 pub returns : goal.returns
-returns c = ?
+returns c =
+    rw (book_of-rows c.args.text.now c.if-text-gt-LONGEST_TEXT.false (sym c.is_text.ensures ∙ c.if-not-is_text.false))
+    (rw (c.deref.ensures.value, c.in_ok-rows.ensures.rows) at c.book_of_rows.ensures)
