@@ -14,3 +14,6 @@ mod survey;
 
 pub use fault::{BookFault, BookKind, Which};
 pub use read::read_book;
+
+#[cfg(test)]
+mod tests;
