@@ -1,0 +1,2 @@
+pub mod FirstFiring
+mod Cases
