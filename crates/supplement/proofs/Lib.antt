@@ -1,2 +1,3 @@
 pub mod FirstFiring
+pub mod Laws
 mod Cases

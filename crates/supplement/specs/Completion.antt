@@ -1,8 +1,10 @@
 -- How the supplementing rules of a book complete a set of codes on a day.
 --     first_firing b day x        the rule that fires first: the lowest rank, and at one rank the earliest record
+--     Includes x y                y has each code that x has
 --     completion_of b day x       the completed set, and what was added, in order of adding
-use Rattle.std.specs.Prelude.{ℕ, zero, suc, Bool, true, not, List, [], ◌∷◌, Option, None, Some, nat_le, count_by, slice_set, if◌then◌else◌}
+use Rattle.std.specs.Prelude.{ℕ, zero, suc, Bool, true, not, List, [], ◌∷◌, Option, None, Some, nat_le, count_by, slice_set, IsTrue, if◌then◌else◌}
 use Rattle.std.specs.Option.{option_map_or}
+use Rattle.pb_base.specs.Sets.{has}
 use Rattle.book_model.specs.Contents.{Contents}
 use Rattle.book_model.specs.Good.{fires}
 use Rattle.book_model.specs.declared.record.Supplement.{Supplement}
@@ -31,6 +33,9 @@ first_firing b day x = first_firing_from 0 day x b.supplements
 -- the set with the code of the rule
 abbrev pub with_code_of : Firing → List Bool → List Bool
 with_code_of f x = slice_set x f.code true
+
+abbrev pub Includes : List Bool → List Bool → Type 0
+Includes x y = (code : ℕ) → IsTrue (has x code) → IsTrue (has y code)
 
 abbrev pub nothing_added : List Bool → Completed
 nothing_added x = record { set = x; added = [] }
