@@ -1,7 +1,8 @@
 -- Which rule fires first.
-use Rattle.std.proofs.Common.{◌≡◌, ◌≢◌, ℕ, zero, suc, ◌+◌, ◌<◌, ◌≤◌, Bool, true, false, not, ◌&&◌, cond, leb, List, [], ◌∷◌, length, get_or, Option, Some, None, refl, sym, ap, subst, ◌∙◌, ◌⊎◌, inl, inr, arith, All}
-use Rattle.std.proofs.lemmas.Bool.{and_parts, not-true, leb-false, le-leb, lt-leb, cases_Bool, cases_lt, false≢true}
+use Rattle.std.proofs.Common.{◌≡◌, ◌≢◌, ℕ, zero, suc, ◌+◌, ◌<◌, ◌≤◌, Bool, true, false, not, ◌&&◌, cond, leb, List, [], ◌∷◌, length, get_or, drop, add-one, Option, Some, None, refl, sym, ap, subst, ◌∙◌, ◌⊎◌, inl, inr, arith, All}
+use Rattle.std.proofs.lemmas.Bool.{and_parts, not-true, leb-true, leb-false, le-leb, lt-leb, cases_Bool, cases_lt, false≢true}
 use Rattle.std.proofs.lemmas.Option.{none-some, same_Some}
+use Rattle.std.proofs.lemmas.List.{drop_more}
 use Rattle.std.proofs.lemmas.List.Elements.{All-nil, All-cons, All-head, All-tail, All-get_or}
 use Rattle.pb_base.specs.Sets.{has}
 use Rattle.book_model.specs.Good.{fires}
@@ -145,3 +146,45 @@ first_firing-is i day x (s ∷ ss) (suc p) d c =
     ap (first_of (firing_at i day x s)) later
     ∙ yields_to (firing_at i day x s) g least
     ∙ ap (λ n. Some (firing_of n (get_or ss p d))) next
+
+earlier_first : (f g : Firing) → leb f.rank g.rank ≡ true → first_of (Some f) (Some g) ≡ Some f
+earlier_first f g low = ap (λ c. cond c (Some f) (Some g)) low
+
+later_first : (f g : Firing) → leb f.rank g.rank ≡ false → first_of (Some f) (Some g) ≡ Some g
+later_first f g high = ap (λ c. cond c (Some f) (Some g)) high
+
+first_of_three : (f g h : Firing) (fg gh : Bool) → leb f.rank g.rank ≡ fg → leb g.rank h.rank ≡ gh
+    → first_of (first_of (Some f) (Some g)) (Some h) ≡ first_of (Some f) (first_of (Some g) (Some h))
+first_of_three f g h true true a b =
+    let low : leb f.rank h.rank ≡ true = le-leb f.rank h.rank (omega (arith, leb-true f.rank g.rank a, leb-true g.rank h.rank b)) in
+    ap (λ o. first_of o (Some h)) (earlier_first f g a) ∙ earlier_first f h low ∙ sym (ap (first_of (Some f)) (earlier_first g h b) ∙ earlier_first f g a)
+first_of_three f g h true false a b =
+    ap (λ o. first_of o (Some h)) (earlier_first f g a) ∙ sym (ap (first_of (Some f)) (later_first g h b))
+first_of_three f g h false true a b =
+    ap (λ o. first_of o (Some h)) (later_first f g a) ∙ earlier_first g h b ∙ sym (ap (first_of (Some f)) (earlier_first g h b) ∙ later_first f g a)
+first_of_three f g h false false a b =
+    let high : leb f.rank h.rank ≡ false = lt-leb f.rank h.rank (omega (arith, leb-false f.rank g.rank a, leb-false g.rank h.rank b)) in
+    ap (λ o. first_of o (Some h)) (later_first f g a) ∙ later_first g h b ∙ sym (ap (first_of (Some f)) (later_first g h b) ∙ later_first f h high)
+
+-- which of three records fires first
+pub first_of-assoc : (o p q : Option Firing) → first_of (first_of o p) q ≡ first_of o (first_of p q)
+first_of-assoc None p q = refl
+first_of-assoc (Some f) None q = refl
+first_of-assoc (Some f) (Some g) None =
+    elim (cases_Bool (leb f.rank g.rank)) [
+      inl low ↦ ap (λ o. first_of o None) (earlier_first f g low) ∙ sym (earlier_first f g low)
+    | inr high ↦ ap (λ o. first_of o None) (later_first f g high) ∙ sym (later_first f g high)
+    ]
+first_of-assoc (Some f) (Some g) (Some h) = first_of_three f g h (leb f.rank g.rank) (leb g.rank h.rank) refl refl
+
+pub first_firing-step : (i day : ℕ) (x : List Bool) (all : List Supplement) (s : Supplement) → i < length all → s ≡ get_or all i s
+    → first_firing_from i day x (drop i all) ≡ first_of (firing_at i day x s) (first_firing_from (i + 1) day x (drop (i + 1) all))
+first_firing-step i day x all s within is = 
+    let split : drop i all ≡ s ∷ drop (i + 1) all = drop_more all i s within ∙ ap (λ t. t ∷ drop (i + 1) all) (sym is) in
+    ap (first_firing_from i day x) split ∙ ap (λ n. first_of (firing_at i day x s) (first_firing_from n day x (drop (i + 1) all))) (sym (add-one i))
+
+-- a loop's step: the rule at i joins those before it
+pub first_firing-more : (i day : ℕ) (x : List Bool) (all : List Supplement) (s : Supplement) (o : Option Firing) → i < length all → s ≡ get_or all i s
+    → first_of (first_of o (firing_at i day x s)) (first_firing_from (i + 1) day x (drop (i + 1) all)) ≡ first_of o (first_firing_from i day x (drop i all))
+first_firing-more i day x all s o within is =
+    first_of-assoc o (firing_at i day x s) (first_firing_from (i + 1) day x (drop (i + 1) all)) ∙ sym (ap (first_of o) (first_firing-step i day x all s within is))

@@ -3,5 +3,7 @@
 
 mod completed;
 mod firing;
+mod plain;
 
 pub use completed::{Added, AddedList, Completed};
+pub use plain::complete_plainly;
