@@ -105,3 +105,8 @@ all_false test (s ∷ ss) none =
 -- a closed set is its own completion
 pub completion-closed : (b : Contents) (day : ℕ) (x : List Bool) → is_closed b day x ≡ true → completion_of b day x ≡ nothing_added x
 completion-closed b day x closed = completion-none b day x (first_firing-none 0 day x b.supplements (all_false (fires day x) b.supplements (not-true _ closed)))
+
+-- the same of what a call gave
+pub is_completed_by : (b : Contents) (day : ℕ) (x : List Bool) (c : Completed) → All (SupplementFits (length b.codes)) b.supplements → length x ≡ length b.codes → c ≡ completion_of b day x → IsCompleted b day x c.set
+is_completed_by b day x c fit same is =
+    subst (λ d. IsCompleted b day x d.set) (sym is) (is_completed-completion b day x (subst (λ n. All (SupplementFits n) b.supplements) (sym same) fit))

@@ -2,8 +2,10 @@
 #![tactic(auto)]
 
 mod completed;
+mod completer;
 mod firing;
 mod plain;
 
 pub use completed::{Added, AddedList, Completed};
+pub use completer::Completer;
 pub use plain::complete_plainly;
