@@ -1,1 +1,3 @@
 mod GroupLemmas
+mod DayOrder
+mod Runs
