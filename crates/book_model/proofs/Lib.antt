@@ -1,3 +1,4 @@
 mod GroupLemmas
 mod DayOrder
 mod Runs
+pub mod SliceLaws
