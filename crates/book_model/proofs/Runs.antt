@@ -34,9 +34,12 @@ too_many b days is many =
     let n : length (all_slices b) ≡ length days = length-runs_from (change_days b) b.last ∙ sym (ap length is) in
     ap (λ c. cond c (Ok (all_slices b)) (Err (Slices (length (all_slices b))))) (lt-leb (length (all_slices b)) 64 (omega (arith, n))) ∙ ap (λ k. Err (Slices k)) n
 
+pub found : (b : Contents) (days : List ℕ) (last : ℕ) (slices : List Slice) → days ≡ change_days b → last ≡ b.last → slices ≡ runs_from days last → slices ≡ all_slices b
+found b days last slices is l runs = runs ∙ ap (λ k. runs_from days k) l ∙ ap (λ ds. runs_from ds b.last) is
+
 pub few_enough : (b : Contents) (days : List ℕ) (last : ℕ) (slices : List Slice) → days ≡ change_days b → last ≡ b.last → length days ≤ 64 → slices ≡ runs_from days last → slices_of b ≡ Ok slices
 unfolding slices_of
 few_enough b days last slices is l few runs =
     let n : length (all_slices b) ≡ length days = length-runs_from (change_days b) b.last ∙ sym (ap length is) in
-    let same : all_slices b ≡ slices = sym (runs ∙ ap (λ k. runs_from days k) l ∙ ap (λ ds. runs_from ds b.last) is) in
+    let same : all_slices b ≡ slices = sym (found b days last slices is l runs) in
     ap (λ c. cond c (Ok (all_slices b)) (Err (Slices (length (all_slices b))))) (le-leb (length (all_slices b)) 64 (omega (arith, n))) ∙ ap (λ s. Ok s) same

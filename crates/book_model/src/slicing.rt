@@ -1,7 +1,8 @@
 //! The slices of a book's term.
-ghost use Rattle.std.specs.Prelude.{◌≡◌, IfOk};
+ghost use Rattle.std.specs.Prelude.{◌≡◌, IfOk, All};
+ghost use Rattle.std.specs.List.{flat_map};
 ghost use Rattle.pb_base.specs.Answers.{Answers};
-ghost use Rattle.book_model.specs.Slices.{end_before, runs_from, slices_of};
+ghost use Rattle.book_model.specs.Slices.{end_before, runs_from, slices_of, days_in, days_of, IsSteady};
 
 use crate::book::Book;
 use crate::change_days::change_days;
@@ -47,9 +48,11 @@ impl SliceList {
     }
 }
 
-/// The slices of a book's term: on all days of a slice the same records are active. It is refused where there are more than 64.
+/// The slices of a book's term, in order of days: the longest runs of days on which the same records are active. They are refused where there are more than 64.
 pub fn slices(alloc: Global, book: &Book) -> Result<SliceList, Fail<LimitFault>>
-    ensures { Answers result (slices_of book.now) }
+    ensures value { Answers result (slices_of book.now) }
+    ensures partition { IfOk result (λ slices. flat_map days_in slices ≡ days_of book.now) }
+    ensures steady { IfOk result (λ slices. All (IsSteady book.now) slices) }
 {
     let term = book.term();
     let periods = periods_of(alloc, book)?;
