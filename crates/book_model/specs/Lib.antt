@@ -3,6 +3,8 @@ pub mod Contents
 pub mod ContentsCode
 pub mod Good
 pub mod Parts
+pub mod Slices
+pub mod DayLists
 pub mod Sound
 pub mod Book
 pub mod Groups

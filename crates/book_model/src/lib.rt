@@ -3,15 +3,19 @@
 
 mod activity;
 mod book;
+mod change_days;
 mod good;
 mod groups;
+mod periods;
 mod record;
+mod slicing;
 
 pub use activity::active;
 pub use book::{Book, BookParts};
 pub use good::{breaks, fires, is_good};
 pub use groups::VariantGroups;
 pub use record::{Construct, Module, Position, Slice, Supplement, Variant};
+pub use slicing::{LimitFault, SliceList, slices};
 
 #[cfg(test)]
 mod tests;

@@ -1,0 +1,4 @@
+pub mod FirstFiring
+pub mod Laws
+mod Steps
+mod Cases

@@ -1,0 +1,11 @@
+//! Completing an order: a book's supplementing rules add the codes that follow from what was ordered.
+#![tactic(auto)]
+
+mod completed;
+mod completer;
+mod firing;
+mod plain;
+
+pub use completed::{Added, AddedList, Completed};
+pub use completer::Completer;
+pub use plain::complete_plainly;
