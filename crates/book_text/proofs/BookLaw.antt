@@ -1,5 +1,5 @@
 -- Where the passes find no fault, the heading, the names and the records make a book that meets its condition.
-use Rattle.std.proofs.Common.{◌≡◌, ◌≤◌, ◌<◌, ◌++◌, ℕ, Bool, true, false, List, length, map, Option, Some, None, Result, Ok, Err, refl, sym, ap, ◌∙◌, subst, arith, if◌then◌else◌}
+use Rattle.std.proofs.Common.{◌≡◌, ◌≤◌, ◌++◌, ℕ, Bool, true, false, List, length, map, Option, Some, None, Result, Ok, Err, refl, sym, ap, ◌∙◌, subst, arith, if◌then◌else◌}
 use Rattle.std.specs.Prelude.{nat_lt, All}
 use Rattle.std.specs.List.{IsDistinct}
 use Rattle.std.proofs.lemmas.List.{length-map}
@@ -14,7 +14,7 @@ use Rattle.book_text.specs.Rows.{Row}
 use Rattle.book_text.specs.Fault.{and_then}
 use Rattle.book_text.specs.Fields.{field, is_width, name_in, day_in, term_in}
 use Rattle.book_text.specs.Kind.{kind_of}
-use Rattle.book_text.specs.Entry.{of_width, book_in, heading_of_kind, heading_of}
+use Rattle.book_text.specs.Entry.{book_in, heading_of_kind, heading_of}
 use Rattle.book_text.specs.FirstPass.{first_pass}
 use Rattle.book_text.specs.Records.{Records, book_with}
 use Rattle.book_text.specs.SecondPass.{second_pass}
@@ -24,7 +24,7 @@ use Rattle.book_text.specs.declared.fields.Days.{Days}
 use Rattle.book_text.specs.declared.names.Names.{Names}
 use Rattle.book_text.specs.declared.entry.Heading.{Heading}
 use Rattle.book_text.specs.declared.fault.BookKind.{BookKind}
-use Rattle.book_text.specs.declared.fault.BookKind.TheVariants.{FieldCount, BadDays, NoBookRecord}
+use Rattle.book_text.specs.declared.fault.BookKind.TheVariants.{FieldCount, BadDays}
 use Rattle.book_text.proofs.Faultless.{and_then-Ok}
 use Rattle.book_text.proofs.NamesLaw.{NamesFit, first_pass-fits}
 use Rattle.book_text.proofs.RecordsLaw.{RecordsFit, AreNamed, second_pass-fits, passes-named}
@@ -97,8 +97,8 @@ whole-book heading names r ordered fit fits named =
       positions_fit = subst (λ (n : ℕ). All (PositionFits n) r.positions) (sym modules) fits.positions;
       variants_fit = subst (λ (n : ℕ). All (VariantFits (length names.codes) n) r.variants) (sym positions) fits.variants;
       rule_ids_distinct =
-        subst (λ (ids : List (List ℕ)). IsDistinct same_name (ids ++ map (λ (c : Construct). c.id) r.constructs)) (sym named.supplements)
-        (subst (λ (ids : List (List ℕ)). IsDistinct same_name (names.supplements ++ ids)) (sym named.constructs) fit.rules.distinct);
+          subst (λ (ids : List (List ℕ)). IsDistinct same_name (ids ++ map (λ (c : Construct). c.id) r.constructs)) (sym named.supplements)
+          (subst (λ (ids : List (List ℕ)). IsDistinct same_name (names.supplements ++ ids)) (sym named.constructs) fit.rules.distinct);
       module_ids_distinct = subst (IsDistinct same_name) (sym named.modules) fit.modules.distinct;
       position_ids_distinct = subst (IsDistinct same_name) (sym named.positions) fit.positions.distinct;
       variant_ids_distinct = subst (IsDistinct same_name) (sym named.variants) fit.variants.distinct;

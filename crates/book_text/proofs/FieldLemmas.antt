@@ -1,5 +1,5 @@
 -- The field at a place, and the value of digits.
-use Rattle.std.proofs.Common.{◌≡◌, ◌≤◌, ◌<◌, ◌+◌, ◌*◌, ◌^◌, ◌-◌, ℕ, zero, suc, List, [], ◌∷◌, Some, None, get_or, drop, length, true, arith, refl}
+use Rattle.std.proofs.Common.{◌≡◌, ◌≤◌, ◌<◌, ◌^◌, ℕ, zero, suc, List, [], ◌∷◌, Some, None, get_or, arith, refl}
 use Rattle.csv.specs.Records.{field_at}
 
 pub field-found : (fields : List (List ℕ)) (place : ℕ) (text : List ℕ) → field_at fields place ≡ Some text → text ≡ get_or fields place []

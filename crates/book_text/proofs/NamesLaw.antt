@@ -1,11 +1,10 @@
 -- The names that the first pass gives without a fault are distinct and within their limits.
-use Rattle.std.proofs.Common.{◌≡◌, ◌≤◌, ◌<◌, ◌+◌, ℕ, Bool, true, false, List, [], ◌∷◌, ◌++◌, length, Result, Ok, Err, refl, sym, subst, arith, append_assoc, if◌then◌else◌}
+use Rattle.std.proofs.Common.{◌≡◌, ◌≤◌, ◌+◌, ℕ, Bool, true, false, List, [], ◌∷◌, ◌++◌, length, Result, Ok, Err, refl, sym, subst, arith, append_assoc, if◌then◌else◌}
 use Rattle.std.specs.Prelude.{is_some, nat_le}
-use Rattle.std.specs.List.{IsDistinct, AllByRecursion}
+use Rattle.std.specs.List.{IsDistinct}
 use Rattle.std.proofs.lemmas.List.{length_push}
 use Rattle.pb_base.specs.Names.{same_name, place_in}
 use Rattle.book_text.specs.Rows.{Row}
-use Rattle.book_text.specs.Fault.{and_then}
 use Rattle.book_text.specs.Entry.{entry_of}
 use Rattle.book_text.specs.Names.{no_names, added, added_beside, entered}
 use Rattle.book_text.specs.FirstPass.{entered_row, first_pass}
@@ -13,7 +12,6 @@ use Rattle.book_text.specs.declared.fields.Days.{Days}
 use Rattle.book_text.specs.declared.names.Names.{Names}
 use Rattle.book_text.specs.declared.entry.Entry.{Entry}
 use Rattle.book_text.specs.declared.entry.Entry.TheVariants as e
-use Rattle.book_text.specs.declared.fault.BookFault.{BookFault}
 use Rattle.book_text.specs.declared.fault.BookKind.{BookKind}
 use Rattle.book_text.specs.declared.fault.BookKind.TheVariants.{Duplicate, Limit}
 use Rattle.book_text.specs.declared.fault.Which.{Which}

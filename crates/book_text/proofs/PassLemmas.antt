@@ -22,7 +22,7 @@ module _ {S : Type 0} (step : S → Row → Result S BookKind) where
       → pass_rest k state rows ≡ pass step (k + 2) state (fields_of row ∷ map fields_of (drop (k + 1) rows))
   rest-at k state rows row h is =
       let whole : pass_rest k state rows ≡ pass step (k + 2) state (fields_of (get_or rows k row) ∷ map fields_of (drop (k + 1) rows)) =
-          at_drop_more (λ rs. pass step (k + 2) state (map fields_of rs)) rows k row h in
+      at_drop_more (λ rs. pass step (k + 2) state (map fields_of rs)) rows k row h in
       rw (← is) at whole
 
   pub pass-more : (k : ℕ) (state next : S) (rows : List Read) (row : Read) → k < length rows → row ≡ get_or rows k row

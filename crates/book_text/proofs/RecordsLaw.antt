@@ -1,11 +1,11 @@
 -- The records that the second pass gives without a fault refer to records of the book, and carry the ids of the first pass.
-use Rattle.std.proofs.Common.{◌≡◌, ◌≤◌, ◌<◌, ◌+◌, ◌==◌, ℕ, Bool, true, false, List, [], ◌∷◌, ◌++◌, length, map, Option, Some, None, Result, Ok, Err, refl, sym, ap, ◌∙◌, subst, arith, if◌then◌else◌}
+use Rattle.std.proofs.Common.{◌≡◌, ◌≤◌, ◌<◌, ◌+◌, ℕ, Bool, true, false, List, [], ◌∷◌, ◌++◌, length, map, Option, Some, None, Result, Ok, Err, refl, sym, ap, ◌∙◌, subst, arith, if◌then◌else◌}
 use Rattle.std.specs.Prelude.{nat_le, nat_eq, IfSome, All}
-use Rattle.std.proofs.lemmas.List.{map_push, length-map}
+use Rattle.std.proofs.lemmas.List.{map_push}
 use Rattle.std.proofs.lemmas.List.Elements.{All-push, All-nil}
 use Rattle.std.proofs.lemmas.List.Quantifiers.{position-Some}
 use Rattle.pb_base.specs.Names.{same_name, place_in}
-use Rattle.pb_base.specs.Rule.{Rule, codes_below, nodes}
+use Rattle.pb_base.specs.Rule.{Rule}
 use Rattle.rule_text.specs.Reading.{rule_of}
 use Rattle.rule_text.specs.declared.fault.RuleFault.{RuleFault}
 use Rattle.rule_text.proofs.Counts.{rule_of-codes, rule_of-nodes}
@@ -158,7 +158,9 @@ RecordsFit-resolved all r new (e.Variant id position part quantity days) row fit
     let fit = variant_of-Ok all id position part quantity days (field row 5) v is in
     let (room, more) = with_variant-Ok r.variants v variants joined in
     subst (RecordsFit all) same (record {
-      supplements = fits.supplements; constructs = fits.constructs; positions = fits.positions;
+      supplements = fits.supplements;
+      constructs = fits.constructs;
+      positions = fits.positions;
       variants = subst (All (VariantFits (length all.codes) (length all.positions))) (sym more) (All-push (VariantFits (length all.codes) (length all.positions)) r.variants v fits.variants fit.1);
       choices = subst HasFewChoices (sym more) (HasFewChoices-push r.variants v room fits.choices);
     })
@@ -208,9 +210,12 @@ AreNamed-row all n n' r r' (e.Supplement id rank code days) row named h g =
     let more = (added_beside-Ok n.constructs 5000 Supplements n.supplements id l is).1 in
     let id_of : Supplement → List ℕ = λ s. s.id in
     let start : AreNamed (record n { supplements = l }) (record r { supplements = r.supplements ++ s ∷ [] }) = record {
-          supplements = named-push id_of r.supplements s n.supplements l id named.supplements (supplement_of-Ok all.codes id rank code days (field row 4) s made).0 more.is;
-          constructs = named.constructs; modules = named.modules; positions = named.positions; variants = named.variants;
-        } in
+      supplements = named-push id_of r.supplements s n.supplements l id named.supplements (supplement_of-Ok all.codes id rank code days (field row 4) s made).0 more.is;
+      constructs = named.constructs;
+      modules = named.modules;
+      positions = named.positions;
+      variants = named.variants;
+    } in
     subst (AreNamed n') other (subst (λ (m : Names). AreNamed m (record r { supplements = r.supplements ++ s ∷ [] })) one start)
 AreNamed-row all n n' r r' (e.Construct id on days) row named h g =
     let (l, is, whole) = and_then-Ok (added_beside n.supplements 10000 Constructs n.constructs id) (λ l. Ok (record n { constructs = l })) n' h in
@@ -220,10 +225,12 @@ AreNamed-row all n n' r r' (e.Construct id on days) row named h g =
     let more = (added_beside-Ok n.supplements 10000 Constructs n.constructs id l is).1 in
     let id_of : Construct → List ℕ = λ c. c.id in
     let start : AreNamed (record n { constructs = l }) (record r { constructs = r.constructs ++ c ∷ [] }) = record {
-          supplements = named.supplements;
-          constructs = named-push id_of r.constructs c n.constructs l id named.constructs (construct_of-Ok all.codes id on days (field row 3) c made).0 more.is;
-          modules = named.modules; positions = named.positions; variants = named.variants;
-        } in
+      supplements = named.supplements;
+      constructs = named-push id_of r.constructs c n.constructs l id named.constructs (construct_of-Ok all.codes id on days (field row 3) c made).0 more.is;
+      modules = named.modules;
+      positions = named.positions;
+      variants = named.variants;
+    } in
     subst (AreNamed n') other (subst (λ (m : Names). AreNamed m (record r { constructs = r.constructs ++ c ∷ [] })) one start)
 AreNamed-row all n n' r r' (e.Module id) row named h g =
     let (l, is, whole) = and_then-Ok (added 1000 Modules n.modules id) (λ l. Ok (record n { modules = l })) n' h in
@@ -232,10 +239,12 @@ AreNamed-row all n n' r r' (e.Module id) row named h g =
     let other : record r { modules = r.modules ++ m ∷ [] } ≡ r' = cc in
     let id_of : Module → List ℕ = λ m. m.id in
     let start : AreNamed (record n { modules = l }) (record r { modules = r.modules ++ m ∷ [] }) = record {
-          supplements = named.supplements; constructs = named.constructs;
-          modules = named-push id_of r.modules m n.modules l id named.modules refl (added-Ok 1000 Modules n.modules id l is).is;
-          positions = named.positions; variants = named.variants;
-        } in
+      supplements = named.supplements;
+      constructs = named.constructs;
+      modules = named-push id_of r.modules m n.modules l id named.modules refl (added-Ok 1000 Modules n.modules id l is).is;
+      positions = named.positions;
+      variants = named.variants;
+    } in
     subst (AreNamed n') other (subst (λ (k : Names). AreNamed k (record r { modules = r.modules ++ m ∷ [] })) one start)
 AreNamed-row all n n' r r' (e.Position id group mandatory days) row named h g =
     let (l, is, whole) = and_then-Ok (added 5000 Positions n.positions id) (λ l. Ok (record n { positions = l })) n' h in
@@ -244,10 +253,12 @@ AreNamed-row all n n' r r' (e.Position id group mandatory days) row named h g =
     let other : record r { positions = r.positions ++ p ∷ [] } ≡ r' = cc in
     let id_of : Position → List ℕ = λ p. p.id in
     let start : AreNamed (record n { positions = l }) (record r { positions = r.positions ++ p ∷ [] }) = record {
-          supplements = named.supplements; constructs = named.constructs; modules = named.modules;
-          positions = named-push id_of r.positions p n.positions l id named.positions (position_of-Ok all.modules id group mandatory days p made).0 (added-Ok 5000 Positions n.positions id l is).is;
-          variants = named.variants;
-        } in
+      supplements = named.supplements;
+      constructs = named.constructs;
+      modules = named.modules;
+      positions = named-push id_of r.positions p n.positions l id named.positions (position_of-Ok all.modules id group mandatory days p made).0 (added-Ok 5000 Positions n.positions id l is).is;
+      variants = named.variants;
+    } in
     subst (AreNamed n') other (subst (λ (m : Names). AreNamed m (record r { positions = r.positions ++ p ∷ [] })) one start)
 AreNamed-row all n n' r r' (e.Variant id position part quantity days) row named h g =
     let (l, is, whole) = and_then-Ok (added 20000 Variants n.variants id) (λ l. Ok (record n { variants = l })) n' h in
@@ -258,9 +269,12 @@ AreNamed-row all n n' r r' (e.Variant id position part quantity days) row named 
     let id_of : Variant → List ℕ = λ v. v.id in
     let pushed = named-push id_of r.variants v n.variants l id named.variants (variant_of-Ok all id position part quantity days (field row 5) v made).0 (added-Ok 20000 Variants n.variants id l is).is in
     let start : AreNamed (record n { variants = l }) (record r { variants = variants }) = record {
-          supplements = named.supplements; constructs = named.constructs; modules = named.modules; positions = named.positions;
-          variants = subst (λ (vs : List Variant). map id_of vs ≡ l) (sym (with_variant-Ok r.variants v variants joined).1) pushed;
-        } in
+      supplements = named.supplements;
+      constructs = named.constructs;
+      modules = named.modules;
+      positions = named.positions;
+      variants = subst (λ (vs : List Variant). map id_of vs ≡ l) (sym (with_variant-Ok r.variants v variants joined).1) pushed;
+    } in
     subst (AreNamed n') other (subst (λ (m : Names). AreNamed m (record r { variants = variants })) one start)
 
 same-entry : (a b : Entry) (r : Result Entry BookKind) → r ≡ Ok a → r ≡ Ok b → a ≡ b
@@ -270,9 +284,9 @@ pub passes-named : (term : Days) (names : Names) (rows : List Row) (records : Re
 passes-named term names rows records h g =
     passes-keep (entered_row term) (resolved_row term names) AreNamed
     (λ n n' r r' row named entering resolving.
-        let (entry, read, here) = and_then-Ok (entry_of term row) (λ entry. entered n entry) n' entering in
-        let (again, read_again, there) = and_then-Ok (entry_of term row) (λ entry. resolved names r entry row) r' resolving in
-        let same = same-entry again entry (entry_of term row) read_again read in
-        AreNamed-row names n n' r r' entry row named here (subst (λ (x : Entry). resolved names r x row ≡ Ok r') same there))
+    let (entry, read, here) = and_then-Ok (entry_of term row) (λ entry. entered n entry) n' entering in
+    let (again, read_again, there) = and_then-Ok (entry_of term row) (λ entry. resolved names r entry row) r' resolving in
+    let same = same-entry again entry (entry_of term row) read_again read in
+    AreNamed-row names n n' r r' entry row named here (subst (λ (x : Entry). resolved names r x row ≡ Ok r') same there))
     2 no_names names no_records records rows
     (record { supplements = refl; constructs = refl; modules = refl; positions = refl; variants = refl }) h g

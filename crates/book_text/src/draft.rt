@@ -106,9 +106,7 @@ pub fn resolve(
             days,
         } => {
             let text = field(row, 5);
-            let record = variant_of(
-                alloc, names, *id, position, *part, *quantity, *days, text,
-            )?;
+            let record = variant_of(alloc, names, *id, position, *part, *quantity, *days, text)?;
             add_variant(&mut draft.variants, &mut draft.choices, record)
         }
     }

@@ -1,8 +1,8 @@
 //! The fields of a row, each read by its form.
-ghost use Rattle.std.specs.Prelude.{◌≡◌, ◌≤◌, ◌<◌, ◌^◌, slice_index_or, [], length, codes, true};
+ghost use Rattle.std.specs.Prelude.{◌≡◌, ◌≤◌, length, true};
 ghost use Rattle.std.specs.List.{list_all};
 ghost use Rattle.csv.specs.Records.{fields_of};
-ghost use Rattle.book_text.specs.Fields.{name_in, code_name_in, code_or_star_in, part_in, module_in, is_mandatory_in, is_digit, is_number, value_of, number_in, day_in, day_or, term_in, days_in, field, is_width, is_empty};
+ghost use Rattle.book_text.specs.Fields.{name_in, code_name_in, code_or_star_in, part_in, module_in, is_mandatory_in, is_digit, is_number, value_of, number_in, day_in, day_or, term_in, days_in, field, is_width};
 
 use crate::fault::BookKind;
 use csv::ByteRecord;

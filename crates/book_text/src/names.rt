@@ -1,5 +1,5 @@
 //! The names that the rows of a text give, each told apart from those before it.
-ghost use Rattle.std.specs.Prelude.{◌≡◌, ◌≤◌, ◌+◌, ◌<◌, ◌^◌, [], length};
+ghost use Rattle.std.specs.Prelude.{◌≡◌, ◌+◌, ◌<◌, ◌^◌};
 ghost use Rattle.book_text.specs.Fault.{Becomes};
 ghost use Rattle.book_text.specs.Names.{no_names, added, entered};
 

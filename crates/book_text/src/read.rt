@@ -1,5 +1,5 @@
 //! The book of a text.
-ghost use Rattle.std.specs.Prelude.{◌≡◌, ◌≤◌, ◌<◌, ◌^◌, Ok, IfOk, OnOk, length, map};
+ghost use Rattle.std.specs.Prelude.{◌≡◌, ◌≤◌, Ok, IfOk, length, map};
 ghost use Rattle.std.specs.Str.{is_utf8};
 ghost use Rattle.pb_base.specs.Answers.{Answers};
 ghost use Rattle.csv.specs.Records.{fields_of};
@@ -125,12 +125,7 @@ fn second_pass(
     Ok(draft)
 }
 
-fn whole_book(
-    alloc: Global,
-    heading: Heading,
-    names: Names,
-    draft: Draft,
-) -> Result<Book, Memory>
+fn whole_book(alloc: Global, heading: Heading, names: Names, draft: Draft) -> Result<Book, Memory>
     requires { IsBook (book_with heading names (records_of draft)) }
     ensures { IfOk result (λ book. book ≡ book_with heading names (records_of draft)) }
 {

@@ -23,11 +23,7 @@ pub struct Survey {
 }
 
 /// Reads the rows behind the heading, the first of which is row 2.
-pub fn first_pass(
-    alloc: Global,
-    term: Days,
-    rows: &[ByteRecord],
-) -> Result<Survey, Fail<BookFault>>
+pub fn first_pass(alloc: Global, term: Days, rows: &[ByteRecord]) -> Result<Survey, Fail<BookFault>>
     requires { length rows.now + 2 < 2 ^ 32 }
     ensures names { Gives result (λ s. s.names) (first_pass term (map fields_of rows.now)) }
     ensures entries { IfOk result (λ s. map Ok s.entries.items ≡ map (λ row. entry_of term (fields_of row)) rows.now) }

@@ -16,12 +16,18 @@ fn answer(rt: &impl Abort, alloc: Global, text: &[u8]) -> Result<Book, BookFault
 }
 
 // The rows differ in length, and names stand before their records.
-const PLAIN: &[u8] = b"book,S,1,9\ncode,A,a\nvariant,V,P,X1,002,A,,5\nposition,P,M,optional,2,\nsupplement,R,10,A,-A,,\nconstruct,C,*,A,,\nmodule,M,m\n";
+const PLAIN: &[u8] =
+    b"book,S,1,9\ncode,A,a\nvariant,V,P,X1,002,A,,5\nposition,P,M,optional,2,\nsupplement,R,10,A,-A,,\nconstruct,C,*,A,,\nmodule,M,m\n";
 
 // The same after a byte order mark and with CRLF, with quotes and an empty line, and padded to one width.
-const MARKED: &[u8] = b"\xef\xbb\xbfbook,S,1,9\r\ncode,A,a\r\nvariant,V,P,X1,002,A,,5\r\nposition,P,M,optional,2,\r\nsupplement,R,10,A,-A,,\r\nconstruct,C,*,A,,\r\nmodule,M,m\r\n";
-const QUOTED: &[u8] = b"\"book\",S,1,9\n\ncode,A,\"a, \"\"b\"\"\nc\"\nvariant,V,P,X1,002,\"A\",,5\nposition,P,M,optional,2,\nsupplement,R,10,A,-A,,\nconstruct,C,*,A,,\nmodule,M,m";
-const PADDED: &[u8] = b"book,S,1,9,,,,\ncode,A,a,,,,,\nvariant,V,P,X1,002,A,,5\nposition,P,M,optional,2,,,\nsupplement,R,10,A,-A,,,\nconstruct,C,*,A,,,,\nmodule,M,m,,,,,\n";
+const MARKED: &[u8] =
+    b"\xef\xbb\xbfbook,S,1,9\r\ncode,A,a\r\nvariant,V,P,X1,002,A,,5\r\nposition,P,M,optional,2,\r\nsupplement,R,10,A,-A,,\r\nconstruct,C,*,A,,\r\nmodule,M,m\r\n";
+
+const QUOTED: &[u8] =
+    b"\"book\",S,1,9\n\ncode,A,\"a, \"\"b\"\"\nc\"\nvariant,V,P,X1,002,\"A\",,5\nposition,P,M,optional,2,\nsupplement,R,10,A,-A,,\nconstruct,C,*,A,,\nmodule,M,m";
+
+const PADDED: &[u8] =
+    b"book,S,1,9,,,,\ncode,A,a,,,,,\nvariant,V,P,X1,002,A,,5\nposition,P,M,optional,2,,,\nsupplement,R,10,A,-A,,,\nconstruct,C,*,A,,,,\nmodule,M,m,,,,,\n";
 
 #[test]
 fn texts_of_one_book_read_alike(rt: HostRuntime) {
@@ -31,10 +37,16 @@ fn texts_of_one_book_read_alike(rt: HostRuntime) {
         assert_eq!(rt; book.codes().len(), 1);
         let term = book.term();
         assert!(rt; term.first == 1 && term.last == 9);
-        assert!(rt; matches!(book.supplements(), [s] if s.rank == 10 && s.code == 0 && s.from == 1 && s.until == 9));
+        assert!(rt;
+            matches!(book.supplements(), [s] if s.rank == 10 && s.code == 0 && s.from == 1 && s.until == 9)
+        );
         assert!(rt; matches!(book.constructs(), [c] if matches!(c.on, None)));
-        assert!(rt; matches!(book.positions(), [p] if matches!(p.module, Some(0)) && !p.mandatory && p.from == 2 && p.until == 9));
-        assert!(rt; matches!(book.variants(), [v] if v.position == 0 && v.quantity == 2 && v.until == 5));
+        assert!(rt;
+            matches!(book.positions(), [p] if matches!(p.module, Some(0)) && !p.mandatory && p.from == 2 && p.until == 9)
+        );
+        assert!(rt;
+            matches!(book.variants(), [v] if v.position == 0 && v.quantity == 2 && v.until == 5)
+        );
         assert_eq!(rt; book.modules().len(), 1);
     }
 }
@@ -51,12 +63,42 @@ fn first_faults(rt: HostRuntime) {
         (b"book,S,1,9\ncode,TRUE,a", 2, BookKind::BadName, 7),
         (b"book,S,0,9", 1, BookKind::BadNumber, 8),
         (b"book,S,9,1", 1, BookKind::BadDays, 9),
-        (b"book,S,1,9\ncode,A,\"a\nb\"\n\ncode,A,b", 3, BookKind::Duplicate, 10),
-        (b"book,S,1,9\ncode,A,a\nconstruct,R,*,A,,\nsupplement,R,1,A,A,,", 4, BookKind::Duplicate, 10),
-        (b"book,S,1,9\nvariant,V,P,X,1,A,,", 2, BookKind::UnknownName, 11),
-        (b"book,S,1,9\ncode,A,a\nconstruct,C,*,A+,,", 3, BookKind::BadRule(RuleFault::Expected(2)), 12),
-        (b"book,S,1,9\nconstruct,C,*,A+,,\ncode,a,a", 3, BookKind::BadName, 7),
-        (b"book,S,1,9\nconstruct,C,*,TRUE,,2\nconstruct,C2,*,TRUE,3,2", 3, BookKind::BadDays, 9),
+        (
+            b"book,S,1,9\ncode,A,\"a\nb\"\n\ncode,A,b",
+            3,
+            BookKind::Duplicate,
+            10,
+        ),
+        (
+            b"book,S,1,9\ncode,A,a\nconstruct,R,*,A,,\nsupplement,R,1,A,A,,",
+            4,
+            BookKind::Duplicate,
+            10,
+        ),
+        (
+            b"book,S,1,9\nvariant,V,P,X,1,A,,",
+            2,
+            BookKind::UnknownName,
+            11,
+        ),
+        (
+            b"book,S,1,9\ncode,A,a\nconstruct,C,*,A+,,",
+            3,
+            BookKind::BadRule(RuleFault::Expected(2)),
+            12,
+        ),
+        (
+            b"book,S,1,9\nconstruct,C,*,A+,,\ncode,a,a",
+            3,
+            BookKind::BadName,
+            7,
+        ),
+        (
+            b"book,S,1,9\nconstruct,C,*,TRUE,,2\nconstruct,C2,*,TRUE,3,2",
+            3,
+            BookKind::BadDays,
+            9,
+        ),
         (b"book,S,1,9\ncode,A,\xff", 0, BookKind::NotUtf8, 2),
     ];
     for (text, row, kind, number) in rows {

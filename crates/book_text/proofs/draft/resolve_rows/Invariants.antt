@@ -12,6 +12,6 @@ abbrev pub invariant-loop-k : goal.invariant-loop-k
 invariant-loop-k l = record {
   rest : (term : Days) → map Ok l.entries ≡ map (λ row. entry_of term (fields_of row)) l.rows
       → pass (resolved_row term l.names) (l.k + 2) (records_of l.draft) (map fields_of (drop l.k l.rows))
-        ≡ pass (resolved_row term l.names) 2 (records_of l.fn.draft) (map fields_of l.rows);
+      ≡ pass (resolved_row term l.names) 2 (records_of l.fn.draft) (map fields_of l.rows);
   counted : IsCounted (length l.names.positions) l.draft;
 }

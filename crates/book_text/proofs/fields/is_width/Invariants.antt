@@ -1,4 +1,4 @@
-use Rattle.std.proofs.Common.{◌≡◌, drop, true}
+use Rattle.std.proofs.Common.{◌≡◌, drop}
 use Rattle.std.specs.List.{list_all}
 use Rattle.csv.specs.Records.{fields_of}
 use Rattle.book_text.specs.Fields.{is_empty}
