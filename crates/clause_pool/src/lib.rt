@@ -1,0 +1,2 @@
+//! Clauses.
+#![tactic(auto)]
