@@ -1,2 +1,3 @@
 pub mod LiteralLaws
 pub mod ClauseLaws
+mod RegionLaws

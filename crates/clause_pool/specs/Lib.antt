@@ -1,2 +1,4 @@
 pub mod Literal
 pub mod Clause
+pub mod Region
+pub mod Contents
