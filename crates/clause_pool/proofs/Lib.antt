@@ -1,3 +1,4 @@
 pub mod LiteralLaws
 pub mod ClauseLaws
 mod RegionLaws
+mod SortLaws

@@ -1,7 +1,7 @@
 -- What holds of lists that lie one after another.
 use Rattle.std.proofs.Common.{◌≡◌, ℕ, zero, suc, ◌+◌, ◌-◌, ◌<◌, ◌≤◌, List, [], ◌∷◌, ◌++◌, length, get_or, take, drop, refl, sym, ap, subst, ◌∙◌, arith, rules, length-append, length-take, append-nil, add-one}
 use Rattle.std.specs.List.{slice_range, AllByRecursion}
-use Rattle.std.proofs.lemmas.List.{take-append-le, drop-append-le, drop_at, take_all, length-drop, take-take, drop-take, length-take-le}
+use Rattle.std.proofs.lemmas.List.{take-append-le, drop-append-le, drop_at, take_all, length-drop, take-take, drop-take, length-take-le, get_or_read}
 use Rattle.clause_pool.specs.Region.{first_or, region, IsRegion}
 
 first_or-append : (ss : List ℕ) (n m : ℕ) → first_or (ss ++ n ∷ []) m ≡ first_or ss n
@@ -89,3 +89,60 @@ module _ {X : Type 0} where
   IsRegion_appended starts more_starts items more_items list n h len es ei =
       subst (λ (ss : List ℕ). IsRegion ss (length more_items)) (sym (es ∙ ap (λ (k : ℕ). starts ++ k ∷ []) len))
       (IsRegion_append starts (length items) (length more_items) h (omega (arith, ap length ei, length-append items list)))
+
+-- the first start is not past a later one
+first_below : (ss : List ℕ) (n m : ℕ) → IsRegion ss n → m < length ss → first_or ss n ≤ get_or ss m 0
+first_below [] n m h k = absurd (omega arith)
+first_below (s ∷ ss) n zero h k = omega arith
+first_below (s ∷ []) n (suc m) h k = absurd (omega arith)
+first_below (s ∷ t ∷ ss) n (suc m) h k = let rest = first_below (t ∷ ss) n m h.1 (omega arith) in omega (arith, h.0)
+
+-- where the list before a cut ends
+first_or_take : (ss : List ℕ) (n m : ℕ) → m < length ss → first_or (take m ss) (get_or ss m 0) ≡ first_or ss n
+first_or_take [] n m k = absurd (omega arith)
+first_or_take (s ∷ ss) n zero k = refl
+first_or_take (s ∷ ss) n (suc m) k = refl
+
+pub IsRegion_take : (starts : List ℕ) (n m : ℕ) → IsRegion starts n → m < length starts → IsRegion (take m starts) (get_or starts m 0)
+IsRegion_take [] n m h k = absurd (omega arith)
+IsRegion_take (s ∷ ss) n zero h k = tt
+IsRegion_take (s ∷ ss) n (suc m) h k =
+    (subst (λ (e : ℕ). s ≤ e) (sym (first_or_take ss n m (omega arith))) h.0, IsRegion_take ss n m h.1 (omega arith))
+
+module _ {X : Type 0} where
+  -- what lies before a cut does not see it
+  range_take : (items : List X) (s e cut : ℕ) → s ≤ e → e ≤ cut → slice_range (take cut items) s e ≡ slice_range items s e
+  range_take items s e cut below within =
+      let split : cut ≡ s + (cut - s) = omega arith in
+      ap (λ (n : ℕ). take (e - s) (drop s (take n items))) split
+      ∙ ap (take (e - s)) (drop-take s (cut - s) items)
+      ∙ take-take (e - s) (cut - s) (drop s items) (omega arith)
+
+  -- the first lists alone, of the items before the next start
+  pub region_take : (starts : List ℕ) (items : List X) (m : ℕ) → IsRegion starts (length items) → m < length starts → region (take m starts) (take (get_or starts m 0) items) ≡ take m (region starts items)
+  region_take [] items m h k = absurd (omega arith)
+  region_take (s ∷ ss) items zero h k = refl
+  region_take (s ∷ ss) items (suc m) h k =
+      let cut : ℕ = get_or ss m 0 in
+      let len : length (take cut items) ≡ cut = length-take-le cut items (start_within ss (length items) m h.1 (omega arith)) in
+      let end : first_or (take m ss) (length (take cut items)) ≡ first_or ss (length items) =
+          ap (first_or (take m ss)) len ∙ first_or_take ss (length items) m (omega arith) in
+      let same : slice_range (take cut items) s (first_or (take m ss) (length (take cut items))) ≡ slice_range items s (first_or ss (length items)) =
+          ap (slice_range (take cut items) s) end
+          ∙ range_take items s (first_or ss (length items)) cut h.0 (first_below ss (length items) m h.1 (omega arith)) in
+      ap (λ (c : List X). c ∷ region (take m ss) (take cut items)) same
+      ∙ ap (λ (cs : List (List X)). slice_range items s (first_or ss (length items)) ∷ cs) (region_take ss items m h.1 (omega arith))
+
+  -- the same of lists that are known by equations
+  pub region_cut : (starts fewer : List ℕ) (items rest : List X) (m start : ℕ) → IsRegion starts (length items) → m < length starts → start ≡ get_or starts m start → fewer ≡ take m starts → rest ≡ take start items → region fewer rest ≡ take m (region starts items)
+  region_cut starts fewer items rest m start h k read ef er =
+      let at : start ≡ get_or starts m 0 = get_or_read starts m start k read 0 in
+      ap (λ (ss : List ℕ). region ss rest) ef ∙ ap (region (take m starts)) (er ∙ ap (λ (n : ℕ). take n items) at) ∙ region_take starts items m h k
+
+  pub IsRegion_cut : (starts fewer : List ℕ) (items rest : List X) (m start : ℕ) → IsRegion starts (length items) → m < length starts → start ≡ get_or starts m start → fewer ≡ take m starts → rest ≡ take start items → IsRegion fewer (length rest)
+  IsRegion_cut starts fewer items rest m start h k read ef er =
+      let at : start ≡ get_or starts m 0 = get_or_read starts m start k read 0 in
+      let len : length rest ≡ get_or starts m 0 =
+          ap length (er ∙ ap (λ (n : ℕ). take n items) at) ∙ length-take-le (get_or starts m 0) items (start_within starts (length items) m h k) in
+      subst (λ (ss : List ℕ). IsRegion ss (length rest)) (sym ef)
+      (subst (λ (n : ℕ). IsRegion (take m starts) n) (sym len) (IsRegion_take starts (length items) m h k))

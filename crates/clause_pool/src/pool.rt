@@ -68,6 +68,7 @@ impl Pool {
     }
 
     /// The number of clauses.
+    #[tactic(auto, using(crate::proofs::RegionLaws::length_region))]
     pub fn len(&self) -> usize
         ensures { result ≡ length self.now.clauses }
     {
@@ -75,6 +76,7 @@ impl Pool {
     }
 
     /// The literals of the clause at this place.
+    #[tactic(auto, using(crate::proofs::RegionLaws::length_region))]
     pub fn lits(&self, at: Ref) -> &[Lit]
         requires { at < length self.now.clauses }
         ensures clause { result.now ≡ slice_index_or self.now.clauses at [] }
