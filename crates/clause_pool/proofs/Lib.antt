@@ -2,3 +2,4 @@ pub mod LiteralLaws
 pub mod ClauseLaws
 mod RegionLaws
 mod SortLaws
+mod MergeLaws

@@ -2,3 +2,5 @@ pub mod Literal
 pub mod Clause
 pub mod Region
 pub mod Contents
+pub mod Chain
+pub mod Run

@@ -1,9 +1,12 @@
 //! Clauses.
 #![tactic(auto)]
 
+mod chain;
 mod lit;
+mod merge;
 mod pool;
 mod region;
 
+pub use chain::{Pair, StepFault};
 pub use lit::Lit;
 pub use pool::{Mark, Pool, Ref};
