@@ -1,5 +1,6 @@
 pub mod LiteralLaws
 pub mod ClauseLaws
+pub mod ChainLaws
 mod RegionLaws
 mod SortLaws
 mod MergeLaws

@@ -2,7 +2,6 @@
 use Rattle.std.proofs.Common.{◌≡◌, ◌≢◌, ℕ, zero, suc, ◌+◌, ◌-◌, ◌<◌, ◌≤◌, Bool, true, false, not, ◌&&◌, ◌||◌, cond, eqb, List, [], ◌∷◌, ◌++◌, length, get_or, take, drop, refl, sym, ap, subst, ◌∙◌, arith, ◌⊎◌, inl, inr}
 use Rattle.std.specs.List.{list_any, filter, AllByRecursion}
 use Rattle.std.specs.Ordering.{nat_cmp, is_lt}
-use Rattle.std.specs.Prelude.{Result, Ok, Err, OnOk}
 use Rattle.std.specs.declared.cmp.Ordering.{Ordering}
 use Rattle.std.specs.declared.cmp.Ordering.TheVariants.{Less, Equal, Greater}
 use Rattle.std.proofs.lemmas.Map.Keys.{ge_from_not_lt}
@@ -257,7 +256,3 @@ pub merged_other : (running other : List ℕ) (l i j left_out : ℕ) (out more a
 merged_other running other l i j left_out out more all ro done e m is =
     is ∙ ap (λ (c : List ℕ). out ++ without left_out c) (take_rest other j) ∙ ap (λ (n : ℕ). out ++ without n (drop j other)) e
     ∙ ap (λ (c : List ℕ). out ++ c) (sym (rest_of_other running other l i j ro done)) ∙ m.so_far
-
-pub OnOk_more : {T E : Type 0} (r : Result T E) (P Q : Type 0) → (P → Q) → OnOk r P → OnOk r Q
-OnOk_more (Ok x) P Q f h = f h
-OnOk_more (Err e) P Q f h = tt

@@ -4,3 +4,5 @@ pub mod Region
 pub mod Contents
 pub mod Chain
 pub mod Run
+pub mod Steps
+pub mod Derivation

@@ -1,9 +1,10 @@
-use Rattle.clause_pool.proofs.MergeLaws.{merging_left, merging_right, merging_both, merged_running, merged_other, OnOk_more}
+use Rattle.std.proofs.lemmas.Result.{on_ok_weaker}
+use Rattle.clause_pool.proofs.MergeLaws.{merging_left, merging_right, merging_both, merged_running, merged_other}
 use Rattle.clause_pool.proofs.merge.resolve_into.Goals as goal
 
 pub returns-then-j-other : goal.returns-then-j-other
 returns-then-j-other c =
-    OnOk_more c.keep.result _ _
+    on_ok_weaker c.keep.result
     (merged_running _ _ _ _ _ _ _ _ c.requires.running_rises c.if-j-other.true c.loop-i.invariant) c.keep.ensures
 
 pub loop-i-preserved-then-lt : goal.loop-i-preserved-then-lt
@@ -23,5 +24,5 @@ loop-i-preserved c =
 
 pub returns : goal.returns
 returns c =
-    OnOk_more c.keep-2.result _ _
+    on_ok_weaker c.keep-2.result
     (merged_other _ _ _ _ _ _ _ _ _ c.requires.other_rises c.loop-i-test.false c.not-complement.ensures c.loop-i.invariant) c.keep-2.ensures
