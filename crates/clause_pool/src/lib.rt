@@ -6,6 +6,8 @@ mod lit;
 mod merge;
 mod pool;
 mod region;
+mod run;
+mod steps;
 
 pub use chain::{Pair, StepFault};
 pub use lit::Lit;
