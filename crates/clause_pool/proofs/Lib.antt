@@ -4,3 +4,4 @@ pub mod ChainLaws
 mod RegionLaws
 mod SortLaws
 mod MergeLaws
+mod RunLaws

@@ -2,6 +2,7 @@
 #![tactic(auto)]
 
 mod chain;
+mod kernel;
 mod lit;
 mod merge;
 mod pool;
@@ -10,5 +11,6 @@ mod run;
 mod steps;
 
 pub use chain::{Pair, StepFault};
+pub use kernel::Kernel;
 pub use lit::Lit;
 pub use pool::{Mark, Pool, Ref};

@@ -43,7 +43,9 @@ pub(crate) fn run_chain(pool: &Pool, start: Ref, pairs: &[Pair], running: &mut V
     running.clear();
     running.extend_from_slice(pool.lits(start))?;
     for (k, pair) in pairs.iter().enumerate() {
-        step(pool, k + 1, *pair, running, next)?;
+        if let Err(fault) = step(pool, k + 1, *pair, running, next) {
+            return Err(fault);
+        }
         std::mem::swap(running, next);
     }
     Ok(())
