@@ -1,7 +1,7 @@
 -- What holds of resolution: a resolvent is a clause, and it follows.
 use Rattle.std.proofs.Common.{◌≡◌, ℕ, zero, suc, ◌+◌, ◌-◌, ◌<◌, ◌≤◌, Bool, true, false, not, ◌&&◌, ◌||◌, cond, eqb, List, [], ◌∷◌, ◌++◌, length, get_or, take, drop, Option, Some, None, Result, Ok, Err, refl, sym, ap, subst, ◌∙◌, arith, ◌⊎◌, inl, inr, add-one}
 use Rattle.std.specs.List.{AllByRecursion, slice_get}
-use Rattle.std.proofs.lemmas.Bool.{cases_Bool, cases_eq, false≢true, or_left, or_right}
+use Rattle.std.proofs.lemmas.Bool.{cases_Bool, cases_eq, false≢true, or_left, or_right, and_from, cond-true}
 use Rattle.std.proofs.lemmas.List.{take_more, take_all, append_assoc}
 use Rattle.std.proofs.lemmas.Option.{slice_get-get_or}
 use Rattle.clause_pool.specs.Literal.{complement, is_true}
@@ -12,6 +12,11 @@ use Rattle.clause_pool.specs.declared.chain.Pair.{Pair}
 use Rattle.clause_pool.specs.declared.chain.StepFault.{StepFault}
 use Rattle.clause_pool.proofs.LiteralLaws.{is_true-complement}
 use Rattle.clause_pool.proofs.ClauseLaws.{IsRising-clause_of, clause_true-clause_of, clause_true-append, clause_true-subset, has-without_other, has-append, has-clause_of, all_push, all_at}
+
+-- a fault stays the answer of the chain
+pub chain_from-fault : (clauses : List (List ℕ)) (place : ℕ) (pairs : List Pair) (fault : StepFault) → chain_from clauses place pairs (Err fault) ≡ Err fault
+chain_from-fault clauses place [] fault = refl
+chain_from-fault clauses place (p ∷ ps) fault = refl
 
 pub IsRising-resolved : (running : List ℕ) (lit : ℕ) (other : List ℕ) → IsRising (resolved running lit other)
 IsRising-resolved running lit other = IsRising-clause_of (without lit running ++ without (complement lit) other)
@@ -109,3 +114,27 @@ derived_follow k d =
     let counted = d.clauses_counted in
     subst (λ (cs : List (List ℕ)). AllByRecursion (Follows (take k.given k.clauses)) cs)
     (take_all (k.given + length k.starts) k.clauses (omega arith)) (first_follow k d (length k.starts) (omega arith))
+
+-- the pairs of a chain are applied one part after another
+pub chain_from-append : (clauses : List (List ℕ)) (place : ℕ) (first second : List Pair) (before : Result (List ℕ) StepFault) → chain_from clauses place (first ++ second) before ≡ chain_from clauses (place + length first) second (chain_from clauses place first before)
+chain_from-append clauses place [] second before = ap (λ (n : ℕ). chain_from clauses n second before) (let e : place ≡ place + 0 = omega arith in e)
+chain_from-append clauses place (p ∷ ps) second (Err fault) = sym (chain_from-fault clauses (place + suc (length ps)) second fault)
+chain_from-append clauses place (p ∷ ps) second (Ok running) =
+    chain_from-append clauses (place + 1) ps second (step_on running place p.lit (slice_get clauses p.with))
+    ∙ ap (λ (n : ℕ). chain_from clauses n second (chain_from clauses (place + 1) ps (step_on running place p.lit (slice_get clauses p.with))))
+      (let e : place + 1 + length ps ≡ place + suc (length ps) = omega arith in e)
+
+-- one more pair at the end of a chain
+pub chain-push : (clauses : List (List ℕ)) (start : ℕ) (pairs : List Pair) (pair : Pair) (running : List ℕ) → chain clauses start pairs ≡ Ok running → chain clauses start (pairs ++ pair ∷ []) ≡ step_on running (1 + length pairs) pair.lit (slice_get clauses pair.with)
+chain-push clauses start pairs pair running h =
+    chain_from-append clauses 1 pairs (pair ∷ []) (started (slice_get clauses start))
+    ∙ ap (chain_from clauses (1 + length pairs) (pair ∷ [])) h
+
+-- a pair that is right makes the resolvent
+pub step_on-resolved : (running : List ℕ) (place lit : ℕ) (other : List ℕ) → has running lit ≡ true → has other (complement lit) ≡ true → step_on running place lit (Some other) ≡ Ok (resolved running lit other)
+step_on-resolved running place lit other h k = cond-true _ _ _ (and_from (has running lit) (has other (complement lit)) h k)
+
+-- a resolvent has no literal but those of the two clauses, without the pivot
+pub has-resolved : (running : List ℕ) (lit : ℕ) (other : List ℕ) (l : ℕ) → has (resolved running lit other) l ≡ (has (without lit running) l || has (without (complement lit) other) l)
+has-resolved running lit other l =
+    has-clause_of (without lit running ++ without (complement lit) other) l ∙ has-append (without lit running) (without (complement lit) other) l

@@ -81,3 +81,18 @@ complement-below l vars h =
         inl e ↦ omega (arith, complement-even l e)
       | inr e ↦ omega (arith, complement-odd l e)
     ]
+
+-- a literal is that of its variable and its sign
+pub literal-of_parts : (l : ℕ) → literal (l / 2) (eqb (l % 2) 0) ≡ l
+literal-of_parts l =
+    elim (even_or_odd l) [
+        inl h ↦ ap (literal (l / 2)) (eq-eqb (l % 2) 0 h) ∙ omega arith
+      | inr h ↦ ap (literal (l / 2)) (ne_eqb (l % 2) 0 (is_odd l h)) ∙ omega arith
+    ]
+
+-- one of a literal and its complement is true
+pub is_true-other : (a : ℕ → Bool) (l : ℕ) → is_true a (complement l) ≡ false → is_true a l ≡ true
+is_true-other a l h = go (is_true a l) (sym (is_true-complement a l) ∙ h) where
+  go : (b : Bool) → not b ≡ false → b ≡ true
+  go true e = refl
+  go false e = sym e

@@ -10,6 +10,7 @@ use Rattle.clause_pool.specs.Chain.{resolved, step_on, chain_from, started, chai
 use Rattle.clause_pool.specs.declared.chain.Pair.{Pair}
 use Rattle.clause_pool.specs.declared.chain.StepFault.{StepFault}
 use Rattle.clause_pool.specs.declared.chain.StepFault.TheVariants.{NoSuchStep, NoPivot}
+use Rattle.clause_pool.proofs.ChainLaws.{chain_from-fault}
 use Rattle.clause_pool.specs.Run.{Leaves}
 use Rattle.pb_base.specs.declared.answer.Fail.{Fail}
 use Rattle.pb_base.specs.declared.answer.Fail.TheVariants.{Refused, Memory}
@@ -30,15 +31,10 @@ module _ (running : List ℕ) (clauses : List (List ℕ)) (place lit with' : ℕ
       ap (step_on running place lit) there
       ∙ cond-true _ _ _ (and_from (has running lit) (has other (complement lit)) here (ap (has other) (sym is_complement) ∙ its))
 
--- a fault stays the answer of the chain
-pub chain_from_fault : (clauses : List (List ℕ)) (place : ℕ) (pairs : List Pair) (fault : StepFault) → chain_from clauses place pairs (Err fault) ≡ Err fault
-chain_from_fault clauses place [] fault = refl
-chain_from_fault clauses place (p ∷ ps) fault = refl
-
 pub chain_unstarted : (clauses : List (List ℕ)) (start : ℕ) (pairs : List Pair) → length clauses ≤ start → chain clauses start pairs ≡ Err (NoSuchStep 0)
 chain_unstarted clauses start pairs h =
     ap (λ (found : Option (List ℕ)). chain_from clauses 1 pairs (started found)) (slice_get_past clauses start h)
-    ∙ chain_from_fault clauses 1 pairs (NoSuchStep 0)
+    ∙ chain_from-fault clauses 1 pairs (NoSuchStep 0)
 
 -- the running clause after the first pairs, with the pairs to come, gives the answer of the chain
 pub record IsRunning (clauses : List (List ℕ)) (start : ℕ) (pairs : List Pair) (done : ℕ) (running : List ℕ) : Type 0 where
@@ -71,7 +67,7 @@ module _ (clauses : List (List ℕ)) (start : ℕ) (pairs : List Pair) (done : �
   pub running_refused : (fault : StepFault) → step_on running (done + 1) pair.lit (slice_get clauses pair.with) ≡ Err fault → chain clauses start pairs ≡ Err fault
   running_refused fault made =
       sym at_pair ∙ ap (chain_from clauses (done + 1 + 1) (drop (done + 1) pairs)) made
-      ∙ chain_from_fault clauses (done + 1 + 1) (drop (done + 1) pairs) fault
+      ∙ chain_from-fault clauses (done + 1 + 1) (drop (done + 1) pairs) fault
 
 pub running_ends : (clauses : List (List ℕ)) (start : ℕ) (pairs : List Pair) (done : ℕ) (running : List ℕ) → IsRunning clauses start pairs done running → length pairs ≤ done → chain clauses start pairs ≡ Ok running
 running_ends clauses start pairs done running m h =

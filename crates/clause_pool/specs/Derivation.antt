@@ -39,6 +39,8 @@ placed (Err fault) place = Err fault
 pub record IsDerived (k : Derivation) : Type 0 where
   pub clauses_counted : k.given + length k.starts ≡ length k.clauses
   pub pairs_counted : length k.pairs ≡ length k.starts
+  -- a chain has at least one pair
+  pub pairs_there : (n : ℕ) → n < length k.starts → 0 < length (slice_index_or k.pairs n [])
   pub resolvents : (n : ℕ) → n < length k.starts → chain (take (k.given + n) k.clauses) (slice_index k.starts n) (slice_index_or k.pairs n []) ≡ Ok (slice_index_or k.clauses (k.given + n) [])
 
 -- every clause follows from the given ones

@@ -82,6 +82,7 @@ impl Kernel {
         requires { at < length self.now.clauses }
         ensures given { at < self.now.given → result.now ≡ [] }
         ensures derived { self.now.given ≤ at → result.now ≡ slice_index_or self.now.pairs (at - self.now.given) [] }
+        ensures some { self.now.given ≤ at → 0 < length result.now }
         // The chain is over the clauses before this one, and this one is its resolvent.
         ensures resolvent { self.now.given ≤ at → chain (take at self.now.clauses) (slice_index self.now.starts (at - self.now.given)) result.now ≡ Ok (slice_index_or self.now.clauses at []) }
     {

@@ -1,5 +1,5 @@
 //! Literals.
-ghost use Rattle.std.specs.Prelude.{◌≡◌, ◌/◌, ◌%◌, ◌==◌};
+ghost use Rattle.std.specs.Prelude.{◌≡◌, ◌/◌, ◌%◌, ◌<◌, ◌^◌, ◌==◌};
 ghost use Rattle.clause_pool.specs.Literal.{complement, literal};
 
 use std::marker::Model;
@@ -46,6 +46,14 @@ impl Lit {
         ensures { result ≡ (self % 2 == 0) }
     {
         self.code % 2 == 0
+    }
+
+    /// The code of the literal: twice the variable, plus one if it is negative. Tables by literal are indexed by it.
+    pub fn code(self) -> u64
+        ensures code { result ≡ self }
+        ensures below { result < 2 ^ 33 }
+    {
+        self.code
     }
 
     /// The other literal of the same variable.
