@@ -33,12 +33,12 @@ clause_true-resolved a running lit other hr ho =
     clause_true-clause_of a (without lit running ++ without (complement lit) other)
     ∙ clause_true-append a (without lit running) (without (complement lit) other)
     ∙ elim (cases_Bool (is_true a lit)) [
-        inl t ↦
-        or_right (clause_true a (without lit running)) (clause_true a (without (complement lit) other))
-        (without_false a (complement lit) other (is_true-complement a lit ∙ ap not t) ho)
+      | inl t ↦
+          or_right (clause_true a (without lit running)) (clause_true a (without (complement lit) other))
+          (without_false a (complement lit) other (is_true-complement a lit ∙ ap not t) ho)
       | inr f ↦
-        or_left (clause_true a (without lit running)) (clause_true a (without (complement lit) other))
-        (without_false a lit running f hr)
+          or_left (clause_true a (without lit running)) (clause_true a (without (complement lit) other))
+          (without_false a lit running f hr)
     ]
 
 -- a satisfied list makes each of its clauses true
@@ -101,12 +101,12 @@ first_follow k d (suc n) h =
     let c : List ℕ = get_or k.clauses (k.given + n) [] in
     let more : take (k.given + n + 1) k.clauses ≡ take (k.given + n) k.clauses ++ c ∷ [] = take_more k.clauses (k.given + n) [] (omega arith) in
     let follows : Follows (take k.given k.clauses) c =
-        Follows-cut (take k.given k.clauses) (take (k.given + n) k.clauses) c before
-        (Follows-chain (take (k.given + n) k.clauses) (get_or k.starts n 0) (get_or k.pairs n []) c (d.resolvents n (omega arith))) in
+    Follows-cut (take k.given k.clauses) (take (k.given + n) k.clauses) c before
+    (Follows-chain (take (k.given + n) k.clauses) (get_or k.starts n 0) (get_or k.pairs n []) c (d.resolvents n (omega arith))) in
     let place : k.given + n + 1 ≡ k.given + suc n = omega arith in
     subst (λ (m : ℕ). AllByRecursion (Follows (take k.given k.clauses)) (take m k.clauses)) place
     (subst (λ (cs : List (List ℕ)). AllByRecursion (Follows (take k.given k.clauses)) cs) (sym more)
-      (all_push (Follows (take k.given k.clauses)) (take (k.given + n) k.clauses) c before follows))
+    (all_push (Follows (take k.given k.clauses)) (take (k.given + n) k.clauses) c before follows))
 
 -- every clause of a kernel follows from its given ones
 pub derived_follow : (k : Derivation) → IsDerived k → AllFollow k
@@ -122,7 +122,7 @@ chain_from-append clauses place (p ∷ ps) second (Err fault) = sym (chain_from-
 chain_from-append clauses place (p ∷ ps) second (Ok running) =
     chain_from-append clauses (place + 1) ps second (step_on running place p.lit (slice_get clauses p.with))
     ∙ ap (λ (n : ℕ). chain_from clauses n second (chain_from clauses (place + 1) ps (step_on running place p.lit (slice_get clauses p.with))))
-      (let e : place + 1 + length ps ≡ place + suc (length ps) = omega arith in e)
+    (let e : place + 1 + length ps ≡ place + suc (length ps) = omega arith in e)
 
 -- one more pair at the end of a chain
 pub chain-push : (clauses : List (List ℕ)) (start : ℕ) (pairs : List Pair) (pair : Pair) (running : List ℕ) → chain clauses start pairs ≡ Ok running → chain clauses start (pairs ++ pair ∷ []) ≡ step_on running (1 + length pairs) pair.lit (slice_get clauses pair.with)

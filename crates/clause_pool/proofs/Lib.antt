@@ -5,3 +5,4 @@ mod RegionLaws
 mod SortLaws
 mod MergeLaws
 mod RunLaws
+mod WorkedCases

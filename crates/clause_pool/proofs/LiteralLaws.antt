@@ -39,21 +39,21 @@ is_true-negative a v = is_true-odd a (2 * v + 1) (omega arith) ∙ ap (λ n. not
 pub complement-half : (l : ℕ) → complement l / 2 ≡ l / 2
 complement-half l =
     elim (even_or_odd l) [
-        inl h ↦ ap (λ n. n / 2) (complement-even l h) ∙ omega arith
+      | inl h ↦ ap (λ n. n / 2) (complement-even l h) ∙ omega arith
       | inr h ↦ ap (λ n. n / 2) (complement-odd l h) ∙ omega arith
     ]
 
 pub complement-complement : (l : ℕ) → complement (complement l) ≡ l
 complement-complement l =
     elim (even_or_odd l) [
-        inl h ↦ ap complement (complement-even l h) ∙ complement-odd (l + 1) (omega arith) ∙ omega arith
+      | inl h ↦ ap complement (complement-even l h) ∙ complement-odd (l + 1) (omega arith) ∙ omega arith
       | inr h ↦ ap complement (complement-odd l h) ∙ complement-even (l - 1) (omega arith) ∙ omega arith
     ]
 
 pub complement-other : (l : ℕ) → complement l ≢ l
 complement-other l =
     elim (even_or_odd l) [
-        inl h ↦ λ e. absurd (omega (arith, complement-even l h))
+      | inl h ↦ λ e. absurd (omega (arith, complement-even l h))
       | inr h ↦ λ e. absurd (omega (arith, complement-odd l h))
     ]
 
@@ -65,20 +65,20 @@ not-not false = refl
 pub is_true-complement : (a : ℕ → Bool) (l : ℕ) → is_true a (complement l) ≡ not (is_true a l)
 is_true-complement a l =
     elim (even_or_odd l) [
-        inl h ↦
-        ap (is_true a) (complement-even l h) ∙ is_true-odd a (l + 1) (omega arith)
-        ∙ ap (λ n. not (a n)) (let e : (l + 1) / 2 ≡ l / 2 = omega arith in e) ∙ ap not (sym (is_true-even a l h))
+      | inl h ↦
+          ap (is_true a) (complement-even l h) ∙ is_true-odd a (l + 1) (omega arith)
+          ∙ ap (λ n. not (a n)) (let e : (l + 1) / 2 ≡ l / 2 = omega arith in e) ∙ ap not (sym (is_true-even a l h))
       | inr h ↦
-        ap (is_true a) (complement-odd l h) ∙ is_true-even a (l - 1) (omega arith)
-        ∙ ap a (let e : (l - 1) / 2 ≡ l / 2 = omega arith in e) ∙ sym (not-not (a (l / 2)))
-        ∙ ap not (sym (is_true-odd a l h))
+          ap (is_true a) (complement-odd l h) ∙ is_true-even a (l - 1) (omega arith)
+          ∙ ap a (let e : (l - 1) / 2 ≡ l / 2 = omega arith in e) ∙ sym (not-not (a (l / 2)))
+          ∙ ap not (sym (is_true-odd a l h))
     ]
 
 -- a code below twice the number of variables stays so
 pub complement-below : (l vars : ℕ) → l < 2 * vars → complement l < 2 * vars
 complement-below l vars h =
     elim (even_or_odd l) [
-        inl e ↦ omega (arith, complement-even l e)
+      | inl e ↦ omega (arith, complement-even l e)
       | inr e ↦ omega (arith, complement-odd l e)
     ]
 
@@ -86,7 +86,7 @@ complement-below l vars h =
 pub literal-of_parts : (l : ℕ) → literal (l / 2) (eqb (l % 2) 0) ≡ l
 literal-of_parts l =
     elim (even_or_odd l) [
-        inl h ↦ ap (literal (l / 2)) (eq-eqb (l % 2) 0 h) ∙ omega arith
+      | inl h ↦ ap (literal (l / 2)) (eq-eqb (l % 2) 0 h) ∙ omega arith
       | inr h ↦ ap (literal (l / 2)) (ne_eqb (l % 2) 0 (is_odd l h)) ∙ omega arith
     ]
 

@@ -31,7 +31,7 @@ all-without : (P : ℕ → Type 0) (l : ℕ) (xs : List ℕ) → AllByRecursion 
 all-without P l [] h = tt
 all-without P l (x ∷ xs) h =
     elim (cases_eq x l) [
-        inl e ↦ subst (λ (zs : List ℕ). AllByRecursion P zs) (sym (without-same l x xs e)) (all-without P l xs h.1)
+      | inl e ↦ subst (λ (zs : List ℕ). AllByRecursion P zs) (sym (without-same l x xs e)) (all-without P l xs h.1)
       | inr n ↦ subst (λ (zs : List ℕ). AllByRecursion P zs) (sym (without-other l x xs n)) (h.0, all-without P l xs h.1)
     ]
 
@@ -39,7 +39,7 @@ IsRising-without : (l : ℕ) (xs : List ℕ) → IsRising xs → IsRising (witho
 IsRising-without l [] h = tt
 IsRising-without l (x ∷ xs) h =
     elim (cases_eq x l) [
-        inl e ↦ subst IsRising (sym (without-same l x xs e)) (IsRising-without l xs h.1)
+      | inl e ↦ subst IsRising (sym (without-same l x xs e)) (IsRising-without l xs h.1)
       | inr n ↦ subst IsRising (sym (without-other l x xs n)) (all-without (λ y. x < y) l xs h.0, IsRising-without l xs h.1)
     ]
 
@@ -70,13 +70,13 @@ or-join false u v = refl
 merge_left : (l m a : ℕ) (c d : List ℕ) → AllByRecursion (λ y. a < y) c → AllByRecursion (λ y. a < y) d → clause_of (without l (a ∷ c) ++ without m d) ≡ without l (a ∷ []) ++ clause_of (without l c ++ without m d)
 merge_left l m a c d hc hd =
     elim (cases_eq a l) [
-        inl e ↦
-        ap (λ (zs : List ℕ). clause_of (zs ++ without m d)) (without-same l a c e)
-        ∙ ap (λ (zs : List ℕ). zs ++ clause_of (without l c ++ without m d)) (sym (without-same l a [] e))
+      | inl e ↦
+          ap (λ (zs : List ℕ). clause_of (zs ++ without m d)) (without-same l a c e)
+          ∙ ap (λ (zs : List ℕ). zs ++ clause_of (without l c ++ without m d)) (sym (without-same l a [] e))
       | inr n ↦
-        ap (λ (zs : List ℕ). clause_of (zs ++ without m d)) (without-other l a c n)
-        ∙ insert-front a (clause_of (without l c ++ without m d)) (above_rest a l m c d hc hd)
-        ∙ ap (λ (zs : List ℕ). zs ++ clause_of (without l c ++ without m d)) (sym (without-other l a [] n))
+          ap (λ (zs : List ℕ). clause_of (zs ++ without m d)) (without-other l a c n)
+          ∙ insert-front a (clause_of (without l c ++ without m d)) (above_rest a l m c d hc hd)
+          ∙ ap (λ (zs : List ℕ). zs ++ clause_of (without l c ++ without m d)) (sym (without-other l a [] n))
     ]
 
 has-middle : (u v : List ℕ) (b z : ℕ) → has (u ++ b ∷ v) z ≡ (eqb b z || has (u ++ v) z)
@@ -87,14 +87,14 @@ has-middle u v b z =
 merge_right : (l m b : ℕ) (c d : List ℕ) → AllByRecursion (λ y. b < y) c → AllByRecursion (λ y. b < y) d → clause_of (without l c ++ without m (b ∷ d)) ≡ without m (b ∷ []) ++ clause_of (without l c ++ without m d)
 merge_right l m b c d hc hd =
     elim (cases_eq b m) [
-        inl e ↦
-        ap (λ (zs : List ℕ). clause_of (without l c ++ zs)) (without-same m b d e)
-        ∙ ap (λ (zs : List ℕ). zs ++ clause_of (without l c ++ without m d)) (sym (without-same m b [] e))
+      | inl e ↦
+          ap (λ (zs : List ℕ). clause_of (without l c ++ zs)) (without-same m b d e)
+          ∙ ap (λ (zs : List ℕ). zs ++ clause_of (without l c ++ without m d)) (sym (without-same m b [] e))
       | inr n ↦
-        ap (λ (zs : List ℕ). clause_of (without l c ++ zs)) (without-other m b d n)
-        ∙ front_of b (without l c ++ b ∷ without m d) (without l c ++ without m d) (above_rest b l m c d hc hd)
+          ap (λ (zs : List ℕ). clause_of (without l c ++ zs)) (without-other m b d n)
+          ∙ front_of b (without l c ++ b ∷ without m d) (without l c ++ without m d) (above_rest b l m c d hc hd)
           (has-middle (without l c) (without m d) b)
-        ∙ ap (λ (zs : List ℕ). zs ++ clause_of (without l c ++ without m d)) (sym (without-other m b [] n))
+          ∙ ap (λ (zs : List ℕ). zs ++ clause_of (without l c ++ without m d)) (sym (without-other m b [] n))
     ]
 
 has-both : (u v : List ℕ) (a z : ℕ) → has (a ∷ (u ++ a ∷ v)) z ≡ (eqb a z || has (u ++ v) z)
@@ -108,22 +108,22 @@ merge_both : (l m a : ℕ) (c d : List ℕ) → m ≢ l → AllByRecursion (λ y
 merge_both l m a c d apart hc hd =
     let above = above_rest a l m c d hc hd in
     elim (cases_eq a l) [
-        inl e ↦
-        let kept : a ≡ m → ⊥ = λ (k : a ≡ m). apart (sym k ∙ e) in
-        ap (λ (zs : List ℕ). clause_of (zs ++ without m (a ∷ d))) (without-same l a c e)
-        ∙ ap (λ (zs : List ℕ). clause_of (without l c ++ zs)) (without-other m a d kept)
-        ∙ front_of a (without l c ++ a ∷ without m d) (without l c ++ without m d) above (has-middle (without l c) (without m d) a)
+      | inl e ↦
+          let kept : a ≡ m → ⊥ = λ (k : a ≡ m). apart (sym k ∙ e) in
+          ap (λ (zs : List ℕ). clause_of (zs ++ without m (a ∷ d))) (without-same l a c e)
+          ∙ ap (λ (zs : List ℕ). clause_of (without l c ++ zs)) (without-other m a d kept)
+          ∙ front_of a (without l c ++ a ∷ without m d) (without l c ++ without m d) above (has-middle (without l c) (without m d) a)
       | inr n ↦
-        ap (λ (zs : List ℕ). clause_of (zs ++ without m (a ∷ d))) (without-other l a c n)
-        ∙ elim (cases_eq a m) [
-            inl k ↦
-            ap (λ (zs : List ℕ). clause_of (a ∷ (without l c ++ zs))) (without-same m a d k)
-            ∙ insert-front a (clause_of (without l c ++ without m d)) above
-          | inr k ↦
-            ap (λ (zs : List ℕ). clause_of (a ∷ (without l c ++ zs))) (without-other m a d k)
-            ∙ front_of a (a ∷ (without l c ++ a ∷ without m d)) (without l c ++ without m d) above
-              (has-both (without l c) (without m d) a)
-        ]
+          ap (λ (zs : List ℕ). clause_of (zs ++ without m (a ∷ d))) (without-other l a c n)
+          ∙ elim (cases_eq a m) [
+            | inl k ↦
+                ap (λ (zs : List ℕ). clause_of (a ∷ (without l c ++ zs))) (without-same m a d k)
+                ∙ insert-front a (clause_of (without l c ++ without m d)) above
+            | inr k ↦
+                ap (λ (zs : List ℕ). clause_of (a ∷ (without l c ++ zs))) (without-other m a d k)
+                ∙ front_of a (a ∷ (without l c ++ a ∷ without m d)) (without l c ++ without m d) above
+                (has-both (without l c) (without m d) a)
+          ]
     ]
 
 -- what is still to come, at two places
@@ -158,8 +158,8 @@ module _ (running other : List ℕ) (l i j a b : ℕ) (rr : IsRising running) (r
       ap (λ (o : List ℕ). o ++ rest l running (i + 1) other j) is
       ∙ append_assoc out (without l (a ∷ [])) (rest l running (i + 1) other j)
       ∙ ap (λ (c : List ℕ). out ++ c)
-        (sym (ap (λ (c : List ℕ). clause_of (without l c ++ without (complement l) (drop j other))) (at_place running i a hi ra)
-          ∙ merge_left l (complement l) a (drop (i + 1) running) (drop j other) (above_place running i a rr hi ra) (above_b below)))
+      (sym (ap (λ (c : List ℕ). clause_of (without l c ++ without (complement l) (drop j other))) (at_place running i a hi ra)
+      ∙ merge_left l (complement l) a (drop (i + 1) running) (drop j other) (above_place running i a rr hi ra) (above_b below)))
       ∙ so_far
 
   pub step_right : (out more all : List ℕ) → b < a → more ≡ out ++ without (complement l) (b ∷ []) → out ++ rest l running i other j ≡ all → more ++ rest l running i other (j + 1) ≡ all
@@ -167,20 +167,20 @@ module _ (running other : List ℕ) (l i j a b : ℕ) (rr : IsRising running) (r
       ap (λ (o : List ℕ). o ++ rest l running i other (j + 1)) is
       ∙ append_assoc out (without (complement l) (b ∷ [])) (rest l running i other (j + 1))
       ∙ ap (λ (c : List ℕ). out ++ c)
-        (sym (ap (λ (d : List ℕ). clause_of (without l (drop i running) ++ without (complement l) d)) (at_place other j b hj rb)
-          ∙ merge_right l (complement l) b (drop i running) (drop (j + 1) other) (above_a below) (above_place other j b ro hj rb)))
+      (sym (ap (λ (d : List ℕ). clause_of (without l (drop i running) ++ without (complement l) d)) (at_place other j b hj rb)
+      ∙ merge_right l (complement l) b (drop i running) (drop (j + 1) other) (above_a below) (above_place other j b ro hj rb)))
       ∙ so_far
 
   pub step_both : (out more all : List ℕ) → a ≡ b → more ≡ out ++ a ∷ [] → out ++ rest l running i other j ≡ all → more ++ rest l running (i + 1) other (j + 1) ≡ all
   step_both out more all same is so_far =
       let above : AllByRecursion (λ y. a < y) (drop (j + 1) other) =
-          subst (λ (x : ℕ). AllByRecursion (λ y. x < y) (drop (j + 1) other)) (sym same) (above_place other j b ro hj rb) in
+      subst (λ (x : ℕ). AllByRecursion (λ y. x < y) (drop (j + 1) other)) (sym same) (above_place other j b ro hj rb) in
       ap (λ (o : List ℕ). o ++ rest l running (i + 1) other (j + 1)) is
       ∙ append_assoc out (a ∷ []) (rest l running (i + 1) other (j + 1))
       ∙ ap (λ (c : List ℕ). out ++ c)
-        (sym (rest_is
-          ∙ ap (λ (x : ℕ). clause_of (without l (a ∷ drop (i + 1) running) ++ without (complement l) (x ∷ drop (j + 1) other))) (sym same)
-          ∙ merge_both l (complement l) a (drop (i + 1) running) (drop (j + 1) other) (complement-other l) (above_place running i a rr hi ra) above))
+      (sym (rest_is
+      ∙ ap (λ (x : ℕ). clause_of (without l (a ∷ drop (i + 1) running) ++ without (complement l) (x ∷ drop (j + 1) other))) (sym same)
+      ∙ merge_both l (complement l) a (drop (i + 1) running) (drop (j + 1) other) (complement-other l) (above_place running i a rr hi ra) above))
       ∙ so_far
 
 -- one clause is used up: the rest of the other follows as it is
@@ -204,9 +204,9 @@ pub record IsMerging (running : List ℕ) (l : ℕ) (other : List ℕ) (i j : �
 not_lt : (a b : ℕ) → b ≤ a → is_lt (nat_cmp a b) ≡ false
 not_lt a b h =
     ap (λ t. is_lt (cond t Less (cond (eqb a b) Equal Greater))) (le-ltb a b h) ∙ go (eqb a b) where
-  go : (t : Bool) → is_lt (cond t Equal Greater) ≡ false
-  go true = refl
-  go false = refl
+      go : (t : Bool) → is_lt (cond t Equal Greater) ≡ false
+      go true = refl
+      go false = refl
 
 -- what the test `a < b` says
 pub below_from_test : (a b : ℕ) → true ≡ is_lt (nat_cmp a b) → a < b
@@ -238,8 +238,8 @@ module _ (running other : List ℕ) (l i j a b : ℕ) (rr : IsRising running) (r
   merging_both not_below not_above is =
       let more_left : j < length other = other_more in
       let same : a ≡ b =
-          (let upper : b ≤ a = ge_from_not_lt a b (sym not_below) in
-           let lower : a ≤ b = ge_from_not_lt b a (sym not_above) in omega arith) in
+      (let upper : b ≤ a = ge_from_not_lt a b (sym not_below) in
+      let lower : a ≤ b = ge_from_not_lt b a (sym not_above) in omega arith) in
       record {
         running_within = omega arith;
         other_within = omega arith;

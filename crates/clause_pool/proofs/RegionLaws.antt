@@ -53,8 +53,8 @@ module _ {X : Type 0} where
   region_append (s ∷ ss) items more h =
       let end : first_or (ss ++ length items ∷ []) (length (items ++ more)) ≡ first_or ss (length items) = first_or-append ss (length items) (length (items ++ more)) in
       let same : slice_range (items ++ more) s (first_or (ss ++ length items ∷ []) (length (items ++ more))) ≡ slice_range items s (first_or ss (length items)) =
-          ap (slice_range (items ++ more) s) end
-          ∙ range-append items more s (first_or ss (length items)) h.0 (first_or-within ss (length items) h.1) in
+      ap (slice_range (items ++ more) s) end
+      ∙ range-append items more s (first_or ss (length items)) h.0 (first_or-within ss (length items) h.1) in
       ap (λ (c : List X). c ∷ region (ss ++ length items ∷ []) (items ++ more)) same
       ∙ ap (λ (cs : List (List X)). slice_range items s (first_or ss (length items)) ∷ cs) (region_append ss items more h.1)
 
@@ -126,10 +126,10 @@ module _ {X : Type 0} where
       let cut : ℕ = get_or ss m 0 in
       let len : length (take cut items) ≡ cut = length-take-le cut items (start_within ss (length items) m h.1 (omega arith)) in
       let end : first_or (take m ss) (length (take cut items)) ≡ first_or ss (length items) =
-          ap (first_or (take m ss)) len ∙ first_or_take ss (length items) m (omega arith) in
+      ap (first_or (take m ss)) len ∙ first_or_take ss (length items) m (omega arith) in
       let same : slice_range (take cut items) s (first_or (take m ss) (length (take cut items))) ≡ slice_range items s (first_or ss (length items)) =
-          ap (slice_range (take cut items) s) end
-          ∙ range_take items s (first_or ss (length items)) cut h.0 (first_below ss (length items) m h.1 (omega arith)) in
+      ap (slice_range (take cut items) s) end
+      ∙ range_take items s (first_or ss (length items)) cut h.0 (first_below ss (length items) m h.1 (omega arith)) in
       ap (λ (c : List X). c ∷ region (take m ss) (take cut items)) same
       ∙ ap (λ (cs : List (List X)). slice_range items s (first_or ss (length items)) ∷ cs) (region_take ss items m h.1 (omega arith))
 
@@ -143,6 +143,6 @@ module _ {X : Type 0} where
   IsRegion_cut starts fewer items rest m start h k read ef er =
       let at : start ≡ get_or starts m 0 = get_or_read starts m start k read 0 in
       let len : length rest ≡ get_or starts m 0 =
-          ap length (er ∙ ap (λ (n : ℕ). take n items) at) ∙ length-take-le (get_or starts m 0) items (start_within starts (length items) m h k) in
+      ap length (er ∙ ap (λ (n : ℕ). take n items) at) ∙ length-take-le (get_or starts m 0) items (start_within starts (length items) m h k) in
       subst (λ (ss : List ℕ). IsRegion ss (length rest)) (sym ef)
       (subst (λ (n : ℕ). IsRegion (take m starts) n) (sym len) (IsRegion_take starts (length items) m h k))

@@ -45,9 +45,9 @@ pub running_starts : (clauses : List (List ℕ)) (start : ℕ) (pairs : List Pai
 running_starts clauses start pairs running h is rises = record {
   rising = rises;
   so_far =
-    let one : 0 + 1 ≡ 1 = omega arith in
-    ap (λ (n : ℕ). chain_from clauses n pairs (Ok running)) one
-    ∙ ap (λ (found : Option (List ℕ)). chain_from clauses 1 pairs (started found)) (ap Some is ∙ sym (slice_get-get_or clauses start [] h));
+      let one : 0 + 1 ≡ 1 = omega arith in
+      ap (λ (n : ℕ). chain_from clauses n pairs (Ok running)) one
+      ∙ ap (λ (found : Option (List ℕ)). chain_from clauses 1 pairs (started found)) (ap Some is ∙ sym (slice_get-get_or clauses start [] h));
 }
 
 module _ (clauses : List (List ℕ)) (start : ℕ) (pairs : List Pair) (done : ℕ) (running : List ℕ) (m : IsRunning clauses start pairs done running) (pair : Pair) (within : done < length pairs) (is : pair ≡ get_or pairs done pair) where
@@ -61,7 +61,7 @@ module _ (clauses : List (List ℕ)) (start : ℕ) (pairs : List Pair) (done : �
   running_more next rises made = record {
     rising = rises;
     so_far =
-      ap (chain_from clauses (done + 1 + 1) (drop (done + 1) pairs)) (sym made) ∙ at_pair;
+        ap (chain_from clauses (done + 1 + 1) (drop (done + 1) pairs)) (sym made) ∙ at_pair;
   }
 
   pub running_refused : (fault : StepFault) → step_on running (done + 1) pair.lit (slice_get clauses pair.with) ≡ Err fault → chain clauses start pairs ≡ Err fault

@@ -1,4 +1,5 @@
-//! Clauses.
+//! Clauses of propositional logic: literals, pools of clauses in one flat region, and the kernel that adds to given
+//! clauses only what follows from them by resolution.
 #![tactic(auto)]
 
 mod chain;
@@ -9,6 +10,8 @@ mod pool;
 mod region;
 mod run;
 mod steps;
+#[cfg(test)]
+mod tests;
 
 pub use chain::{Pair, StepFault};
 pub use kernel::Kernel;

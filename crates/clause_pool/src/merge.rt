@@ -28,7 +28,12 @@ fn keep(out: &mut Vec<Lit>, lits: &[Lit], left_out: Lit) -> Result<(), AllocErro
 }
 
 /// Appends the resolvent of two rising clauses on a literal of the first, as a rising clause.
-pub(crate) fn resolve_into(out: &mut Vec<Lit>, running: &[Lit], lit: Lit, other: &[Lit]) -> Result<(), AllocError>
+pub(crate) fn resolve_into(
+    out: &mut Vec<Lit>,
+    running: &[Lit],
+    lit: Lit,
+    other: &[Lit],
+) -> Result<(), AllocError>
     requires running_rises { IsRising running.now }
     requires other_rises { IsRising other.now }
     ensures { OnOk result (out.new.items ≡ out.old.items ++ resolved running.now lit other.now) }

@@ -31,9 +31,9 @@ impl Model for Pool {
     ghost Value = { Contents };
 
     ghost view = { λ p. record {
-        clauses = region p.starts.items p.lits.items;
-        spare_clauses = vec_capacity p.starts - vec_len p.starts;
-        spare_lits = min (vec_capacity p.lits - vec_len p.lits) (vec_capacity p.scratch)
+      clauses = region p.starts.items p.lits.items;
+      spare_clauses = vec_capacity p.starts - vec_len p.starts;
+      spare_lits = min (vec_capacity p.lits - vec_len p.lits) (vec_capacity p.scratch);
     } };
 
     ghost invariant = { λ p. IsRegion p.starts.items (length p.lits.items) × AllByRecursion IsRising (region p.starts.items p.lits.items) };

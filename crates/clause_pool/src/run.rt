@@ -11,7 +11,13 @@ use crate::pool::{Pool, Ref};
 use pb_base::Fail;
 
 /// Leaves in `next` what the pair at this place makes of the running clause.
-fn step(pool: &Pool, place: usize, pair: Pair, running: &[Lit], next: &mut Vec<Lit>) -> Result<(), Fail<StepFault>>
+fn step(
+    pool: &Pool,
+    place: usize,
+    pair: Pair,
+    running: &[Lit],
+    next: &mut Vec<Lit>,
+) -> Result<(), Fail<StepFault>>
     requires { IsRising running.now }
     ensures leaves { Leaves result (step_on running.now place pair.lit (slice_get pool.now.clauses pair.with)) next.new.items }
     ensures rising { OnOk result (IsRising next.new.items) }
@@ -33,7 +39,13 @@ fn step(pool: &Pool, place: usize, pair: Pair, running: &[Lit], next: &mut Vec<L
 
 /// Leaves the resolvent of the chain in `running`. The other buffer is for the clause in the making, so that no step
 /// needs memory of its own.
-pub(crate) fn run_chain(pool: &Pool, start: Ref, pairs: &[Pair], running: &mut Vec<Lit>, next: &mut Vec<Lit>) -> Result<(), Fail<StepFault>>
+pub(crate) fn run_chain(
+    pool: &Pool,
+    start: Ref,
+    pairs: &[Pair],
+    running: &mut Vec<Lit>,
+    next: &mut Vec<Lit>,
+) -> Result<(), Fail<StepFault>>
     ensures leaves { Leaves result (chain pool.now.clauses start pairs.now) running.new.items }
     ensures rising { OnOk result (IsRising running.new.items) }
 {

@@ -11,7 +11,7 @@ pub loop-k-init : goal.loop-k-init
 loop-k-init c =
     let within : c.args.start < length c.args.pool.now.clauses = omega arith in
     let copied : c.extend_from_slice.new.self.items ≡ c.lits.result.now =
-        c.in_ok-extend_from_slice.ensures.items ∙ ap (λ (cs : List ℕ). cs ++ c.lits.result.now) c.clear.ensures.items in
+    c.in_ok-extend_from_slice.ensures.items ∙ ap (λ (cs : List ℕ). cs ++ c.lits.result.now) c.clear.ensures.items in
     running_starts _ _ _ _ within (copied ∙ c.lits.ensures.clause) (subst IsRising (sym copied) c.lits.ensures.rising)
 
 pub returns-in-Err-clause-leaves : goal.returns-in-Err-clause-leaves

@@ -37,7 +37,8 @@ returns-clause-clauses c =
     appended c ∙ ap (λ (cs : List (List ℕ)). cs ++ clause_of c.args.lits.now ∷ []) (clauses_are c)
 
 pub invariant_of-self : goal.invariant_of-self
-invariant_of-self c =
-    (c.append.ensures.region,
-     subst (λ (cs : List (List ℕ)). AllByRecursion IsRising cs) (sym (appended c))
-     (all_push IsRising (region c.self.inside.starts.items c.self.inside.lits.items) (clause_of c.args.lits.now) c.self.invariant.1 (IsRising-clause_of c.args.lits.now)))
+invariant_of-self c = (
+  c.append.ensures.region,
+  subst (λ (cs : List (List ℕ)). AllByRecursion IsRising cs) (sym (appended c))
+      (all_push IsRising (region c.self.inside.starts.items c.self.inside.lits.items) (clause_of c.args.lits.now) c.self.invariant.1 (IsRising-clause_of c.args.lits.now)),
+)

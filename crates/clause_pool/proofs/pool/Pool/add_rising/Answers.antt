@@ -22,7 +22,8 @@ returns-clause-clauses c =
     c.append.ensures.lists ∙ ap (λ (cs : List (List ℕ)). cs ++ c.args.clause.now ∷ []) (clauses_are c)
 
 pub invariant_of-self : goal.invariant_of-self
-invariant_of-self c =
-    (c.append.ensures.region,
-     subst (λ (cs : List (List ℕ)). AllByRecursion IsRising cs) (sym c.append.ensures.lists)
-     (all_push IsRising (region c.self.inside.starts.items c.self.inside.lits.items) c.args.clause.now c.self.invariant.1 c.requires.rising))
+invariant_of-self c = (
+  c.append.ensures.region,
+  subst (λ (cs : List (List ℕ)). AllByRecursion IsRising cs) (sym c.append.ensures.lists)
+      (all_push IsRising (region c.self.inside.starts.items c.self.inside.lits.items) c.args.clause.now c.self.invariant.1 c.requires.rising),
+)

@@ -17,10 +17,11 @@ cut c =
 
 pub invariant_of-self : goal.invariant_of-self
 invariant_of-self c =
-    let below : c.mark.inside.clauses < length c.self.inside.starts.items = omega (arith, c.len.ensures, c.self.inside.starts.ok.0) in
-    (IsRegion_cut _ _ _ _ _ _ c.self.invariant.0 below c.index.ensures c.truncate-then-mark-len.ensures.items c.truncate.ensures.items,
-     subst (λ (cs : List (List ℕ)). AllByRecursion IsRising cs) (sym (cut c))
-     (all_take IsRising c.mark.inside.clauses (region c.self.inside.starts.items c.self.inside.lits.items) c.self.invariant.1))
+    let below : c.mark.inside.clauses < length c.self.inside.starts.items = omega (arith, c.len.ensures, c.self.inside.starts.ok.0) in (
+      IsRegion_cut _ _ _ _ _ _ c.self.invariant.0 below c.index.ensures c.truncate-then-mark-len.ensures.items c.truncate.ensures.items,
+      subst (λ (cs : List (List ℕ)). AllByRecursion IsRising cs) (sym (cut c))
+          (all_take IsRising c.mark.inside.clauses (region c.self.inside.starts.items c.self.inside.lits.items) c.self.invariant.1),
+    )
 
 pub returns-then-mark-len-clause-clauses : goal.returns-then-mark-len-clause-clauses
 returns-then-mark-len-clause-clauses c =
@@ -31,5 +32,5 @@ pub returns-else-mark-len-clause-clauses : goal.returns-else-mark-len-clause-cla
 returns-else-mark-len-clause-clauses c =
     let clauses = ap (λ (p : Contents). p.clauses) c.self.view_is in
     let all : length c.args.self.now.clauses ≤ c.args.mark =
-        omega (arith, c.mark.view_is, c.len.ensures, c.self.inside.starts.ok.0, length_region c.self.inside.starts.items c.self.inside.lits.items, ap length clauses) in
+    omega (arith, c.mark.view_is, c.len.ensures, c.self.inside.starts.ok.0, length_region c.self.inside.starts.items c.self.inside.lits.items, ap length clauses) in
     sym (take_all c.args.mark c.args.self.now.clauses all)
