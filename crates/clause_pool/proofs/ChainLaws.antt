@@ -1,17 +1,16 @@
 -- What holds of resolution: a resolvent is a clause, and it follows.
-use Rattle.std.proofs.Common.{◌≡◌, ℕ, zero, suc, ◌+◌, ◌-◌, ◌<◌, ◌≤◌, Bool, true, false, not, ◌&&◌, ◌||◌, cond, eqb, List, [], ◌∷◌, ◌++◌, length, get_or, take, drop, Option, Some, None, Result, Ok, Err, refl, sym, ap, subst, ◌∙◌, arith, ◌⊎◌, inl, inr, add-one}
+use Rattle.std.proofs.Common.{◌≡◌, ℕ, zero, suc, ◌+◌, ◌≤◌, Bool, true, false, not, ◌||◌, cond, List, [], ◌∷◌, ◌++◌, length, get_or, take, Option, Some, None, Result, Ok, Err, refl, sym, ap, subst, ◌∙◌, arith, inl, inr}
 use Rattle.std.specs.List.{AllByRecursion, slice_get}
-use Rattle.std.proofs.lemmas.Bool.{cases_Bool, cases_eq, false≢true, or_left, or_right, and_from, cond-true}
-use Rattle.std.proofs.lemmas.List.{take_more, take_all, append_assoc}
-use Rattle.std.proofs.lemmas.Option.{slice_get-get_or}
+use Rattle.std.proofs.lemmas.Bool.{cases_Bool, false≢true, or_left, or_right, and_from, cond-true}
+use Rattle.std.proofs.lemmas.List.{take_more, take_all}
 use Rattle.clause_pool.specs.Literal.{complement, is_true}
-use Rattle.clause_pool.specs.Clause.{has, without, IsRising, clause_of, clause_true, Sat, Follows}
+use Rattle.clause_pool.specs.Clause.{has, without, IsRising, clause_true, Sat, Follows}
 use Rattle.clause_pool.specs.Chain.{resolved, step_on, chain_from, started, chain}
-use Rattle.clause_pool.specs.Derivation.{Derivation, IsDerived, AllFollow, grown}
+use Rattle.clause_pool.specs.Derivation.{Derivation, IsDerived, AllFollow}
 use Rattle.clause_pool.specs.declared.chain.Pair.{Pair}
 use Rattle.clause_pool.specs.declared.chain.StepFault.{StepFault}
 use Rattle.clause_pool.proofs.LiteralLaws.{is_true-complement}
-use Rattle.clause_pool.proofs.ClauseLaws.{IsRising-clause_of, clause_true-clause_of, clause_true-append, clause_true-subset, has-without_other, has-append, has-clause_of, all_push, all_at}
+use Rattle.clause_pool.proofs.ClauseLaws.{IsRising-clause_of, clause_true-clause_of, clause_true-append, clause_true-subset, has-without_other, has-append, has-clause_of, all_push}
 
 -- a fault stays the answer of the chain
 pub chain_from-fault : (clauses : List (List ℕ)) (place : ℕ) (pairs : List Pair) (fault : StepFault) → chain_from clauses place pairs (Err fault) ≡ Err fault

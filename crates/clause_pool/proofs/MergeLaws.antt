@@ -1,17 +1,15 @@
 -- A merge of two rising clauses gives their resolvent.
-use Rattle.std.proofs.Common.{◌≡◌, ◌≢◌, ℕ, zero, suc, ◌+◌, ◌-◌, ◌<◌, ◌≤◌, Bool, true, false, not, ◌&&◌, ◌||◌, cond, eqb, List, [], ◌∷◌, ◌++◌, length, get_or, take, drop, refl, sym, ap, subst, ◌∙◌, arith, ◌⊎◌, inl, inr}
-use Rattle.std.specs.List.{list_any, filter, AllByRecursion}
+use Rattle.std.proofs.Common.{◌≡◌, ◌≢◌, ℕ, zero, suc, ◌+◌, ◌-◌, ◌<◌, ◌≤◌, Bool, true, false, not, ◌||◌, cond, eqb, List, [], ◌∷◌, ◌++◌, length, get_or, take, drop, refl, sym, ap, subst, ◌∙◌, arith, inl, inr}
+use Rattle.std.specs.List.{AllByRecursion}
 use Rattle.std.specs.Ordering.{nat_cmp, is_lt}
-use Rattle.std.specs.declared.cmp.Ordering.{Ordering}
 use Rattle.std.specs.declared.cmp.Ordering.TheVariants.{Less, Equal, Greater}
 use Rattle.std.proofs.lemmas.Map.Keys.{ge_from_not_lt}
 use Rattle.std.proofs.lemmas.Bool.{cases_eq, cases_lt, cond-true, cond-false, eq-eqb, ne_eqb, le-ltb, false≢true}
 use Rattle.std.proofs.lemmas.List.{append-nil, append_assoc, drop_more, drop_all, take_rest}
 use Rattle.clause_pool.specs.Literal.{complement}
-use Rattle.clause_pool.specs.Clause.{has, without, IsRising, insert_literal, clause_of}
-use Rattle.clause_pool.specs.Chain.{resolved}
+use Rattle.clause_pool.specs.Clause.{has, without, IsRising, clause_of}
 use Rattle.clause_pool.proofs.LiteralLaws.{complement-other}
-use Rattle.clause_pool.proofs.ClauseLaws.{all_weaker, all-insert_literal, insert-front, IsRising-clause_of, has-append, clause_of-same, clause_of-rising}
+use Rattle.clause_pool.proofs.ClauseLaws.{all_weaker, all-insert_literal, insert-front, has-append, clause_of-same, clause_of-rising}
 
 all-append : (P : ℕ → Type 0) (xs ys : List ℕ) → AllByRecursion P xs → AllByRecursion P ys → AllByRecursion P (xs ++ ys)
 all-append P [] ys h k = k

@@ -1,6 +1,6 @@
 -- What holds of lists that lie one after another.
-use Rattle.std.proofs.Common.{◌≡◌, ℕ, zero, suc, ◌+◌, ◌-◌, ◌<◌, ◌≤◌, List, [], ◌∷◌, ◌++◌, length, get_or, take, drop, refl, sym, ap, subst, ◌∙◌, arith, rules, length-append, length-take, append-nil, add-one}
-use Rattle.std.specs.List.{slice_range, AllByRecursion}
+use Rattle.std.proofs.Common.{◌≡◌, ℕ, zero, suc, ◌+◌, ◌-◌, ◌<◌, ◌≤◌, List, [], ◌∷◌, ◌++◌, length, get_or, take, drop, refl, sym, ap, subst, ◌∙◌, arith, length-append, add-one}
+use Rattle.std.specs.List.{slice_range}
 use Rattle.std.proofs.lemmas.List.{take-append-le, drop-append-le, drop_at, take_all, length-drop, take-take, drop-take, length-take-le, get_or_read}
 use Rattle.clause_pool.specs.Region.{first_or, region, IsRegion}
 

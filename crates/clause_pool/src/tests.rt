@@ -12,16 +12,12 @@ fn neg(var: u32) -> Lit {
     Lit::new(var, false)
 }
 
-/// The clauses of a small book that its two proofs rest on.
-fn small_book(alloc: Global) -> Result<Pool, Memory> {
+/// Three clauses that refute that variable 9 is true.
+fn three_clauses(alloc: Global) -> Result<Pool, Memory> {
     let mut pool = Pool::new(alloc);
     pool.add(&[neg(0), neg(1)])?;
     pool.add(&[pos(0), neg(9)])?;
     pool.add(&[pos(1), neg(9)])?;
-    pool.add(&[pos(7)])?;
-    pool.add(&[pos(0), pos(1), neg(7)])?;
-    pool.add(&[neg(0), neg(10)])?;
-    pool.add(&[neg(1), neg(10)])?;
     Ok(pool)
 }
 
@@ -66,9 +62,9 @@ fn what_is_taken_back_leaves_the_pool_as_before(rt: HostRuntime) -> Result<(), F
 }
 
 #[test]
-fn the_steps_of_a_small_book_resolve(rt: HostRuntime) -> Result<(), Failed> {
-    let mut kernel = Kernel::of(rt.alloc(), small_book(rt.alloc())?);
-    let first = [
+fn a_chain_of_two_pairs_resolves(rt: HostRuntime) -> Result<(), Failed> {
+    let mut kernel = Kernel::of(rt.alloc(), three_clauses(rt.alloc())?);
+    let pairs = [
         Pair {
             lit: neg(0),
             with: 1,
@@ -78,29 +74,13 @@ fn the_steps_of_a_small_book_resolve(rt: HostRuntime) -> Result<(), Failed> {
             with: 2,
         },
     ];
-    let second = [
-        Pair {
-            lit: pos(7),
-            with: 4,
-        },
-        Pair {
-            lit: pos(0),
-            with: 5,
-        },
-        Pair {
-            lit: pos(1),
-            with: 6,
-        },
-    ];
-    assert_eq!(rt; kernel.resolve(0, &first)?, 7);
-    assert_eq!(rt; kernel.resolve(3, &second)?, 8);
-    check_clause(&rt, kernel.pool(), 7, &[neg(9)]);
-    check_clause(&rt, kernel.pool(), 8, &[neg(10)]);
-    assert_eq!(rt; kernel.given(), 7);
-    assert!(rt; 8 < kernel.pool().len());
-    assert_eq!(rt; kernel.start_of(6), None);
-    assert_eq!(rt; kernel.start_of(8), Some(3));
-    assert_eq!(rt; kernel.pairs_of(7), first.as_slice());
+    assert_eq!(rt; kernel.given(), 3);
+    assert_eq!(rt; kernel.resolve(0, &pairs)?, 3);
+    check_clause(&rt, kernel.pool(), 3, &[neg(9)]);
+    assert!(rt; 3 < kernel.pool().len());
+    assert_eq!(rt; kernel.start_of(2), None);
+    assert_eq!(rt; kernel.start_of(3), Some(0));
+    assert_eq!(rt; kernel.pairs_of(3), pairs.as_slice());
     Ok(())
 }
 
@@ -114,41 +94,27 @@ fn fault_of(answer: Result<Ref, Fail<StepFault>>) -> Option<StepFault> {
 
 #[test]
 fn the_first_wrong_pair_is_named(rt: HostRuntime) -> Result<(), Failed> {
-    let mut kernel = Kernel::of(rt.alloc(), small_book(rt.alloc())?);
+    let mut kernel = Kernel::of(rt.alloc(), three_clauses(rt.alloc())?);
     let right = Pair {
         lit: neg(0),
         with: 1,
     };
     let absent = Pair {
         lit: neg(1),
-        with: 7,
-    };
-    let lacking = Pair {
-        lit: neg(1),
-        with: 4,
+        with: 3,
     };
     assert_eq!(rt;
-        fault_of(kernel.resolve(7, &[right])),
+        fault_of(kernel.resolve(3, &[right])),
         Some(StepFault::NoSuchStep(0))
     );
     assert_eq!(rt;
-        fault_of(kernel.resolve(0, &[right, absent, lacking])),
+        fault_of(kernel.resolve(0, &[right, absent, right])),
         Some(StepFault::NoSuchStep(2))
     );
     assert_eq!(rt;
         fault_of(kernel.resolve(0, &[right, right])),
         Some(StepFault::NoPivot(2))
     );
-    assert_eq!(rt;
-        fault_of(kernel.resolve(
-            0,
-            &[Pair {
-                lit: neg(1),
-                with: 6
-            }]
-        )),
-        Some(StepFault::NoPivot(1))
-    );
-    assert_eq!(rt; kernel.pool().len(), 7);
+    assert_eq!(rt; kernel.pool().len(), 3);
     Ok(())
 }

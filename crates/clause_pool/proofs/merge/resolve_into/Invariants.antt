@@ -1,5 +1,4 @@
-use Rattle.std.proofs.Common.{◌≡◌, ◌+◌, ◌-◌, ◌≤◌, ◌++◌, length}
-use Rattle.clause_pool.specs.Literal.{complement}
+use Rattle.std.proofs.Common.{◌+◌, ◌-◌, ◌++◌, length}
 use Rattle.clause_pool.specs.Chain.{resolved}
 use Rattle.clause_pool.proofs.MergeLaws.{IsMerging}
 use Rattle.clause_pool.proofs.merge.resolve_into.Given as goal

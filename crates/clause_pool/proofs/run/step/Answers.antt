@@ -1,4 +1,4 @@
-use Rattle.std.proofs.Common.{◌≡◌, ◌<◌, length, [], ◌++◌, List, ℕ, Ok, refl, sym, ap, subst, ◌∙◌, arith}
+use Rattle.std.proofs.Common.{◌<◌, length, ◌++◌, List, ℕ, Ok, sym, ap, subst, ◌∙◌, arith}
 use Rattle.clause_pool.specs.Clause.{IsRising}
 use Rattle.clause_pool.specs.Chain.{resolved}
 use Rattle.clause_pool.proofs.ChainLaws.{IsRising-resolved}
