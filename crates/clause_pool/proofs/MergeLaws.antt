@@ -9,7 +9,7 @@ use Rattle.std.proofs.lemmas.List.{append-nil, append_assoc, drop_more, drop_all
 use Rattle.clause_pool.specs.Literal.{complement}
 use Rattle.clause_pool.specs.Clause.{has, without, IsRising, clause_of}
 use Rattle.clause_pool.proofs.LiteralLaws.{complement-other}
-use Rattle.clause_pool.proofs.ClauseLaws.{all_weaker, all-insert_literal, insert-front, has-append, clause_of-same, clause_of-rising}
+use Rattle.clause_pool.proofs.ClauseLaws.{or-same, or-swap, all_weaker, all-insert_literal, insert-front, has-append, clause_of-same, clause_of-rising}
 
 all-append : (P : ℕ → Type 0) (xs ys : List ℕ) → AllByRecursion P xs → AllByRecursion P ys → AllByRecursion P (xs ++ ys)
 all-append P [] ys h k = k
@@ -55,15 +55,6 @@ above_rest x l m c d hc hd =
 front_of : (x : ℕ) (c rest : List ℕ) → AllByRecursion (λ y. x < y) (clause_of rest) → ((z : ℕ) → has c z ≡ (eqb x z || has rest z)) → clause_of c ≡ x ∷ clause_of rest
 front_of x c rest above same = clause_of-same c (x ∷ rest) same ∙ insert-front x (clause_of rest) above
 
-or-swap : (a b c : Bool) → (a || (b || c)) ≡ (b || (a || c))
-or-swap true true c = refl
-or-swap true false c = refl
-or-swap false b c = refl
-
-or-join : (p u v : Bool) → ((p || u) || (p || v)) ≡ (p || (u || v))
-or-join true u v = refl
-or-join false u v = refl
-
 -- the first literal of the first clause is the lower one
 merge_left : (l m a : ℕ) (c d : List ℕ) → AllByRecursion (λ y. a < y) c → AllByRecursion (λ y. a < y) d → clause_of (without l (a ∷ c) ++ without m d) ≡ without l (a ∷ []) ++ clause_of (without l c ++ without m d)
 merge_left l m a c d hc hd =
@@ -96,10 +87,7 @@ merge_right l m b c d hc hd =
     ]
 
 has-both : (u v : List ℕ) (a z : ℕ) → has (a ∷ (u ++ a ∷ v)) z ≡ (eqb a z || has (u ++ v) z)
-has-both u v a z = ap (λ t. eqb a z || t) (has-middle u v a z) ∙ or-same (eqb a z) (has (u ++ v) z) where
-  or-same : (p q : Bool) → (p || (p || q)) ≡ (p || q)
-  or-same true q = refl
-  or-same false q = refl
+has-both u v a z = ap (λ t. eqb a z || t) (has-middle u v a z) ∙ sym (or-same (eqb a z) (has (u ++ v) z))
 
 -- a literal that both begin with stays, since it is not both left out of the one and of the other
 merge_both : (l m a : ℕ) (c d : List ℕ) → m ≢ l → AllByRecursion (λ y. a < y) c → AllByRecursion (λ y. a < y) d → clause_of (without l (a ∷ c) ++ without m (a ∷ d)) ≡ a ∷ clause_of (without l c ++ without m d)
