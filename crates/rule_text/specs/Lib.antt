@@ -1,4 +1,6 @@
 pub mod Token
 pub mod Grammar
+pub mod Fault
 pub mod Reading
 pub mod Printing
+pub mod Views

@@ -118,6 +118,11 @@ is_node plus = true
 is_node slash = true
 is_node t = false
 
+-- the fault of a token that may not stand where it is
+abbrev pub misplaced : ℕ → Token → RuleFault
+misplaced at other = BadByte at
+misplaced at t = Expected at
+
 -- the first of its tests that a token fails
 abbrev pub token_fault : List (List ℕ) → State → Placed → Option RuleFault
 token_fault names s t =

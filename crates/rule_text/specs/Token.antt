@@ -1,6 +1,6 @@
 -- The tokens of a rule's text.
 --     tokens text        the tokens, each with the place of its first byte, counted from 0
-use Rattle.std.specs.Prelude.{ℕ, ◌+◌, Bool, true, false, ◌||◌, List, [], ◌∷◌, ◌==◌, if◌then◌else◌, take_while}
+use Rattle.std.specs.Prelude.{ℕ, ◌+◌, Bool, true, false, ◌||◌, List, [], ◌∷◌, length, ◌==◌, if◌then◌else◌, take_while}
 use Rattle.pb_base.specs.Names.{is_name_byte}
 
 pub data Token : Type 0 where
@@ -31,6 +31,15 @@ mark b =
     else (if b == 41 then closing
     else (if b == 59 then semicolon
     else other)))))
+
+-- the token at the front of these bytes
+abbrev pub token_at : List ℕ → Token
+token_at [] = other
+token_at (b ∷ bytes) = if is_name_byte b then word (take_while is_name_byte (b ∷ bytes)) else mark b
+
+abbrev pub token_len : Token → ℕ
+token_len (word w) = length w
+token_len token = 1
 
 -- A word begins at a word byte that follows no word byte, and is the longest run of word bytes from there.
 -- The first argument says whether the byte before is a word byte.

@@ -1,6 +1,13 @@
 //! The text of a rule: read as the grammar says, or refused with its first fault; and printed with fewest brackets.
 #![tactic(auto)]
 
+mod expression;
 mod fault;
+mod print;
+mod read;
+mod reader;
+mod token;
 
 pub use fault::RuleFault;
+pub use print::print_rule;
+pub use read::read_rule;
