@@ -1,2 +1,4 @@
 mod Worked
 pub mod Stack
+pub mod TokenLemmas
+pub mod Steps

@@ -1,8 +1,8 @@
 -- The frames of the open brackets, kept with the innermost last and read with the innermost first.
-use Rattle.std.proofs.Common.{◌≡◌, ℕ, ◌+◌, List, [], ◌∷◌, ◌++◌, Result, Ok, Err, length, eqb, leb, false, refl, sym, ap, ◌∙◌, arith}
+use Rattle.std.proofs.Common.{◌≡◌, ℕ, ◌+◌, List, [], ◌∷◌, ◌++◌, Ok, Err, length, eqb, leb, false, refl, sym, ap, ◌∙◌}
 use Rattle.std.proofs.lemmas.Bool.{false≢true}
 use Rattle.pb_base.specs.Rule.{Rule}
-use Rattle.rule_text.specs.Reading.{nesting, in_bracket, with_factor, whole, Frame, Expression, State, before, after, ended, step, finish}
+use Rattle.rule_text.specs.Reading.{nesting, in_bracket, with_factor, whole, Frame, Expression, before, after, step, finish}
 use Rattle.rule_text.specs.Token.{semicolon, opening, closing}
 use Rattle.rule_text.specs.Views.{frame_of, stack_on}
 use Rattle.rule_text.specs.declared.expression.Frame.{Frame as CodeFrame}

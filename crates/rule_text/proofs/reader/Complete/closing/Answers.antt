@@ -1,4 +1,4 @@
-use Rattle.std.proofs.Common.{◌≡◌, [], ◌∷◌, ◌++◌, ap, ◌∙◌}
+use Rattle.std.proofs.Common.{[], ap, ◌∙◌}
 use Rattle.rule_text.specs.Views.{frame_of, stack_on, expression_of}
 use Rattle.rule_text.proofs.Stack.{stack_on-push, closing-pops}
 use Rattle.rule_text.proofs.reader.Complete.closing.Goals as goal
