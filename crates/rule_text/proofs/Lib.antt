@@ -2,3 +2,4 @@ mod Worked
 pub mod Stack
 pub mod TokenLemmas
 pub mod Steps
+pub mod Whole
