@@ -3,3 +3,4 @@ pub mod Stack
 pub mod TokenLemmas
 pub mod Steps
 pub mod Whole
+pub mod Sound
