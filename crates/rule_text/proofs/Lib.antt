@@ -4,3 +4,4 @@ pub mod TokenLemmas
 pub mod Steps
 pub mod Whole
 pub mod Sound
+pub mod Counts

@@ -164,7 +164,7 @@ is_no_rule : (fault : RuleFault) (rule : Rule) → Err fault ≡ Ok rule → ⊥
 is_no_rule fault rule same = cc
 
 -- a token passes its tests where a rule is read
-read_on : (names : List (List ℕ)) (end : ℕ) (s : State) (t : Placed) (ts : List Placed) (rule : Rule) (fault : Option RuleFault) → token_fault names s t ≡ fault
+pub read_on : (names : List (List ℕ)) (end : ℕ) (s : State) (t : Placed) (ts : List Placed) (rule : Rule) (fault : Option RuleFault) → token_fault names s t ≡ fault
     → unless_fault fault (read_from names end (next names s t.1) ts) ≡ Ok rule → (token_fault names s t ≡ None) × (read_from names end (next names s t.1) ts ≡ Ok rule)
 read_on names end s t ts rule None is_fault is_read = (is_fault, is_read)
 read_on names end s t ts rule (Some fault) is_fault is_read = absurd (is_no_rule fault rule is_read)
