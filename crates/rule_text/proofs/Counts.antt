@@ -1,10 +1,12 @@
 -- What a text of the grammar has: as many nodes as its rule, and codes of the table alone.
 use Rattle.std.proofs.Common.{◌≡◌, ℕ, suc, ◌+◌, ◌<◌, ◌≤◌, Bool, true, false, cond, leb, ltb, ◌&&◌, List, [], ◌∷◌, ◌++◌, Option, Some, None, Result, Ok, Err, length, refl, sym, ap, ◌∙◌, arith}
-use Rattle.std.specs.Prelude.{option_map, position, is_none}
+use Rattle.std.specs.Prelude.{option_map, position, is_none, IfOk, IsTrue}
 use Rattle.std.specs.List.{position_or_len, prefix_len}
 use Rattle.std.proofs.lemmas.Bool.{and_from}
 use Rattle.std.proofs.lemmas.Bool.Decides.{nat_tests}
 use Rattle.pb_base.specs.Rule.{Rule, code, negation, both, either, always, never, nodes, codes_below}
+use Rattle.pb_base.specs.Answers.{Answers}
+use Rattle.pb_base.specs.declared.answer.Fail.{Fail}
 use Rattle.pb_base.specs.Names.{is_code_name, place_in, same_name, true_word, false_word}
 use Rattle.rule_text.specs.Token.{Token, Placed, word, plus, slash, minus, opening, closing, semicolon, other, tokens}
 use Rattle.rule_text.specs.Grammar.{word_rule, IsFactor, IsTerm, IsExpr, IsText, a_word, a_minus, a_bracket, a_factor, a_plus, a_term, a_slash, plain, ended as ended_by}
@@ -147,3 +149,9 @@ pub rule_of-nodes : (names : List (List ℕ)) (text : List ℕ) (rule : Rule) �
 rule_of-nodes names text rule is_read =
     let counted = counted_all names (length text) (tokens text) start [] rule (was_read names text rule is_read) (refl, omega arith) in
     omega (arith, counted, text_nodes names 64 (tokens text) rule (in_grammar names text rule is_read))
+
+-- what an answer that has a rule says of it
+pub keeps_limits : (names : List (List ℕ)) (text : List ℕ) (result : Result Rule (Fail RuleFault)) → Answers result (rule_of names text)
+    → IfOk result (λ rule. IsTrue (codes_below (length names) rule)) × IfOk result (λ rule. nodes rule ≤ 512)
+keeps_limits names text (Ok rule) answer = (rule_of-codes names text rule answer, rule_of-nodes names text rule answer)
+keeps_limits names text (Err error) answer = (tt, tt)

@@ -5,3 +5,4 @@ pub mod Steps
 pub mod Whole
 pub mod Sound
 pub mod Counts
+pub mod Back

@@ -1,9 +1,12 @@
 -- What makes a reader of rules right, in terms of the grammar alone.
-use Rattle.std.specs.Prelude.{◌≡◌, ℕ, ◌<◌, ◌≤◌, ◌⊎◌, List, Result, Ok, Err}
-use Rattle.pb_base.specs.Rule.{Rule, nodes}
+use Rattle.std.specs.Prelude.{◌≡◌, ℕ, ◌<◌, ◌≤◌, ◌⊎◌, true, List, length, Result, Ok, Err, All}
+use Rattle.std.specs.List.{IsDistinct}
+use Rattle.pb_base.specs.Rule.{Rule, nodes, codes_below}
+use Rattle.pb_base.specs.Names.{is_code_name, same_name}
 use Rattle.rule_text.specs.Token.{tokens}
 use Rattle.rule_text.specs.Grammar.{IsText}
 use Rattle.rule_text.specs.Reading.{rule_of}
+use Rattle.rule_text.specs.Printing.{printed, printed_depth}
 use Rattle.rule_text.specs.declared.fault.RuleFault.{RuleFault}
 use Rattle.rule_text.specs.declared.fault.RuleFault.TheVariants.{TooDeep, TooLong}
 
@@ -24,3 +27,17 @@ Complete = (names : List (List ℕ)) (text : List ℕ) (depth : ℕ) (rule : Rul
 abbrev pub Reads : Type 0
 Reads = (names : List (List ℕ)) (text : List ℕ) (depth : ℕ) (rule : Rule) → IsText names depth (tokens text) rule → depth ≤ 64 → nodes rule ≤ 512
   → rule_of names text ≡ Ok rule
+
+-- the names are those of a table of codes
+abbrev pub AreCodes : List (List ℕ) → Type 0
+AreCodes names = All (λ name. is_code_name name ≡ true) names × IsDistinct same_name names
+
+-- what is printed is in the grammar, as the rule that was printed
+abbrev pub PrintsInGrammar : Type 0
+PrintsInGrammar = (names : List (List ℕ)) (rule : Rule) → AreCodes names → codes_below (length names) rule ≡ true
+  → IsText names (printed_depth rule) (tokens (printed names rule)) rule
+
+-- what is printed is read as the rule that was printed, where it keeps the limits
+abbrev pub ReadsBack : Type 0
+ReadsBack = (names : List (List ℕ)) (rule : Rule) → AreCodes names → codes_below (length names) rule ≡ true → printed_depth rule ≤ 64 → nodes rule ≤ 512
+  → rule_of names (printed names rule) ≡ Ok rule

@@ -3,11 +3,13 @@
 
 mod expression;
 mod fault;
+mod laws;
 mod print;
 mod read;
 mod reader;
 mod token;
 
 pub use fault::RuleFault;
+pub use laws::{printing_reads_back, reading_follows_grammar};
 pub use print::print_rule;
 pub use read::read_rule;

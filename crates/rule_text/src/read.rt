@@ -1,5 +1,6 @@
 //! Reading the text of a rule.
-ghost use Rattle.std.specs.Prelude.{◌≡◌, ◌<◌, ◌^◌, length};
+ghost use Rattle.std.specs.Prelude.{◌≡◌, ◌<◌, ◌≤◌, ◌^◌, length, IfOk, IsTrue};
+ghost use Rattle.pb_base.specs.Rule.{codes_below, nodes};
 ghost use Rattle.std.specs.List.{list_all};
 ghost use Rattle.rule_text.specs.Token.{is_blank};
 ghost use Rattle.pb_base.specs.Answers.{Answers};
@@ -14,7 +15,9 @@ use std::alloc::Global;
 /// The formula that a text spells over the codes of a book, or its first fault. The text is a rule as docs/BOOK-FORMAT.md describes it.
 pub fn read_rule(alloc: Global, text: &[u8], codes: &CodeTable) -> Result<Formula, Fail<RuleFault>>
     requires { length text.now < 2 ^ 32 }
-    ensures { Answers result (rule_of codes.now text.now) }
+    ensures answer { Answers result (rule_of codes.now text.now) }
+    ensures codes { IfOk result (λ rule. IsTrue (codes_below (length codes.now) rule)) }
+    ensures short { IfOk result (λ rule. nodes rule ≤ 512) }
 {
     if is_all_blank(text) {
         return Err(Fail::Refused(RuleFault::Empty));
