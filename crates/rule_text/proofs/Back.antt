@@ -39,7 +39,7 @@ word_tokens b name rest at all ends =
     let one_more : 1 + length name ≡ suc (length name) = omega arith in
     let place : (at + 1) + length name ≡ at + suc (length name) = omega arith in
     let behind : tokens_from true (at + 1) (name ++ rest) ≡ tokens_from false (at + suc (length name)) rest =
-      in_word-skips (name ++ rest) (at + 1) ∙ rw (len, drop-append_seam name rest, place) refl in
+    in_word-skips (name ++ rest) (at + 1) ∙ rw (len, drop-append_seam name rest, place) refl in
     rw (parts.0, len, one_more, take-append_seam name rest, behind) refl
 
 -- A text that is followed by the rest: its tokens, and what they are.
@@ -54,9 +54,10 @@ reformed at text rest P Q f p = record { ts = p.ts; form = f p.ts p.form; reads 
 word_printed : (names : List (List ℕ)) (d at b : ℕ) (name rest : List ℕ) (rule : Rule) → list_all is_name_byte (b ∷ name) ≡ true → IsEnd rest
     → word_rule names (b ∷ name) ≡ Some rule → Printed at (b ∷ name) rest (λ ts. IsFactor names d ts rule)
 word_printed names d at b name rest rule all ends found = record {
-    ts = (at, word (b ∷ name)) ∷ [];
-    form = a_word d at (b ∷ name) rule found;
-    reads = word_tokens b name rest at all ends }
+  ts = (at, word (b ∷ name)) ∷ [];
+  form = a_word d at (b ∷ name) rule found;
+  reads = word_tokens b name rest at all ends;
+}
 
 in_brackets : (names : List (List ℕ)) (d at : ℕ) (text rest : List ℕ) (rule : Rule) → Printed (at + 1) text (41 ∷ rest) (λ ts. IsExpr names d ts rule)
     → Printed at (bracketed true text) rest (λ ts. IsFactor names (suc d) ts rule)
@@ -67,8 +68,9 @@ in_brackets names d at text rest rule p =
       ts = (at, opening) ∷ (p.ts ++ (to, closing) ∷ []);
       form = a_bracket d at to p.ts _ rule p.form refl;
       reads = ap (λ xs. (at, opening) ∷ xs)
-        (ap (tokens_from false (at + 1)) (append_assoc text (41 ∷ []) rest) ∙ p.reads ∙ sym (append_assoc p.ts ((to, closing) ∷ []) (tokens_from false (to + 1) rest))
-        ∙ ap (λ k. (p.ts ++ (to, closing) ∷ []) ++ tokens_from false k rest) end) }
+          (ap (tokens_from false (at + 1)) (append_assoc text (41 ∷ []) rest) ∙ p.reads ∙ sym (append_assoc p.ts ((to, closing) ∷ []) (tokens_from false (to + 1) rest))
+          ∙ ap (λ k. (p.ts ++ (to, closing) ∷ []) ++ tokens_from false k rest) end);
+    }
 
 pair_printed : (at b : ℕ) (m : Token) (left right rest : List ℕ) (P Q R : List Placed → Type 0)
     → ((at : ℕ) (bytes : List ℕ) → tokens_from false at (b ∷ bytes) ≡ (at, m) ∷ tokens_from false (at + 1) bytes)
@@ -81,9 +83,10 @@ pair_printed at b m left right rest P Q R is_mark joins p q =
       ts = p.ts ++ (to, m) ∷ q.ts;
       form = joins p.ts q.ts to p.form q.form;
       reads = ap (tokens_from false at) (append_assoc left (b ∷ right) rest) ∙ p.reads
-        ∙ ap (λ xs. p.ts ++ xs) (is_mark to (right ++ rest) ∙ ap (λ xs. (to, m) ∷ xs) q.reads)
-        ∙ sym (append_assoc p.ts ((to, m) ∷ q.ts) (tokens_from false ((to + 1) + length right) rest))
-        ∙ ap (λ k. (p.ts ++ (to, m) ∷ q.ts) ++ tokens_from false k rest) end }
+          ∙ ap (λ xs. p.ts ++ xs) (is_mark to (right ++ rest) ∙ ap (λ xs. (to, m) ∷ xs) q.reads)
+          ∙ sym (append_assoc p.ts ((to, m) ∷ q.ts) (tokens_from false ((to + 1) + length right) rest))
+          ∙ ap (λ k. (p.ts ++ (to, m) ∷ q.ts) ++ tokens_from false k rest) end;
+    }
 
 -- what a rule is in the grammar
 abbrev Form : List (List ℕ) → ℕ → List Placed → Rule → Type 0
@@ -139,7 +142,7 @@ term_printed : (names : List (List ℕ)) (rule : Rule) → Prints names rule →
 term_printed names rule prints true is_needed zero at rest deep ends = absurd (omega arith)
 term_printed names rule prints true is_needed (suc d) at rest deep ends =
     reformed at (bracketed true (printed names rule)) rest (λ ts. IsFactor names (suc d) ts rule) (λ ts. IsTerm names (suc d) ts rule) (λ ts form. a_factor (suc d) ts rule form)
-      (in_brackets names d at (printed names rule) rest rule (expr_printed names rule prints d (at + 1) (41 ∷ rest) (omega arith) refl))
+    (in_brackets names d at (printed names rule) rest rule (expr_printed names rule prints d (at + 1) (41 ∷ rest) (omega arith) refl))
 term_printed names rule prints false is_needed d at rest deep ends =
     reformed at (printed names rule) rest (λ ts. Form names d ts rule) (λ ts. IsTerm names d ts rule) (λ ts form. as_term names d ts rule is_needed form) (prints d at rest deep ends)
 
@@ -152,21 +155,22 @@ negation_prints names rule prints (suc d) at rest deep ends =
     record {
       ts = (at, minus) ∷ p.ts;
       form = a_minus d at p.ts rule p.form;
-      reads = ap (λ xs. (at, minus) ∷ xs) (p.reads ∙ ap (λ k. p.ts ++ tokens_from false k rest) end) }
+      reads = ap (λ xs. (at, minus) ∷ xs) (p.reads ∙ ap (λ k. p.ts ++ tokens_from false k rest) end);
+    }
 
 both_prints : (names : List (List ℕ)) (l r : Rule) → Prints names l → Prints names r → Prints names (both l r)
 both_prints names l r prints_l prints_r d at rest deep ends =
     pair_printed at 43 plus (bracketed (is_either l) (printed names l)) (bracketed (is_pair r) (printed names r)) rest
-      (λ ts. IsTerm names d ts l) (λ ts. IsFactor names d ts r) (λ ts. IsTerm names d ts (both l r)) (λ _ _. refl) (λ ts us at p q. a_plus d at ts us _ l r p q refl)
-      (term_printed names l prints_l (is_either l) refl d at _ (omega arith) refl)
-      (factor_printed names r prints_r (is_pair r) refl d _ rest (omega arith) ends)
+    (λ ts. IsTerm names d ts l) (λ ts. IsFactor names d ts r) (λ ts. IsTerm names d ts (both l r)) (λ _ _. refl) (λ ts us at p q. a_plus d at ts us _ l r p q refl)
+    (term_printed names l prints_l (is_either l) refl d at _ (omega arith) refl)
+    (factor_printed names r prints_r (is_pair r) refl d _ rest (omega arith) ends)
 
 either_prints : (names : List (List ℕ)) (l r : Rule) → Prints names l → Prints names r → Prints names (either l r)
 either_prints names l r prints_l prints_r d at rest deep ends =
     pair_printed at 47 slash (printed names l) (bracketed (is_either r) (printed names r)) rest
-      (λ ts. IsExpr names d ts l) (λ ts. IsTerm names d ts r) (λ ts. IsExpr names d ts (either l r)) (λ _ _. refl) (λ ts us at p q. a_slash d at ts us _ l r p q refl)
-      (expr_printed names l prints_l d at _ (omega arith) refl)
-      (term_printed names r prints_r (is_either r) refl d _ rest (omega arith) ends)
+    (λ ts. IsExpr names d ts l) (λ ts. IsTerm names d ts r) (λ ts. IsExpr names d ts (either l r)) (λ _ _. refl) (λ ts us at p q. a_slash d at ts us _ l r p q refl)
+    (expr_printed names l prints_l d at _ (omega arith) refl)
+    (term_printed names r prints_r (is_either r) refl d _ rest (omega arith) ends)
 
 -- the name of a code, and that the table has it at its place
 not_false : (b : Bool) → not b ≡ true → b ≡ false
@@ -177,9 +181,9 @@ name_place : (names : List (List ℕ)) (place : ℕ) → IsDistinct same_name na
 name_place names place apart inside =
     let name = get_or names place [] in
     let len : prefix_len (λ x. not (same_name name x)) names ≡ place =
-      prefix_len_is (λ x. not (same_name name x)) names place [] (omega arith)
-        (λ k before. ap not (nat_list_eq_equiv.symm name (get_or names k []) ∙ apart_from_distinct same_name names k place [] apart before inside))
-        (λ _. ap not (nat_list_eq_equiv.refl name)) in
+    prefix_len_is (λ x. not (same_name name x)) names place [] (omega arith)
+    (λ k before. ap not (nat_list_eq_equiv.symm name (get_or names k []) ∙ apart_from_distinct same_name names k place [] apart before inside))
+    (λ _. ap not (nat_list_eq_equiv.refl name)) in
     let test : ltb place (length names) ≡ true = grind (arith, nat_tests) in
     rw (len, test) refl
 

@@ -32,7 +32,7 @@ Spelled names room (Some left) last ts = Sum names room left last ts
 record Wanting (names : List (List ℕ)) (f : Frame) (ts : List Placed) : Type 0 where
   shallow : nesting f ≤ 64
   completed : (factor : List Placed) (rule : Rule) → IsFactor names (64 - nesting f) factor rule
-    → Spelled names (64 - f.depth) f.left (joined both f.product (negated f.signs rule)) (ts ++ factor)
+      → Spelled names (64 - f.depth) f.left (joined both f.product (negated f.signs rule)) (ts ++ factor)
 
 -- the tokens before the innermost open bracket, and that bracket
 abbrev Stacked : (names : List (List ℕ)) → ℕ → List Frame → List Placed → Type 0
@@ -57,43 +57,49 @@ plus_factor : (names : List (List ℕ)) (room : ℕ) (left : Option Rule) (last 
 plus_factor names room None last at ts factor rule is_term is_factor =
     a_plus room at ts factor _ last rule is_term is_factor (append_assoc ts ((at, plus) ∷ []) factor)
 plus_factor names room (Some left) last at ts factor rule s is_factor = record {
-    front = s.front;
-    back = s.back ++ (at, plus) ∷ factor;
-    at = s.at;
-    is_front = s.is_front;
-    is_back = a_plus room at s.back factor _ last rule s.is_back is_factor refl;
-    joins = append_assoc ts ((at, plus) ∷ []) factor ∙ ap (λ xs. xs ++ (at, plus) ∷ factor) s.joins ∙ append_assoc s.front ((s.at, slash) ∷ s.back) ((at, plus) ∷ factor) }
+  front = s.front;
+  back = s.back ++ (at, plus) ∷ factor;
+  at = s.at;
+  is_front = s.is_front;
+  is_back = a_plus room at s.back factor _ last rule s.is_back is_factor refl;
+  joins = append_assoc ts ((at, plus) ∷ []) factor ∙ ap (λ xs. xs ++ (at, plus) ∷ factor) s.joins ∙ append_assoc s.front ((s.at, slash) ∷ s.back) ((at, plus) ∷ factor);
+}
 
 with_plus_wanting : (names : List (List ℕ)) (e : Expression) (at : ℕ) (ts : List Placed) → e.depth ≤ 64 → Spelled names (64 - e.depth) e.left e.product ts → Wanting names (with_plus e) (ts ++ (at, plus) ∷ [])
 with_plus_wanting names e at ts shallow spelled = record {
-    shallow = omega arith;
-    completed = λ factor rule is_factor. plus_factor names (64 - e.depth) e.left e.product at ts factor rule spelled
-      (at_depth names (64 - (e.depth + 0)) (64 - e.depth) factor rule (omega arith) is_factor) }
+  shallow = omega arith;
+  completed = λ factor rule is_factor. plus_factor names (64 - e.depth) e.left e.product at ts factor rule spelled
+      (at_depth names (64 - (e.depth + 0)) (64 - e.depth) factor rule (omega arith) is_factor);
+}
 
 with_slash_wanting : (names : List (List ℕ)) (e : Expression) (at : ℕ) (ts : List Placed) → e.depth ≤ 64 → Spelled names (64 - e.depth) e.left e.product ts → Wanting names (with_slash e) (ts ++ (at, slash) ∷ [])
 with_slash_wanting names e at ts shallow spelled = record {
-    shallow = omega arith;
-    completed = λ factor rule is_factor. record {
-      front = ts;
-      back = factor;
-      at = at;
-      is_front = whole_expr names (64 - e.depth) e.left e.product ts spelled;
-      is_back = a_factor (64 - e.depth) factor rule (at_depth names (64 - (e.depth + 0)) (64 - e.depth) factor rule (omega arith) is_factor);
-      joins = append_assoc ts ((at, slash) ∷ []) factor } }
+  shallow = omega arith;
+  completed = λ factor rule is_factor. record {
+    front = ts;
+    back = factor;
+    at = at;
+    is_front = whole_expr names (64 - e.depth) e.left e.product ts spelled;
+    is_back = a_factor (64 - e.depth) factor rule (at_depth names (64 - (e.depth + 0)) (64 - e.depth) factor rule (omega arith) is_factor);
+    joins = append_assoc ts ((at, slash) ∷ []) factor;
+  };
+}
 
 with_sign_wanting : (names : List (List ℕ)) (f : Frame) (at : ℕ) (ts : List Placed) → nesting f < 64 → Wanting names f ts → Wanting names (with_sign f) (ts ++ (at, minus) ∷ [])
 with_sign_wanting names f at ts room w = record {
-    shallow = omega arith;
-    completed = λ factor rule is_factor.
+  shallow = omega arith;
+  completed = λ factor rule is_factor.
       subst (λ xs. Spelled names (64 - f.depth) f.left (joined both f.product (negated f.signs (negation rule))) xs) (sym (append_assoc ts ((at, minus) ∷ []) factor))
-        (w.completed ((at, minus) ∷ factor) (negation rule)
-          (at_depth names (suc (64 - nesting (with_sign f))) (64 - nesting f) ((at, minus) ∷ factor) (negation rule) (omega arith)
-            (a_minus (64 - nesting (with_sign f)) at factor rule is_factor))) }
+      (w.completed ((at, minus) ∷ factor) (negation rule)
+      (at_depth names (suc (64 - nesting (with_sign f))) (64 - nesting f) ((at, minus) ∷ factor) (negation rule) (omega arith)
+      (a_minus (64 - nesting (with_sign f)) at factor rule is_factor)));
+}
 
 in_bracket_wanting : (names : List (List ℕ)) (depth : ℕ) → depth ≤ 64 → Wanting names (in_bracket depth) []
 in_bracket_wanting names depth shallow = record {
-    shallow = omega arith;
-    completed = λ factor rule is_factor. a_factor (64 - depth) factor rule (at_depth names (64 - (depth + 0)) (64 - depth) factor rule (omega arith) is_factor) }
+  shallow = omega arith;
+  completed = λ factor rule is_factor. a_factor (64 - depth) factor rule (at_depth names (64 - (depth + 0)) (64 - depth) factor rule (omega arith) is_factor);
+}
 
 -- a test that a token passed
 passed : (fails : Bool) (fault : RuleFault) (others : Option RuleFault) → cond fails (Some fault) others ≡ None → (fails ≡ false) × (others ≡ None)
@@ -119,16 +125,20 @@ after_word names f under n at w done None found known s = cc
 after_word names f under n at w done (Some rule) found known (outer, inner, stacked, wanting, joins) =
     let deep = wanting.shallow in
     rw found
-      (outer, inner ++ (at, word w) ∷ [], stacked, omega arith, wanting.completed ((at, word w) ∷ []) rule (a_word (64 - nesting f) at w rule found), one_more done outer inner (at, word w) joins)
+    (outer, inner ++ (at, word w) ∷ [], stacked, omega arith, wanting.completed ((at, word w) ∷ []) rule (a_word (64 - nesting f) at w rule found), one_more done outer inner (at, word w) joins)
 
 after_closing : (names : List (List ℕ)) (e : Expression) (f : Frame) (under : List Frame) (n at : ℕ) (done : List Placed)
     → Spells names (after e (f ∷ under) n) done → Spells names (after (with_factor f (whole e)) under n) (done ++ (at, closing) ∷ [])
 after_closing names e f under n at done (outer, inner, (outer2, inner2, at2, stacked2, wanting2, nests, room, joins2), shallow, spelled, joins) =
     let deep = wanting2.shallow in
-    let bracket = a_bracket (64 - e.depth) at2 at inner _ (whole e) (whole_expr names (64 - e.depth) e.left e.product inner spelled) refl in
-    (outer2, inner2 ++ ((at2, opening) ∷ (inner ++ (at, closing) ∷ [])), stacked2, omega arith,
+    let bracket = a_bracket (64 - e.depth) at2 at inner _ (whole e) (whole_expr names (64 - e.depth) e.left e.product inner spelled) refl in (
+      outer2,
+      inner2 ++ ((at2, opening) ∷ (inner ++ (at, closing) ∷ [])),
+      stacked2,
+      omega arith,
       wanting2.completed ((at2, opening) ∷ (inner ++ (at, closing) ∷ [])) (whole e) (at_depth names (suc (64 - e.depth)) (64 - nesting f) _ (whole e) (omega arith) bracket),
-      ap (λ xs. xs ++ (at, closing) ∷ []) joins ∙ ap (λ xs. (xs ++ inner) ++ (at, closing) ∷ []) joins2 ∙ regrouped outer2 inner2 ((at2, opening) ∷ []) inner ((at, closing) ∷ []))
+      ap (λ xs. xs ++ (at, closing) ∷ []) joins ∙ ap (λ xs. (xs ++ inner) ++ (at, closing) ∷ []) joins2 ∙ regrouped outer2 inner2 ((at2, opening) ∷ []) inner ((at, closing) ∷ []),
+    )
 
 -- outside all brackets an expression is a text
 text_expr : (names : List (List ℕ)) (e : Expression) (n : ℕ) (done : List Placed) → Spells names (after e [] n) done → IsExpr names 64 done (whole e)
@@ -148,9 +158,13 @@ spells_next names (before f under n) (at, minus) done none (outer, inner, stacke
     (outer, inner ++ (at, minus) ∷ [], stacked, with_sign_wanting names f at inner room wanting, one_more done outer inner (at, minus) joins)
 spells_next names (before f under n) (at, opening) done none (outer, inner, stacked, wanting, joins) =
     let test : leb 64 (nesting f) ≡ false = (passed (leb 64 (nesting f)) (TooDeep at) None none).0 in
-    let room : nesting f < 64 = grind (arith, nat_tests) in
-    (outer ++ (inner ++ (at, opening) ∷ []), [], (outer, inner, at, stacked, wanting, refl, room, refl), in_bracket_wanting names (nesting f + 1) (omega arith),
-      one_more done outer inner (at, opening) joins ∙ sym (append-nil (outer ++ (inner ++ (at, opening) ∷ []))))
+    let room : nesting f < 64 = grind (arith, nat_tests) in (
+      outer ++ (inner ++ (at, opening) ∷ []),
+      [],
+      (outer, inner, at, stacked, wanting, refl, room, refl),
+      in_bracket_wanting names (nesting f + 1) (omega arith),
+      one_more done outer inner (at, opening) joins ∙ sym (append-nil (outer ++ (inner ++ (at, opening) ∷ []))),
+    )
 spells_next names (after e under n) (at, plus) done none (outer, inner, stacked, shallow, spelled, joins) =
     (outer, inner ++ (at, plus) ∷ [], stacked, with_plus_wanting names e at inner shallow spelled, one_more done outer inner (at, plus) joins)
 spells_next names (after e under n) (at, slash) done none (outer, inner, stacked, shallow, spelled, joins) =
@@ -184,7 +198,7 @@ spells_all names end [] s done rule is_read spells = subst (λ (xs : List Placed
 spells_all names end (t ∷ ts) s done rule is_read spells =
     let parts = read_on names end s t ts rule (token_fault names s t) refl is_read in
     subst (λ (xs : List Placed). IsText names 64 xs rule) (append_assoc done (t ∷ []) ts)
-      (spells_all names end ts (next names s t.1) (done ++ t ∷ []) rule parts.1 (spells_next names s t done parts.0 spells))
+    (spells_all names end ts (next names s t.1) (done ++ t ∷ []) rule parts.1 (spells_next names s t done parts.0 spells))
 
 starts : (names : List (List ℕ)) → Spells names start []
 starts names = ([], [], (refl, refl), in_bracket_wanting names 0 (omega arith), refl)

@@ -94,67 +94,69 @@ mutual
       let then = factor_reads names end dd inner r is_factor (with_sign f) under (n + 1) rest in
       let count : (n + 1) + nodes r ≡ n + (nodes r + 1) = omega arith in
       and_then _ _ _ (nesting f + 1) (nesting f + suc dd) (nesting f + suc dd) (n + 1) (n + (nodes r + 1)) (n + (nodes r + 1)) (omega arith) (omega arith) (omega arith) (omega arith)
-        (sign (nesting f) n at (read_from names end (before (with_sign f) under (n + 1)) (inner ++ rest)))
-        (along _ _ _ _ (nesting (with_sign f) + dd) (nesting f + suc dd) ((n + 1) + nodes r) (n + (nodes r + 1)) refl
-          (ap (λ k. read_from names end (after (with_factor f (negation r)) under k) rest) count) (omega arith) (omega arith) then)
+      (sign (nesting f) n at (read_from names end (before (with_sign f) under (n + 1)) (inner ++ rest)))
+      (along _ _ _ _ (nesting (with_sign f) + dd) (nesting f + suc dd) ((n + 1) + nodes r) (n + (nodes r + 1)) refl
+      (ap (λ k. read_from names end (after (with_factor f (negation r)) under k) rest) count) (omega arith) (omega arith) then)
   factor_reads names end d ts rule (a_bracket dd at to inner all r is_expr joins) f under n rest =
       let e = expr_reads names end dd inner r is_expr (nesting f + 1) (f ∷ under) n in
       let whole_text = ap (λ ts. ts ++ rest) joins ∙ ap (λ ts. (at, opening) ∷ ts) (append_assoc inner ((to, closing) ∷ []) rest) in
       along _ _ _ _ (nesting f + suc dd) (nesting f + suc dd) (n + nodes r) (n + nodes r)
-        (ap (read_from names end (before f under n)) whole_text)
-        (ap (λ factor. read_from names end (after (with_factor f factor) under (n + nodes r)) rest) e.is_rule) (omega arith) (omega arith)
-        (and_then _ _ _ (nesting f + 1) ((nesting f + 1) + dd) (nesting f + suc dd) n (n + nodes r) (n + nodes r) (omega arith) (omega arith) (omega arith) (omega arith)
-          (shallow (nesting f) n at (read_from names end (before (in_bracket (nesting f + 1)) (f ∷ under) n) (inner ++ (to, closing) ∷ rest)))
-          (e.outcome ((to, closing) ∷ rest)))
+      (ap (read_from names end (before f under n)) whole_text)
+      (ap (λ factor. read_from names end (after (with_factor f factor) under (n + nodes r)) rest) e.is_rule) (omega arith) (omega arith)
+      (and_then _ _ _ (nesting f + 1) ((nesting f + 1) + dd) (nesting f + suc dd) n (n + nodes r) (n + nodes r) (omega arith) (omega arith) (omega arith) (omega arith)
+      (shallow (nesting f) n at (read_from names end (before (in_bracket (nesting f + 1)) (f ∷ under) n) (inner ++ (to, closing) ∷ rest)))
+      (e.outcome ((to, closing) ∷ rest)))
 
   term_reads : (names : List (List ℕ)) (end : ℕ) (d : ℕ) (ts : List Placed) (rule : Rule) → IsTerm names d ts rule
       → (depth : ℕ) (left : Option Rule) (under : List Frame) (n : ℕ) (rest : List Placed)
       → Outcome (read_from names end (before (record { depth = depth; left = left; product = None; signs = zero }) under n) (ts ++ rest))
-        (read_from names end (after (record { depth = depth; left = left; product = rule }) under (n + nodes rule)) rest) (depth + d) (n + nodes rule)
+      (read_from names end (after (record { depth = depth; left = left; product = rule }) under (n + nodes rule)) rest) (depth + d) (n + nodes rule)
   term_reads names end d ts rule (a_factor dd tt rr is_factor) depth left under n rest =
       along _ _ _ _ ((depth + 0) + d) (depth + d) (n + nodes rule) (n + nodes rule) refl refl (omega arith) (omega arith)
-        (factor_reads names end d ts rule is_factor (record { depth = depth; left = left; product = None; signs = zero }) under n rest)
+      (factor_reads names end d ts rule is_factor (record { depth = depth; left = left; product = None; signs = zero }) under n rest)
   term_reads names end d ts rule (a_plus dd at front back all l r is_term is_factor joins) depth left under n rest =
       let whole_text = ap (λ ts. ts ++ rest) joins ∙ append_assoc front ((at, plus) ∷ back) rest in
       let f : Frame = record { depth = depth; left = left; product = Some l; signs = zero } in
       let count : ((n + nodes l) + 1) + nodes r ≡ n + (nodes l + nodes r + 1) = omega arith in
       let last = along _ _ _ _ ((depth + 0) + d) (depth + d) (((n + nodes l) + 1) + nodes r) (n + (nodes l + nodes r + 1)) refl
-        (ap (λ k. read_from names end (after (with_factor f r) under k) rest) count) (omega arith) (omega arith)
-        (factor_reads names end d back r is_factor f under ((n + nodes l) + 1) rest) in
+      (ap (λ k. read_from names end (after (with_factor f r) under k) rest) count) (omega arith) (omega arith)
+      (factor_reads names end d back r is_factor f under ((n + nodes l) + 1) rest) in
       along _ _ _ _ (depth + d) (depth + d) (n + (nodes l + nodes r + 1)) (n + (nodes l + nodes r + 1))
-        (ap (read_from names end (before (record { depth = depth; left = left; product = None; signs = zero }) under n)) whole_text) refl (omega arith) (omega arith)
-        (and_then _ _ _ (depth + d) (depth + d) (depth + d) (n + nodes l) (n + (nodes l + nodes r + 1)) (n + (nodes l + nodes r + 1)) (omega arith) (omega arith) (omega arith) (omega arith)
-          (term_reads names end d front l is_term depth left under n ((at, plus) ∷ (back ++ rest)))
-          (and_then _ _ _ (depth + d) (depth + d) (depth + d) ((n + nodes l) + 1) (n + (nodes l + nodes r + 1)) (n + (nodes l + nodes r + 1)) (omega arith) (omega arith) (omega arith) (omega arith)
-            (short (n + nodes l) at (depth + d) (read_from names end (before f under ((n + nodes l) + 1)) (back ++ rest)))
-            last))
+      (ap (read_from names end (before (record { depth = depth; left = left; product = None; signs = zero }) under n)) whole_text) refl (omega arith) (omega arith)
+      (and_then _ _ _ (depth + d) (depth + d) (depth + d) (n + nodes l) (n + (nodes l + nodes r + 1)) (n + (nodes l + nodes r + 1)) (omega arith) (omega arith) (omega arith) (omega arith)
+      (term_reads names end d front l is_term depth left under n ((at, plus) ∷ (back ++ rest)))
+      (and_then _ _ _ (depth + d) (depth + d) (depth + d) ((n + nodes l) + 1) (n + (nodes l + nodes r + 1)) (n + (nodes l + nodes r + 1)) (omega arith) (omega arith) (omega arith) (omega arith)
+      (short (n + nodes l) at (depth + d) (read_from names end (before f under ((n + nodes l) + 1)) (back ++ rest)))
+      last))
 
   expr_reads : (names : List (List ℕ)) (end : ℕ) (d : ℕ) (ts : List Placed) (rule : Rule) → IsExpr names d ts rule
       → (depth : ℕ) (under : List Frame) (n : ℕ) → ExprReads names end d depth n under ts rule
   expr_reads names end d ts rule (a_term dd tt rr is_term) depth under n = record {
-      read = record { depth = depth; left = None; product = rule };
-      is_rule = refl;
-      same_depth = refl;
-      outcome = λ rest. term_reads names end d ts rule is_term depth None under n rest }
+    read = record { depth = depth; left = None; product = rule };
+    is_rule = refl;
+    same_depth = refl;
+    outcome = λ rest. term_reads names end d ts rule is_term depth None under n rest;
+  }
   expr_reads names end d ts rule (a_slash dd at front back all l r is_expr is_term joins) depth under n =
       let e = expr_reads names end d front l is_expr depth under n in
       let same = e.same_depth in
       let count : ((n + nodes l) + 1) + nodes r ≡ n + (nodes l + nodes r + 1) = omega arith in
       let last = λ (rest : List Placed). along _ _ _ _ (e.read.depth + d) (depth + d) (((n + nodes l) + 1) + nodes r) (n + (nodes l + nodes r + 1)) refl
-        (ap (λ k. read_from names end (after (record { depth = e.read.depth; left = Some (whole e.read); product = r }) under k) rest) count) (omega arith) (omega arith)
-        (term_reads names end d back r is_term e.read.depth (Some (whole e.read)) under ((n + nodes l) + 1) rest) in
+      (ap (λ k. read_from names end (after (record { depth = e.read.depth; left = Some (whole e.read); product = r }) under k) rest) count) (omega arith) (omega arith)
+      (term_reads names end d back r is_term e.read.depth (Some (whole e.read)) under ((n + nodes l) + 1) rest) in
       record {
         read = record { depth = e.read.depth; left = Some (whole e.read); product = r };
         is_rule = ap (λ x. either x r) e.is_rule;
         same_depth = same;
         outcome = λ rest.
-          along _ _ _ _ (depth + d) (depth + d) (n + (nodes l + nodes r + 1)) (n + (nodes l + nodes r + 1))
+            along _ _ _ _ (depth + d) (depth + d) (n + (nodes l + nodes r + 1)) (n + (nodes l + nodes r + 1))
             (ap (read_from names end (before (in_bracket depth) under n)) (ap (λ ts. ts ++ rest) joins ∙ append_assoc front ((at, slash) ∷ back) rest)) refl (omega arith) (omega arith)
             (and_then _ _ _ (depth + d) (depth + d) (depth + d) (n + nodes l) (n + (nodes l + nodes r + 1)) (n + (nodes l + nodes r + 1)) (omega arith) (omega arith) (omega arith) (omega arith)
-              (e.outcome ((at, slash) ∷ (back ++ rest)))
-              (and_then _ _ _ (depth + d) (depth + d) (depth + d) ((n + nodes l) + 1) (n + (nodes l + nodes r + 1)) (n + (nodes l + nodes r + 1)) (omega arith) (omega arith) (omega arith) (omega arith)
-                (short (n + nodes l) at (depth + d) (read_from names end (before (with_slash e.read) under ((n + nodes l) + 1)) (back ++ rest)))
-                (last rest))) }
+            (e.outcome ((at, slash) ∷ (back ++ rest)))
+            (and_then _ _ _ (depth + d) (depth + d) (depth + d) ((n + nodes l) + 1) (n + (nodes l + nodes r + 1)) (n + (nodes l + nodes r + 1)) (omega arith) (omega arith) (omega arith) (omega arith)
+            (short (n + nodes l) at (depth + d) (read_from names end (before (with_slash e.read) under ((n + nodes l) + 1)) (back ++ rest)))
+            (last rest)));
+      }
 
 -- from the start of a text to its end
 expr_text : (names : List (List ℕ)) (end d : ℕ) (ts : List Placed) (rule : Rule) → IsExpr names d ts rule → Outcome (read_from names end start ts) (Ok rule) d (nodes rule)
@@ -189,7 +191,7 @@ text_reads-by : (names : List (List ℕ)) (text : List ℕ) (d : ℕ) (rule : Ru
     → (rule_of names text ≡ Ok rule) ⊎ MeetsLimit d (nodes rule) (rule_of names text)
 text_reads-by names text d rule true blank is_text =
     absurd (no_tokens (length text) d rule (subst (λ ts. Outcome (read_from names (length text) start ts) (Ok rule) d (nodes rule)) (blanks_tokens text 0 blank)
-      (text_tokens names (length text) d (tokens text) rule is_text)))
+    (text_tokens names (length text) d (tokens text) rule is_text)))
 text_reads-by names text d rule false blank is_text =
     along _ _ _ _ d d (nodes rule) (nodes rule) (sym (rule_of-read names text blank)) refl (omega arith) (omega arith) (text_tokens names (length text) d (tokens text) rule is_text)
 

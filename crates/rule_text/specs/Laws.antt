@@ -21,12 +21,12 @@ Sound = (names : List (List ℕ)) (text : List ℕ) (rule : Rule) → rule_of na
 -- what is in the grammar is read as that rule, unless it meets a limit
 abbrev pub Complete : Type 0
 Complete = (names : List (List ℕ)) (text : List ℕ) (depth : ℕ) (rule : Rule) → IsText names depth (tokens text) rule
-  → (rule_of names text ≡ Ok rule) ⊎ MeetsLimit depth (nodes rule) (rule_of names text)
+    → (rule_of names text ≡ Ok rule) ⊎ MeetsLimit depth (nodes rule) (rule_of names text)
 
 -- a text of the grammar that keeps the limits meets none
 abbrev pub Reads : Type 0
 Reads = (names : List (List ℕ)) (text : List ℕ) (depth : ℕ) (rule : Rule) → IsText names depth (tokens text) rule → depth ≤ 64 → nodes rule ≤ 512
-  → rule_of names text ≡ Ok rule
+    → rule_of names text ≡ Ok rule
 
 -- the names are those of a table of codes
 abbrev pub AreCodes : List (List ℕ) → Type 0
@@ -35,9 +35,9 @@ AreCodes names = All (λ name. is_code_name name ≡ true) names × IsDistinct s
 -- what is printed is in the grammar, as the rule that was printed
 abbrev pub PrintsInGrammar : Type 0
 PrintsInGrammar = (names : List (List ℕ)) (rule : Rule) → AreCodes names → codes_below (length names) rule ≡ true
-  → IsText names (printed_depth rule) (tokens (printed names rule)) rule
+    → IsText names (printed_depth rule) (tokens (printed names rule)) rule
 
 -- what is printed is read as the rule that was printed, where it keeps the limits
 abbrev pub ReadsBack : Type 0
 ReadsBack = (names : List (List ℕ)) (rule : Rule) → AreCodes names → codes_below (length names) rule ≡ true → printed_depth rule ≤ 64 → nodes rule ≤ 512
-  → rule_of names (printed names rule) ≡ Ok rule
+    → rule_of names (printed names rule) ≡ Ok rule

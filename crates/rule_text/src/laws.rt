@@ -6,12 +6,10 @@ pub fn reading_follows_grammar()
     ensures sound { Sound }
     ensures complete { Complete }
     ensures within_limits { Reads }
-{
-}
+{}
 
 /// What is printed is in the grammar, as the rule that was printed. It is read as that rule where it keeps the limits.
 pub fn printing_reads_back()
     ensures spelled { PrintsInGrammar }
     ensures read { ReadsBack }
-{
-}
+{}

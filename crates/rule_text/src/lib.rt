@@ -13,3 +13,6 @@ pub use fault::RuleFault;
 pub use laws::{printing_reads_back, reading_follows_grammar};
 pub use print::print_rule;
 pub use read::read_rule;
+
+#[cfg(test)]
+mod tests;
