@@ -1,6 +1,6 @@
 -- What is printed is in the grammar, and is read back.
 use Rattle.std.proofs.Common.{◌≡◌, ℕ, suc, zero, ◌+◌, ◌<◌, ◌≤◌, Bool, true, false, not, cond, leb, ltb, ◌&&◌, List, [], ◌∷◌, ◌++◌, Option, Some, None, Result, Ok, Err, length, length-append, take, drop, get_or, refl, sym, ap, subst, ◌∙◌, append_assoc, arith}
-use Rattle.std.specs.Prelude.{All, position}
+use Rattle.std.specs.Prelude.{position}
 use Rattle.std.specs.List.{IsDistinct, list_all, prefix_len, take_while}
 use Rattle.std.specs.Cmp.Lexicographic.{nat_list_eq_equiv}
 use Rattle.std.proofs.Math.Seq.{take-append_seam, drop-append_seam}
@@ -206,12 +206,18 @@ name_printed : (names : List (List ℕ)) (d at : ℕ) (name rest : List ℕ) (ru
 name_printed names d at [] rest rule some all ends found = absurd (false≢true some)
 name_printed names d at (b ∷ name) rest rule some all ends found = word_printed names d at b name rest rule all ends found
 
+all_at : (names : List (List ℕ)) (place : ℕ) → list_all is_code_name names ≡ true → place < length names → is_code_name (get_or names place []) ≡ true
+all_at [] place all inside = absurd (omega arith)
+all_at (name ∷ names) zero all inside = (and_parts (is_code_name name) (list_all is_code_name names) all).0
+all_at (name ∷ names) (suc place) all inside = all_at names place (and_parts (is_code_name name) (list_all is_code_name names) all).1 (omega arith)
+
 code_prints : (names : List (List ℕ)) (place : ℕ) → AreCodes names → ltb place (length names) ≡ true → Prints names (code place)
 code_prints names place (codes, apart) below d at rest deep ends =
     let inside : place < length names = grind (arith, nat_tests) in
     let name = get_or names place [] in
-    let bytes = name_bytes name (codes place [] inside) in
-    name_printed names d at name rest (code place) bytes.0 bytes.1 ends (code_word names place name (codes place [] inside) (name_place names place apart inside))
+    let is_code = all_at names place codes inside in
+    let bytes = name_bytes name is_code in
+    name_printed names d at name rest (code place) bytes.0 bytes.1 ends (code_word names place name is_code (name_place names place apart inside))
 
 prints : (names : List (List ℕ)) (rule : Rule) → AreCodes names → codes_below (length names) rule ≡ true → Prints names rule
 prints names (code place) codes below = code_prints names place codes below

@@ -12,6 +12,7 @@ use Rattle.rule_text.specs.Token.{Token, Placed, word, plus, slash, minus, openi
 use Rattle.rule_text.specs.Grammar.{word_rule, IsFactor, IsTerm, IsExpr, IsText, a_word, a_minus, a_bracket, a_factor, a_plus, a_term, a_slash, plain, ended as ended_by}
 use Rattle.rule_text.specs.Reading.{State, before, after, ended, next, token_fault, unless_fault, read_from, finish, start, is_node, nodes_before, rule_of}
 use Rattle.rule_text.proofs.Whole.{word_node}
+use Rattle.rule_text.proofs.Steps.{passed, misfit, behind_end}
 use Rattle.rule_text.proofs.Sound.{in_grammar, was_read, read_on}
 use Rattle.rule_text.specs.declared.fault.RuleFault.{RuleFault}
 use Rattle.rule_text.specs.declared.fault.RuleFault.TheVariants.{TooDeep, TooLong, UnknownCode}
@@ -107,22 +108,11 @@ long-by n fault within none = long-test n fault (leb 512 n) refl within none
     long-test n fault true is_long within none = cc
     long-test n fault false is_long within none = grind (arith, nat_tests)
 
-others_none : (fails : Bool) (fault : RuleFault) (others : Option RuleFault) → cond fails (Some fault) others ≡ None → others ≡ None
-others_none true fault others none = cc
-others_none false fault others none = none
-
-misfit : (fault : RuleFault) → Some fault ≡ None → ⊥
-misfit fault none = cc
-
-behind_end : (bad : Bool) (fault other_fault : RuleFault) → cond bad (Some fault) (Some other_fault) ≡ None → ⊥
-behind_end true fault other_fault none = cc
-behind_end false fault other_fault none = cc
-
 counted_next : (names : List (List ℕ)) (s : State) (t : Placed) (done : List Placed) → token_fault names s t ≡ None → Counted s done → Counted (next names s t.1) (done ++ t ∷ [])
 counted_next names (before f under n) (at, word w) done none (is_count, within) =
-    (omega (arith, node_count-append done ((at, word w) ∷ [])), long-by n (TooLong at) within (others_none (is_none (word_rule names w)) (UnknownCode at) (cond (leb 512 n) (Some (TooLong at)) None) none))
+    (omega (arith, node_count-append done ((at, word w) ∷ [])), long-by n (TooLong at) within (passed (is_none (word_rule names w)) (UnknownCode at) (cond (leb 512 n) (Some (TooLong at)) None) none).1)
 counted_next names (before f under n) (at, minus) done none (is_count, within) =
-    (omega (arith, node_count-append done ((at, minus) ∷ [])), long-by n (TooLong at) within (others_none (leb 64 (f.depth + f.signs)) (TooDeep at) (cond (leb 512 n) (Some (TooLong at)) None) none))
+    (omega (arith, node_count-append done ((at, minus) ∷ [])), long-by n (TooLong at) within (passed (leb 64 (f.depth + f.signs)) (TooDeep at) (cond (leb 512 n) (Some (TooLong at)) None) none).1)
 counted_next names (before f under n) (at, opening) done none (is_count, within) = (omega (arith, node_count-append done ((at, opening) ∷ [])), within)
 counted_next names (after e under n) (at, plus) done none (is_count, within) = (omega (arith, node_count-append done ((at, plus) ∷ [])), long-by n (TooLong at) within none)
 counted_next names (after e under n) (at, slash) done none (is_count, within) = (omega (arith, node_count-append done ((at, slash) ∷ [])), long-by n (TooLong at) within none)

@@ -8,7 +8,7 @@ use Rattle.pb_base.specs.Rule.{Rule, negation, both, either, nodes}
 use Rattle.rule_text.specs.Token.{Token, Placed, word, plus, slash, minus, opening, closing, semicolon, other, is_blank, tokens}
 use Rattle.rule_text.specs.Grammar.{word_rule, IsFactor, IsTerm, IsExpr, IsText, a_word, a_minus, a_bracket, a_factor, a_plus, a_term, a_slash, plain, ended as ended_by}
 use Rattle.rule_text.specs.Reading.{Frame, Expression, State, before, after, ended, joined, negated, whole, with_factor, with_sign, with_plus, with_slash, in_bracket, nesting, next, token_fault, unless_fault, read_from, finish, start, rule_of}
-use Rattle.rule_text.proofs.Steps.{rule_of-read, rule_of-empty}
+use Rattle.rule_text.proofs.Steps.{rule_of-read, rule_of-empty, passed, misfit, behind_end}
 use Rattle.rule_text.specs.declared.fault.RuleFault.{RuleFault}
 use Rattle.rule_text.specs.declared.fault.RuleFault.TheVariants.{Empty, UnknownCode, TooDeep, TooLong}
 
@@ -100,18 +100,6 @@ in_bracket_wanting names depth shallow = record {
   shallow = omega arith;
   completed = λ factor rule is_factor. a_factor (64 - depth) factor rule (at_depth names (64 - (depth + 0)) (64 - depth) factor rule (omega arith) is_factor);
 }
-
--- a test that a token passed
-passed : (fails : Bool) (fault : RuleFault) (others : Option RuleFault) → cond fails (Some fault) others ≡ None → (fails ≡ false) × (others ≡ None)
-passed true fault others none = cc
-passed false fault others none = (refl, none)
-
-misfit : (fault : RuleFault) → Some fault ≡ None → ⊥
-misfit fault none = cc
-
-behind_end : (bad : Bool) (fault other_fault : RuleFault) → cond bad (Some fault) (Some other_fault) ≡ None → ⊥
-behind_end true fault other_fault none = cc
-behind_end false fault other_fault none = cc
 
 regrouped : (a b c d e : List Placed) → ((a ++ (b ++ c)) ++ d) ++ e ≡ a ++ (b ++ (c ++ (d ++ e)))
 regrouped a b c d e = simp append_assoc

@@ -1,5 +1,5 @@
 -- Reading on behind a token.
-use Rattle.std.proofs.Common.{◌≡◌, ℕ, ◌+◌, ◌<◌, false, true, List, ◌∷◌, length, drop, get_or, Option, Some, None, Result, Ok, Err, refl, sym, ap, ◌∙◌}
+use Rattle.std.proofs.Common.{◌≡◌, ℕ, ◌+◌, ◌<◌, cond, Bool, false, true, List, ◌∷◌, length, drop, get_or, Option, Some, None, Result, Ok, Err, refl, sym, ap, ◌∙◌}
 use Rattle.pb_base.specs.Rule.{Rule}
 use Rattle.std.specs.List.{list_all}
 use Rattle.pb_base.specs.Answers.{Answers}
@@ -57,3 +57,16 @@ rule_of-read names text some = rw some refl
 pub rule_of-empty : (names : List (List ℕ)) (text : List ℕ) → list_all is_blank text ≡ true → rule_of names text ≡ Err Empty
 unfolding rule_of
 rule_of-empty names text none = rw none refl
+
+-- a test that a token passed
+pub passed : (fails : Bool) (fault : RuleFault) (others : Option RuleFault) → cond fails (Some fault) others ≡ None → (fails ≡ false) × (others ≡ None)
+passed true fault others none = cc
+passed false fault others none = (refl, none)
+
+-- no test fails where there is no fault
+pub misfit : (fault : RuleFault) → Some fault ≡ None → ⊥
+misfit fault none = cc
+
+pub behind_end : (bad : Bool) (fault other_fault : RuleFault) → cond bad (Some fault) (Some other_fault) ≡ None → ⊥
+behind_end true fault other_fault none = cc
+behind_end false fault other_fault none = cc

@@ -1,6 +1,6 @@
 -- What makes a reader of rules right, in terms of the grammar alone.
-use Rattle.std.specs.Prelude.{◌≡◌, ℕ, ◌<◌, ◌≤◌, ◌⊎◌, true, List, length, Result, Ok, Err, All}
-use Rattle.std.specs.List.{IsDistinct}
+use Rattle.std.specs.Prelude.{◌≡◌, ℕ, ◌<◌, ◌≤◌, ◌⊎◌, true, List, length, Result, Ok, Err}
+use Rattle.std.specs.List.{IsDistinct, list_all}
 use Rattle.pb_base.specs.Rule.{Rule, nodes, codes_below}
 use Rattle.pb_base.specs.Names.{is_code_name, same_name}
 use Rattle.rule_text.specs.Token.{tokens}
@@ -30,7 +30,7 @@ Reads = (names : List (List ℕ)) (text : List ℕ) (depth : ℕ) (rule : Rule) 
 
 -- the names are those of a table of codes
 abbrev pub AreCodes : List (List ℕ) → Type 0
-AreCodes names = All (λ name. is_code_name name ≡ true) names × IsDistinct same_name names
+AreCodes names = (list_all is_code_name names ≡ true) × IsDistinct same_name names
 
 -- what is printed is in the grammar, as the rule that was printed
 abbrev pub PrintsInGrammar : Type 0
