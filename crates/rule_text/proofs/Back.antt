@@ -1,7 +1,6 @@
 -- What is printed is in the grammar, and is read back.
-use Rattle.std.proofs.Common.{◌≡◌, ℕ, suc, zero, ◌+◌, ◌<◌, ◌≤◌, Bool, true, false, not, cond, leb, ltb, ◌&&◌, List, [], ◌∷◌, ◌++◌, Option, Some, None, Result, Ok, Err, length, length-append, take, drop, get_or, refl, sym, ap, subst, ◌∙◌, append_assoc, arith}
-use Rattle.std.specs.Prelude.{position}
-use Rattle.std.specs.List.{IsDistinct, list_all, prefix_len, take_while}
+use Rattle.std.proofs.Common.{◌≡◌, ℕ, suc, zero, ◌+◌, ◌<◌, ◌≤◌, Bool, true, false, not, leb, ltb, ◌&&◌, List, [], ◌∷◌, ◌++◌, Some, length, length-append, get_or, refl, sym, ap, subst, ◌∙◌, append_assoc, arith}
+use Rattle.std.specs.List.{IsDistinct, list_all, prefix_len}
 use Rattle.std.specs.Cmp.Lexicographic.{nat_list_eq_equiv}
 use Rattle.std.proofs.Math.Seq.{take-append_seam, drop-append_seam}
 use Rattle.std.proofs.lemmas.List.{append-nil}
@@ -9,12 +8,11 @@ use Rattle.std.proofs.lemmas.List.Sums.{prefix_len_is}
 use Rattle.std.proofs.lemmas.Map.Keys.{apart_from_distinct}
 use Rattle.std.proofs.lemmas.Bool.{and_parts, false≢true}
 use Rattle.std.proofs.lemmas.Bool.Decides.{nat_tests}
-use Rattle.pb_base.specs.Rule.{Rule, code, negation, both, either, always, never, nodes, codes_below}
+use Rattle.pb_base.specs.Rule.{Rule, code, negation, both, either, always, never, codes_below}
 use Rattle.pb_base.specs.Names.{is_name, is_name_byte, is_code_name, place_in, same_name, true_word, false_word}
 use Rattle.rule_text.specs.Token.{Token, Placed, word, plus, slash, minus, opening, closing, tokens, tokens_from}
-use Rattle.rule_text.specs.Grammar.{word_rule, IsFactor, IsTerm, IsExpr, IsText, a_word, a_minus, a_bracket, a_factor, a_plus, a_term, a_slash, plain}
-use Rattle.rule_text.specs.Printing.{printed, printed_depth, bracket_depth, bracketed, is_either, is_both, is_pair}
-use Rattle.rule_text.specs.Reading.{rule_of}
+use Rattle.rule_text.specs.Grammar.{word_rule, IsFactor, IsTerm, IsExpr, a_word, a_minus, a_bracket, a_factor, a_plus, a_term, a_slash, plain}
+use Rattle.rule_text.specs.Printing.{printed, printed_depth, bracket_depth, bracketed, is_either, is_pair}
 use Rattle.rule_text.specs.Laws.{AreCodes, PrintsInGrammar, ReadsBack}
 use Rattle.rule_text.proofs.TokenLemmas.{in_word-skips}
 use Rattle.rule_text.proofs.Whole.{reads}

@@ -1,16 +1,16 @@
 -- What a text of the grammar has: as many nodes as its rule, and codes of the table alone.
-use Rattle.std.proofs.Common.{◌≡◌, ℕ, suc, ◌+◌, ◌<◌, ◌≤◌, Bool, true, false, cond, leb, ltb, ◌&&◌, List, [], ◌∷◌, ◌++◌, Option, Some, None, Result, Ok, Err, length, refl, sym, ap, ◌∙◌, arith}
-use Rattle.std.specs.Prelude.{option_map, position, is_none, IfOk, IsTrue}
-use Rattle.std.specs.List.{position_or_len, prefix_len}
+use Rattle.std.proofs.Common.{◌≡◌, ℕ, ◌+◌, ◌≤◌, Bool, true, false, cond, leb, ltb, List, [], ◌∷◌, ◌++◌, Option, Some, None, Result, Ok, Err, length, refl, sym, ap, ◌∙◌, arith}
+use Rattle.std.specs.Prelude.{option_map, is_none, IfOk, IsTrue}
+use Rattle.std.specs.List.{position_or_len}
 use Rattle.std.proofs.lemmas.Bool.{and_from}
 use Rattle.std.proofs.lemmas.Bool.Decides.{nat_tests}
-use Rattle.pb_base.specs.Rule.{Rule, code, negation, both, either, always, never, nodes, codes_below}
+use Rattle.pb_base.specs.Rule.{Rule, code, always, never, nodes, codes_below}
 use Rattle.pb_base.specs.Answers.{Answers}
 use Rattle.pb_base.specs.declared.answer.Fail.{Fail}
 use Rattle.pb_base.specs.Names.{is_code_name, place_in, same_name, true_word, false_word}
-use Rattle.rule_text.specs.Token.{Token, Placed, word, plus, slash, minus, opening, closing, semicolon, other, tokens}
+use Rattle.rule_text.specs.Token.{Placed, word, plus, slash, minus, opening, closing, semicolon, tokens}
 use Rattle.rule_text.specs.Grammar.{word_rule, IsFactor, IsTerm, IsExpr, IsText, a_word, a_minus, a_bracket, a_factor, a_plus, a_term, a_slash, plain, ended as ended_by}
-use Rattle.rule_text.specs.Reading.{State, before, after, ended, next, token_fault, unless_fault, read_from, finish, start, is_node, nodes_before, rule_of}
+use Rattle.rule_text.specs.Reading.{State, before, after, ended, next, token_fault, read_from, start, is_node, rule_of}
 use Rattle.rule_text.proofs.Whole.{word_node}
 use Rattle.rule_text.proofs.Steps.{passed, misfit, behind_end}
 use Rattle.rule_text.proofs.Sound.{in_grammar, was_read, read_on}

@@ -1,11 +1,11 @@
 -- What is read is in the grammar, and keeps the limits.
-use Rattle.std.proofs.Common.{◌≡◌, ℕ, suc, zero, ◌+◌, ◌-◌, ◌<◌, ◌≤◌, Bool, true, false, not, cond, leb, List, [], ◌∷◌, ◌++◌, Option, Some, None, Result, Ok, Err, length, refl, sym, ap, subst, ◌∙◌, append_assoc, arith}
+use Rattle.std.proofs.Common.{◌≡◌, ℕ, suc, ◌+◌, ◌-◌, ◌<◌, ◌≤◌, Bool, true, false, cond, leb, List, [], ◌∷◌, ◌++◌, Option, Some, None, Ok, Err, length, refl, sym, ap, subst, ◌∙◌, append_assoc, arith}
 use Rattle.std.specs.List.{list_all}
 use Rattle.std.specs.Prelude.{is_none}
 use Rattle.std.proofs.lemmas.List.{append-nil}
 use Rattle.std.proofs.lemmas.Bool.Decides.{nat_tests}
-use Rattle.pb_base.specs.Rule.{Rule, negation, both, either, nodes}
-use Rattle.rule_text.specs.Token.{Token, Placed, word, plus, slash, minus, opening, closing, semicolon, other, is_blank, tokens}
+use Rattle.pb_base.specs.Rule.{Rule, negation, both, either}
+use Rattle.rule_text.specs.Token.{Placed, word, plus, slash, minus, opening, closing, semicolon, is_blank, tokens}
 use Rattle.rule_text.specs.Grammar.{word_rule, IsFactor, IsTerm, IsExpr, IsText, a_word, a_minus, a_bracket, a_factor, a_plus, a_term, a_slash, plain, ended as ended_by}
 use Rattle.rule_text.specs.Reading.{Frame, Expression, State, before, after, ended, joined, negated, whole, with_factor, with_sign, with_plus, with_slash, in_bracket, nesting, next, token_fault, unless_fault, read_from, finish, start, rule_of}
 use Rattle.rule_text.proofs.Steps.{rule_of-read, rule_of-empty, passed, misfit, behind_end}

@@ -1,15 +1,15 @@
 -- What is in the grammar is read, unless it meets a limit.
-use Rattle.std.proofs.Common.{◌≡◌, ℕ, suc, zero, ◌+◌, ◌<◌, ◌≤◌, ◌⊎◌, inl, inr, Bool, true, false, cond, leb, List, [], ◌∷◌, ◌++◌, Option, Some, None, Result, Ok, Err, refl, sym, ap, subst, length, ◌∙◌, append_assoc, arith}
+use Rattle.std.proofs.Common.{◌≡◌, ℕ, suc, zero, ◌+◌, ◌≤◌, ◌⊎◌, inl, inr, Bool, true, false, cond, leb, List, [], ◌∷◌, ◌++◌, Option, Some, None, Result, Ok, Err, refl, sym, ap, subst, length, ◌∙◌, append_assoc, arith}
 use Rattle.std.specs.List.{list_all}
 use Rattle.std.proofs.lemmas.List.{append-nil}
 use Rattle.std.proofs.lemmas.Bool.{and_parts}
 use Rattle.std.proofs.lemmas.Bool.Decides.{nat_tests}
-use Rattle.pb_base.specs.Rule.{Rule, code, negation, both, either, always, never, nodes}
+use Rattle.pb_base.specs.Rule.{Rule, code, negation, either, always, never, nodes}
 use Rattle.pb_base.specs.Names.{is_code_name, place_in, same_name, true_word, false_word}
 use Rattle.std.specs.Prelude.{option_map}
-use Rattle.rule_text.specs.Token.{Placed, word, plus, slash, minus, opening, closing, semicolon, is_blank, tokens, tokens_from}
+use Rattle.rule_text.specs.Token.{Placed, plus, slash, opening, closing, semicolon, is_blank, tokens, tokens_from}
 use Rattle.rule_text.specs.Grammar.{word_rule, IsFactor, IsTerm, IsExpr, IsText, a_word, a_minus, a_bracket, a_factor, a_plus, a_term, a_slash, plain, ended}
-use Rattle.rule_text.specs.Reading.{Frame, Expression, State, before, after, whole, with_factor, with_sign, with_plus, with_slash, in_bracket, nesting, unless_fault, read_from, finish, start, rule_of}
+use Rattle.rule_text.specs.Reading.{Frame, Expression, before, after, whole, with_factor, with_sign, with_slash, in_bracket, nesting, unless_fault, read_from, start, rule_of}
 use Rattle.rule_text.specs.Laws.{MeetsLimit, Complete, Reads}
 use Rattle.rule_text.specs.declared.fault.RuleFault.{RuleFault}
 use Rattle.rule_text.specs.declared.fault.RuleFault.TheVariants.{Expected, TooDeep, TooLong}
