@@ -1,0 +1,50 @@
+use Rattle.std.proofs.Common.{◌≡◌, false, length, drop, [], sym, ap, subst, ◌∙◌, arith}
+use Rattle.std.proofs.Math.Seq.{drop-length}
+use Rattle.std.proofs.lemmas.Result.{err_from_is_err_and}
+use Rattle.pb_base.specs.Answers.{Answers}
+use Rattle.rule_text.specs.Token.{tokens_from, token_at, token_len}
+use Rattle.rule_text.specs.Reading.{read_from, finish, rule_of}
+use Rattle.rule_text.specs.Views.{state_of, token_of}
+use Rattle.rule_text.proofs.TokenLemmas.{token_len-within}
+use Rattle.rule_text.proofs.Steps.{reads_on, refuses, rule_of-read, rule_of-empty}
+use Rattle.rule_text.proofs.Counts.{keeps_limits}
+use Rattle.rule_text.proofs.read.read_rule.Goals as goal
+
+pub returns-then-is_all_blank-clause-answer : goal.returns-then-is_all_blank-clause-answer
+returns-then-is_all_blank-clause-answer c = rule_of-empty c.args.codes.now c.args.text.now (sym c.is_all_blank.ensures ∙ c.if-is_all_blank.true)
+
+pub returns-in_err-reader-clause-answer : goal.returns-in_err-reader-clause-answer
+returns-in_err-reader-clause-answer c =
+    let text = c.args.text.now in
+    let p = err_from_is_err_and c.from_residual.result c.from_residual.ensures.1 in
+    let whole = rule_of-read c.args.codes.now text (sym c.is_all_blank.ensures ∙ c.if-is_all_blank.false) in
+    rw (p.1, p.2)
+    (refuses c.args.codes.now (length text) text c.loop-at.at (state_of c.loop-at.reader) (token_of c.token_at-token.result) _ _
+    c.loop-at-test.true (sym c.is_blank.ensures ∙ c.if-is_blank.false) c.token_at-token.ensures (c.loop-at.invariant.same ∙ whole) c.in_err-reader.ensures)
+
+pub loop-at-preserved : goal.loop-at-preserved
+loop-at-preserved c =
+    let text = c.args.text.now in
+    let at = c.loop-at.at in
+    let len : c.len-at.result ≡ token_len (token_at (drop at text)) = c.len-at.ensures ∙ ap token_len c.token_at-token.ensures in
+    let within = token_len-within text at c.loop-at-test.true in
+    let on = reads_on c.args.codes.now (length text) text at c.len-at.result (state_of c.loop-at.reader) (state_of c.in_ok-reader.reader) (token_of c.token_at-token.result)
+    c.loop-at-test.true (sym c.is_blank.ensures ∙ c.if-is_blank.false) c.token_at-token.ensures c.len-at.ensures c.in_ok-reader.ensures in
+    record { within = omega (arith, within.1, len); same = sym on ∙ c.loop-at.invariant.same }
+
+pub returns-clause-answer : goal.returns-clause-answer
+returns-clause-answer c =
+    let text = c.args.text.now in
+    let whole = rule_of-read c.args.codes.now text (sym c.is_all_blank.ensures ∙ c.if-is_all_blank.false) in
+    let ended : c.loop-at.at ≡ length text = omega arith in
+    let nothing_left : drop c.loop-at.at text ≡ [] = ap (λ at. drop at text) ended ∙ drop-length text in
+    let same : finish (length text) (state_of c.loop-at.reader) ≡ rule_of c.args.codes.now text =
+    sym (ap (λ bytes. read_from c.args.codes.now (length text) (state_of c.loop-at.reader) (tokens_from false c.loop-at.at bytes)) nothing_left)
+    ∙ c.loop-at.invariant.same ∙ whole in
+    subst (λ answer. Answers c.finish.result answer) same c.finish.ensures
+
+pub returns-clause-codes : goal.returns-clause-codes
+returns-clause-codes c = (keeps_limits c.args.codes.now c.args.text.now c.finish.result (returns-clause-answer c)).0
+
+pub returns-clause-short : goal.returns-clause-short
+returns-clause-short c = (keeps_limits c.args.codes.now c.args.text.now c.finish.result (returns-clause-answer c)).1

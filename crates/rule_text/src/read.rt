@@ -1,0 +1,43 @@
+//! Reading the text of a rule.
+ghost use Rattle.std.specs.Prelude.{◌≡◌, ◌<◌, ◌≤◌, ◌^◌, length, IfOk, IsTrue};
+ghost use Rattle.pb_base.specs.Rule.{codes_below, nodes};
+ghost use Rattle.std.specs.List.{list_all};
+ghost use Rattle.rule_text.specs.Token.{is_blank};
+ghost use Rattle.pb_base.specs.Answers.{Answers};
+ghost use Rattle.rule_text.specs.Reading.{rule_of};
+
+use crate::RuleFault;
+use crate::reader::Reader;
+use crate::token::{is_blank, token_at};
+use pb_base::{CodeTable, Fail, Formula};
+use std::alloc::Global;
+
+/// The formula that a text spells over the codes of a book, or its first fault. The text is a rule as docs/BOOK-FORMAT.md describes it.
+pub fn read_rule(alloc: Global, text: &[u8], codes: &CodeTable) -> Result<Formula, Fail<RuleFault>>
+    requires { length text.now < 2 ^ 32 }
+    ensures answer { Answers result (rule_of codes.now text.now) }
+    ensures codes { IfOk result (λ rule. IsTrue (codes_below (length codes.now) rule)) }
+    ensures short { IfOk result (λ rule. nodes rule ≤ 512) }
+{
+    if is_all_blank(text) {
+        return Err(Fail::Refused(RuleFault::Empty));
+    }
+    let mut reader = Reader::new(alloc);
+    let mut at = 0;
+    while at < text.len() {
+        if is_blank(text[at]) {
+            at += 1;
+        } else {
+            let token = token_at(text, at);
+            reader = reader.take(alloc, at as u32, token, codes)?;
+            at += token.len();
+        }
+    }
+    reader.finish(alloc, text.len() as u32)
+}
+
+fn is_all_blank(text: &[u8]) -> bool
+    ensures { result ≡ list_all is_blank text.now }
+{
+    text.iter().all(|b| is_blank(*b))
+}
