@@ -1,9 +1,9 @@
 -- Lists of days: two that rise and have the same days are the same list.
-use Rattle.std.proofs.Common.{◌≡◌, ℕ, zero, suc, ◌+◌, ◌-◌, ◌<◌, ◌≤◌, Bool, true, false, ◌&&◌, ◌||◌, cond, eqb, ltb, leb, List, [], ◌∷◌, ◌++◌, length, get_or, refl, sym, ap, subst, ◌∙◌, ◌⊎◌, inl, inr, arith, All}
-use Rattle.std.specs.List.{filter, range_with_len, list_any, dedup, dedup_from, AllPairs}
+use Rattle.std.proofs.Common.{◌≡◌, ℕ, zero, suc, ◌+◌, ◌-◌, ◌<◌, ◌≤◌, Bool, true, false, ◌&&◌, ◌||◌, cond, eqb, ltb, leb, List, [], ◌∷◌, refl, sym, ap, subst, ◌∙◌, inl, inr, arith, All}
+use Rattle.std.specs.List.{filter, range_with_len, dedup, dedup_from, AllPairs}
 use Rattle.std.specs.List.Sorted.{IsSorted, IsPermutation}
 use Rattle.std.specs.Ordering.{nat_cmp}
-use Rattle.std.proofs.lemmas.Bool.{cases_Bool, cases_order, cases_lt, eqb-true, eq-eqb, ne_eqb, leb-true, le-leb, lt-leb, lt-ltb, le-ltb, or_left, or_from, and_left, and_right, and_from, true≢false, false≢true, cond_both}
+use Rattle.std.proofs.lemmas.Bool.{cases_Bool, cases_order, cases_lt, eqb-true, eq-eqb, ne_eqb, le-leb, lt-leb, lt-ltb, le-ltb, or_left, or_from, and_left, and_right, and_from, true≢false, false≢true, cond_both}
 use Rattle.std.proofs.lemmas.List.Elements.{All-cons, All-filter}
 use Rattle.std.proofs.lemmas.List.FromFn.{length-range_with_len, get_or-range_with_len}
 use Rattle.std.proofs.lemmas.List.Sorted.{list_any-IsPermutation}
@@ -53,10 +53,10 @@ not_before x y xs ys s lt same =
 same_first : (x y : ℕ) (xs ys : List ℕ) → Rises (x ∷ xs) → Rises (y ∷ ys) → ((d : ℕ) → has_day (x ∷ xs) d ≡ has_day (y ∷ ys) d) → x ≡ y
 same_first x y xs ys r s same =
     elim (cases_order x y) [
-      inl e ↦ e
-    | inr apart ↦ elim apart [
-        inl lt ↦ absurd (not_before x y xs ys s lt same)
-      | inr gt ↦ absurd (not_before y x ys xs r gt (λ d. sym (same d)))
+      | inl e ↦ e
+      | inr apart ↦ elim apart [
+        | inl lt ↦ absurd (not_before x y xs ys s lt same)
+        | inr gt ↦ absurd (not_before y x ys xs r gt (λ d. sym (same d)))
       ]
     ]
 
@@ -66,10 +66,10 @@ without_first x d xs e = ap (λ c. c || has_day xs d) e
 same_rest : (x : ℕ) (xs ys : List ℕ) → Rises (x ∷ xs) → Rises (x ∷ ys) → ((d : ℕ) → has_day (x ∷ xs) d ≡ has_day (x ∷ ys) d) → (d : ℕ) → has_day xs d ≡ has_day ys d
 same_rest x xs ys r s same d =
     elim (cases_Bool (eqb d x)) [
-      inl here ↦
-        let e : d ≡ x = eqb-true d x here in
-        later_absent d xs (λ k z w. omega (arith, r.0 k z w, e)) ∙ sym (later_absent d ys (λ k z w. omega (arith, s.0 k z w, e)))
-    | inr other ↦ sym (without_first x d xs other) ∙ same d ∙ without_first x d ys other
+      | inl here ↦
+          let e : d ≡ x = eqb-true d x here in
+          later_absent d xs (λ k z w. omega (arith, r.0 k z w, e)) ∙ sym (later_absent d ys (λ k z w. omega (arith, s.0 k z w, e)))
+      | inr other ↦ sym (without_first x d xs other) ∙ same d ∙ without_first x d ys other
     ]
 
 pub same_days : (xs ys : List ℕ) → Rises xs → Rises ys → ((d : ℕ) → has_day xs d ≡ has_day ys d) → xs ≡ ys
@@ -104,22 +104,22 @@ has_day-filter p (x ∷ xs) d =
 has_day-range : (a n d : ℕ) → has_day (range_with_len a n) d ≡ (leb a d && ltb d (a + n))
 has_day-range a zero d =
     elim (cases_lt d a) [
-      inl lt ↦ sym (and_left (leb a d) (ltb d (a + zero)) (lt-leb a d lt))
-    | inr ge ↦ sym (and_right (leb a d) (ltb d (a + zero)) (le-ltb d (a + zero) (omega arith)))
+      | inl lt ↦ sym (and_left (leb a d) (ltb d (a + zero)) (lt-leb a d lt))
+      | inr ge ↦ sym (and_right (leb a d) (ltb d (a + zero)) (le-ltb d (a + zero) (omega arith)))
     ]
 has_day-range a (suc n) d =
     let rest = has_day-range (a + 1) n d in
     elim (cases_order a d) [
-      inl e ↦ or_left (eqb d a) (has_day (range_with_len (a + 1) n) d) (eq-eqb d a (sym e)) ∙ sym (and_from (leb a d) (ltb d (a + suc n)) (le-leb a d (omega arith)) (lt-ltb d (a + suc n) (omega arith)))
-    | inr apart ↦ elim apart [
-        inl lt ↦
-          let same : a + 1 + n ≡ a + suc n = omega arith in
-          ap (λ c. c || has_day (range_with_len (a + 1) n) d) (ne_eqb d a (λ e. omega arith)) ∙ rest
-          ∙ ap (λ c. c && ltb d (a + 1 + n)) (le-leb (a + 1) d (omega arith)) ∙ ap (λ m. ltb d m) same
-          ∙ sym (ap (λ c. c && ltb d (a + suc n)) (le-leb a d (omega arith)))
-      | inr gt ↦
-          or_from (eqb d a) (has_day (range_with_len (a + 1) n) d) (ne_eqb d a (λ e. omega arith)) (rest ∙ and_left (leb (a + 1) d) (ltb d (a + 1 + n)) (lt-leb (a + 1) d (omega arith)))
-          ∙ sym (and_left (leb a d) (ltb d (a + suc n)) (lt-leb a d gt))
+      | inl e ↦ or_left (eqb d a) (has_day (range_with_len (a + 1) n) d) (eq-eqb d a (sym e)) ∙ sym (and_from (leb a d) (ltb d (a + suc n)) (le-leb a d (omega arith)) (lt-ltb d (a + suc n) (omega arith)))
+      | inr apart ↦ elim apart [
+        | inl lt ↦
+            let same : a + 1 + n ≡ a + suc n = omega arith in
+            ap (λ c. c || has_day (range_with_len (a + 1) n) d) (ne_eqb d a (λ e. omega arith)) ∙ rest
+            ∙ ap (λ c. c && ltb d (a + 1 + n)) (le-leb (a + 1) d (omega arith)) ∙ ap (λ m. ltb d m) same
+            ∙ sym (ap (λ c. c && ltb d (a + suc n)) (le-leb a d (omega arith)))
+        | inr gt ↦
+            or_from (eqb d a) (has_day (range_with_len (a + 1) n) d) (ne_eqb d a (λ e. omega arith)) (rest ∙ and_left (leb (a + 1) d) (ltb d (a + 1 + n)) (lt-leb (a + 1) d (omega arith)))
+            ∙ sym (and_left (leb a d) (ltb d (a + suc n)) (lt-leb a d gt))
       ]
     ]
 
@@ -127,10 +127,10 @@ has_day-range a (suc n) d =
 pub has_day-term : (first last d : ℕ) → first ≤ last → has_day (range_with_len first (suc (last - first))) d ≡ is_within first last d
 has_day-term first last d ordered =
     has_day-range first (suc (last - first)) d ∙ ap (λ c. leb first d && c) (
-      elim (cases_lt last d) [
-        inl after_ ↦ le-ltb d (first + suc (last - first)) (omega arith) ∙ sym (lt-leb d last after_)
+    elim (cases_lt last d) [
+      | inl after_ ↦ le-ltb d (first + suc (last - first)) (omega arith) ∙ sym (lt-leb d last after_)
       | inr before_ ↦ lt-ltb d (first + suc (last - first)) (omega arith) ∙ sym (le-leb d last before_)
-      ])
+    ])
 
 or_twice : (a b : Bool) → (a || b) ≡ (a || (a || b))
 or_twice true b = refl
@@ -140,13 +140,13 @@ has_dedup_from : (x : ℕ) (xs : List ℕ) (d : ℕ) → has_day (dedup_from eqb
 has_dedup_from x [] d = refl
 has_dedup_from x (y ∷ ys) d =
     elim (cases_Bool (eqb y x)) [
-      inl same ↦
-        ap (λ c. has_day (cond c (dedup_from eqb x ys) (x ∷ dedup_from eqb y ys)) d) same
-        ∙ has_dedup_from x ys d ∙ or_twice (eqb d x) (has_day ys d)
-        ∙ ap (λ z. eqb d x || (eqb d z || has_day ys d)) (sym (eqb-true y x same))
-    | inr other ↦
-        ap (λ c. has_day (cond c (dedup_from eqb x ys) (x ∷ dedup_from eqb y ys)) d) other
-        ∙ ap (λ c. eqb d x || c) (has_dedup_from y ys d)
+      | inl same ↦
+          ap (λ c. has_day (cond c (dedup_from eqb x ys) (x ∷ dedup_from eqb y ys)) d) same
+          ∙ has_dedup_from x ys d ∙ or_twice (eqb d x) (has_day ys d)
+          ∙ ap (λ z. eqb d x || (eqb d z || has_day ys d)) (sym (eqb-true y x same))
+      | inr other ↦
+          ap (λ c. has_day (cond c (dedup_from eqb x ys) (x ∷ dedup_from eqb y ys)) d) other
+          ∙ ap (λ c. eqb d x || c) (has_dedup_from y ys d)
     ]
 
 has_day-dedup : (xs : List ℕ) (d : ℕ) → has_day (dedup eqb xs) d ≡ has_day xs d
@@ -159,5 +159,5 @@ pub sorted_days : (first last most : ℕ) (p : ℕ → Bool) (raw sorted : List 
 sorted_days first last most p raw sorted ordered moved order adds =
     let days = range_with_len first (suc (last - first)) in
     same_days (dedup eqb sorted) (filter p days) (rises_dedup sorted order) (rises_filter p days (rises_range first (suc (last - first))))
-      (λ d. has_day-dedup sorted d ∙ sym (list_any-IsPermutation (λ e. eqb d e) raw sorted moved) ∙ adds.days d
-        ∙ sym (has_day-filter p days d ∙ ap (λ c. c && p d) (has_day-term first last d ordered)))
+    (λ d. has_day-dedup sorted d ∙ sym (list_any-IsPermutation (λ e. eqb d e) raw sorted moved) ∙ adds.days d
+    ∙ sym (has_day-filter p days d ∙ ap (λ c. c && p d) (has_day-term first last d ordered)))

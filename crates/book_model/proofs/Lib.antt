@@ -1,4 +1,5 @@
 mod GroupLemmas
 mod DayOrder
 mod Runs
+mod SliceCases
 pub mod SliceLaws

@@ -1,12 +1,11 @@
 -- From one change day on to the next.
-use Rattle.std.proofs.Common.{◌≡◌, ℕ, suc, ◌+◌, ◌-◌, ◌<◌, ◌≤◌, cond, leb, Ok, Err, arith, List, [], ◌∷◌, ◌++◌, length, get_or, drop, refl, sym, ap, ◌∙◌, append_assoc}
+use Rattle.std.proofs.Common.{◌≡◌, ℕ, suc, ◌+◌, ◌-◌, ◌<◌, ◌≤◌, cond, Ok, Err, arith, List, [], ◌∷◌, ◌++◌, length, get_or, drop, refl, sym, ap, ◌∙◌, append_assoc}
 use Rattle.std.specs.List.{filter, range_with_len}
 use Rattle.std.proofs.lemmas.Bool.{le-leb, lt-leb}
 use Rattle.std.proofs.lemmas.List.{drop_more}
 use Rattle.book_model.specs.Contents.{Contents}
 use Rattle.book_model.specs.Slices.{days_from_to, end_before, runs_from, periods_of, changes_at, days_of, change_days, all_slices, slices_of}
 use Rattle.book_model.specs.declared.record.Slice.{Slice}
-use Rattle.book_model.specs.declared.slicing.LimitFault.{LimitFault}
 use Rattle.book_model.specs.declared.slicing.LimitFault.TheVariants.{Slices}
 
 pub runs_from-more : (days : List ℕ) (last i day : ℕ) (slices : List Slice) → i < length days → day ≡ get_or days i day
@@ -23,7 +22,7 @@ length-runs_from (day ∷ days) last = ap suc (length-runs_from days last)
 -- the change days of a book, found from its term and its periods
 pub change_days-are : (b : Contents) (first last : ℕ) (periods : List Slice) (days : List ℕ) → first ≡ b.first → last ≡ b.last → periods ≡ periods_of b
     → days ≡ filter (changes_at first periods) (range_with_len first (suc (last - first))) → days ≡ change_days b
-change_days-are b first last periods days f l p is = 
+change_days-are b first last periods days f l p is =
     is ∙ ap (λ n. filter (changes_at n periods) (range_with_len n (suc (last - n)))) f
     ∙ ap (λ n. filter (changes_at b.first periods) (range_with_len b.first (suc (n - b.first)))) l
     ∙ ap (λ ps. filter (changes_at b.first ps) (days_of b)) p

@@ -1,11 +1,11 @@
 -- The slices of a book partition its term, and on all days of a slice the same records are active.
-use Rattle.std.proofs.Common.{◌≡◌, ℕ, zero, suc, ◌+◌, ◌-◌, ◌<◌, ◌≤◌, Bool, true, false, ◌&&◌, ◌||◌, cond, eqb, leb, List, [], ◌∷◌, ◌++◌, length, map, get_or, refl, sym, ap, subst, ◌∙◌, ◌⊎◌, inl, inr, arith, All, IsTrue, append-nil, append_assoc}
+use Rattle.std.proofs.Common.{◌≡◌, ℕ, zero, suc, ◌+◌, ◌-◌, ◌<◌, ◌≤◌, Bool, true, false, ◌&&◌, cond, eqb, leb, List, [], ◌∷◌, ◌++◌, get_or, refl, sym, ap, subst, ◌∙◌, inl, inr, arith, All, append-nil}
 use Rattle.std.specs.List.{filter, flat_map, range_with_len, list_any}
 use Rattle.std.proofs.lemmas.Bool.{cases_Bool, cases_lt, cases_order, eq-eqb, eqb-false, leb-true, le-leb, lt-leb, and_parts, or_left, or_parts}
 use Rattle.std.proofs.lemmas.List.Elements.{All-nil, All-cons, All-weaker}
 use Rattle.book_model.specs.Activity.{is_within}
 use Rattle.book_model.specs.Contents.{Contents}
-use Rattle.book_model.specs.Slices.{days_from_to, periods_of, turns_at, changes_at, is_change, days_of, change_days, runs_from, all_slices, days_in, IsSteady}
+use Rattle.book_model.specs.Slices.{days_from_to, periods_of, turns_at, is_change, days_of, runs_from, all_slices, days_in, IsSteady}
 use Rattle.book_model.specs.declared.record.Slice.{Slice}
 
 range_with_len-append : (a k n : ℕ) → range_with_len a k ++ range_with_len (a + k) n ≡ range_with_len a (k + n)
@@ -36,21 +36,21 @@ days_of_runs p zero s a last before ends =
     append-nil (range_with_len s (suc (last - s))) ∙ ap (range_with_len s) count
 days_of_runs p (suc m) s a last before ends =
     elim (cases_Bool (p a)) [
-      inl on ↦
-        let own : suc (a - 1 - s) ≡ a - s = omega arith in
-        let next : a ≡ s + (a - s) = omega arith in
-        let left : a + 1 - a + m ≡ suc m = omega arith in
-        ap (flat_map days_in) (runs_at_change p m s a last on)
-        ∙ ap (λ days. range_with_len s (suc (a - 1 - s)) ++ days) (days_of_runs p m a (a + 1) last (omega arith) (omega arith))
-        ∙ ap (λ n. range_with_len s n ++ range_with_len a (a + 1 - a + m)) own
-        ∙ ap (λ n. range_with_len s (a - s) ++ range_with_len a n) left
-        ∙ ap (λ n. range_with_len s (a - s) ++ range_with_len n (suc m)) next
-        ∙ range_with_len-append s (a - s) (suc m)
-    | inr off ↦
-        let count : a + 1 - s + m ≡ a - s + suc m = omega arith in
-        ap (flat_map days_in) (runs_at_no_change p m s a last off)
-        ∙ days_of_runs p m s (a + 1) last (omega arith) (omega arith)
-        ∙ ap (range_with_len s) count
+      | inl on ↦
+          let own : suc (a - 1 - s) ≡ a - s = omega arith in
+          let next : a ≡ s + (a - s) = omega arith in
+          let left : a + 1 - a + m ≡ suc m = omega arith in
+          ap (flat_map days_in) (runs_at_change p m s a last on)
+          ∙ ap (λ days. range_with_len s (suc (a - 1 - s)) ++ days) (days_of_runs p m a (a + 1) last (omega arith) (omega arith))
+          ∙ ap (λ n. range_with_len s n ++ range_with_len a (a + 1 - a + m)) own
+          ∙ ap (λ n. range_with_len s (a - s) ++ range_with_len a n) left
+          ∙ ap (λ n. range_with_len s (a - s) ++ range_with_len n (suc m)) next
+          ∙ range_with_len-append s (a - s) (suc m)
+      | inr off ↦
+          let count : a + 1 - s + m ≡ a - s + suc m = omega arith in
+          ap (flat_map days_in) (runs_at_no_change p m s a last off)
+          ∙ days_of_runs p m s (a + 1) last (omega arith) (omega arith)
+          ∙ ap (range_with_len s) count
     ]
 
 -- the first day of the term is a change day, and the others follow it
@@ -77,21 +77,21 @@ changes_at_first p zero s a last before ends quiet =
     All-cons (ChangesAtFirst p) (days_from_to s last) [] (λ day low high. quiet day low (omega (arith, high))) (All-nil (ChangesAtFirst p))
 changes_at_first p (suc m) s a last before ends quiet =
     elim (cases_Bool (p a)) [
-      inl on ↦
-        subst (λ runs. All (ChangesAtFirst p) runs) (sym (runs_at_change p m s a last on))
+      | inl on ↦
+          subst (λ runs. All (ChangesAtFirst p) runs) (sym (runs_at_change p m s a last on))
           (All-cons (ChangesAtFirst p) (days_from_to s (a - 1)) (runs_after p m a (a + 1) last) (λ day low high. quiet day low (omega (arith, high)))
-            (changes_at_first p m a (a + 1) last (omega arith) (omega arith) (λ day low high. absurd (omega (arith, low, high)))))
-    | inr off ↦
-        subst (λ runs. All (ChangesAtFirst p) runs) (sym (runs_at_no_change p m s a last off))
+          (changes_at_first p m a (a + 1) last (omega arith) (omega arith) (λ day low high. absurd (omega (arith, low, high)))))
+      | inr off ↦
+          subst (λ runs. All (ChangesAtFirst p) runs) (sym (runs_at_no_change p m s a last off))
           (changes_at_first p m s (a + 1) last (omega arith) (omega arith)
-            (λ day low high. elim (cases_lt day a) [ inl lt ↦ quiet day low lt | inr ge ↦ let here : day ≡ a = omega (arith, high) in ap p here ∙ off ]))
+          (λ day low high. elim (cases_lt day a) [ inl lt ↦ quiet day low lt | inr ge ↦ let here : day ≡ a = omega (arith, high) in ap p here ∙ off ]))
     ]
 
 same_leb : (a b c d : ℕ) → (a ≤ b → c ≤ d) → (c ≤ d → a ≤ b) → leb a b ≡ leb c d
 same_leb a b c d to from =
     elim (cases_lt b a) [
-      inl lt ↦ lt-leb a b lt ∙ sym (elim (cases_lt d c) [ inl below ↦ lt-leb c d below | inr above ↦ absurd (omega (arith, from above)) ])
-    | inr le ↦ le-leb a b le ∙ sym (le-leb c d (to le))
+      | inl lt ↦ lt-leb a b lt ∙ sym (elim (cases_lt d c) [ inl below ↦ lt-leb c d below | inr above ↦ absurd (omega (arith, from above)) ])
+      | inr le ↦ le-leb a b le ∙ sym (le-leb c d (to le))
     ]
 
 next_day : (from until day : ℕ) → turns_at (suc day) (days_from_to from until) ≡ false → is_within from until (suc day) ≡ is_within from until day
@@ -125,11 +125,11 @@ steady_from_changes b slice quiet day inside k d within =
     let there : slice.first + (day - slice.first) ≡ day = omega arith in
     sym (ap (is_within period.first period.last) there)
     ∙ days_later period.first period.last slice.first (day - slice.first)
-      (λ e above upto. none_turns e (periods_of b) (or_parts (eqb e b.first) (list_any (turns_at e) (periods_of b)) (quiet e above (omega (arith, upto)))).1 k d within)
+    (λ e above upto. none_turns e (periods_of b) (or_parts (eqb e b.first) (list_any (turns_at e) (periods_of b)) (quiet e above (omega (arith, upto)))).1 k d within)
 
 -- on all days of a slice the same records are active
 pub slices_steady : (b : Contents) → b.first ≤ b.last → All (IsSteady b) (all_slices b)
 slices_steady b ordered =
     All-weaker (ChangesAtFirst (is_change b)) (IsSteady b) (steady_from_changes b) (all_slices b)
-      (subst (λ runs. All (ChangesAtFirst (is_change b)) runs) (sym (slices_after_first b))
-        (changes_at_first (is_change b) (b.last - b.first) b.first (b.first + 1) b.last (omega arith) (omega arith) (λ day low high. absurd (omega (arith, low, high)))))
+    (subst (λ runs. All (ChangesAtFirst (is_change b)) runs) (sym (slices_after_first b))
+    (changes_at_first (is_change b) (b.last - b.first) b.first (b.first + 1) b.last (omega arith) (omega arith) (λ day low high. absurd (omega (arith, low, high)))))

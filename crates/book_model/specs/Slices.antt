@@ -3,7 +3,7 @@
 --     is_change b day       the first day of the term, or one on which a record begins to be active or ceases to be
 --     days_of b             the days of the term, in order
 --     slices_of b           the slices in order of days; more than 64 are refused with their number
-use Rattle.std.specs.Prelude.{ℕ, zero, suc, ◌+◌, ◌-◌, Bool, ◌||◌, ◌==◌, List, [], ◌∷◌, ◌++◌, Result, Ok, Err, filter, map, length, nat_le, IsTrue, All, ◌≡◌, if◌then◌else◌}
+use Rattle.std.specs.Prelude.{ℕ, suc, ◌+◌, ◌-◌, Bool, ◌||◌, ◌==◌, List, [], ◌∷◌, ◌++◌, Result, Ok, Err, filter, map, length, nat_le, IsTrue, All, ◌≡◌, if◌then◌else◌}
 use Rattle.std.specs.List.{list_any, range_with_len}
 use Rattle.book_model.specs.Activity.{is_within}
 use Rattle.book_model.specs.Contents.{Contents}

@@ -25,28 +25,40 @@ pub fn periods_of(alloc: Global, book: &Book) -> Result<Vec<Slice>, Memory>
 fn supplement_days(alloc: Global, supplements: &[Supplement]) -> Result<Vec<Slice>, Memory>
     ensures { IfOk result (λ days. days.items ≡ map (λ s. days_from_to s.from s.until) supplements.now) }
 {
-    let days = supplements.iter().map(|s| days(s.from, s.until)).collect(alloc)?;
+    let days = supplements
+        .iter()
+        .map(|s| days(s.from, s.until))
+        .collect(alloc)?;
     Ok(days)
 }
 
 fn construct_days(alloc: Global, constructs: &[Construct]) -> Result<Vec<Slice>, Memory>
     ensures { IfOk result (λ days. days.items ≡ map (λ c. days_from_to c.from c.until) constructs.now) }
 {
-    let days = constructs.iter().map(|c| days(c.from, c.until)).collect(alloc)?;
+    let days = constructs
+        .iter()
+        .map(|c| days(c.from, c.until))
+        .collect(alloc)?;
     Ok(days)
 }
 
 fn position_days(alloc: Global, positions: &[Position]) -> Result<Vec<Slice>, Memory>
     ensures { IfOk result (λ days. days.items ≡ map (λ p. days_from_to p.from p.until) positions.now) }
 {
-    let days = positions.iter().map(|p| days(p.from, p.until)).collect(alloc)?;
+    let days = positions
+        .iter()
+        .map(|p| days(p.from, p.until))
+        .collect(alloc)?;
     Ok(days)
 }
 
 fn variant_days(alloc: Global, variants: &[Variant]) -> Result<Vec<Slice>, Memory>
     ensures { IfOk result (λ days. days.items ≡ map (λ v. days_from_to v.from v.until) variants.now) }
 {
-    let days = variants.iter().map(|v| days(v.from, v.until)).collect(alloc)?;
+    let days = variants
+        .iter()
+        .map(|v| days(v.from, v.until))
+        .collect(alloc)?;
     Ok(days)
 }
 

@@ -1,9 +1,8 @@
 -- The days that were found are the book's change days, and the slices run from one to the next.
-use Rattle.std.proofs.Common.{◌≡◌, ◌<◌, ◌≤◌, length, sym, ap, ◌∙◌, arith}
+use Rattle.std.proofs.Common.{◌≡◌, ◌<◌, ◌≤◌, length, ap, ◌∙◌, arith}
 use Rattle.std.specs.List.{flat_map}
 use Rattle.std.proofs.lemmas.List.Elements.{All-same}
 use Rattle.book_model.specs.Slices.{change_days, runs_from, all_slices, days_in, IsSteady}
-use Rattle.book_model.specs.declared.slicing.LimitFault.TheVariants.{Slices}
 use Rattle.book_model.proofs.Runs.{change_days-are, too_many, found, few_enough}
 use Rattle.book_model.proofs.SliceLaws.{slices_partition, slices_steady}
 use Rattle.book_model.proofs.slicing.slices.Goals as goal
