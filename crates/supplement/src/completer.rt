@@ -4,7 +4,7 @@ ghost use Rattle.book_model.specs.Good.{is_closed};
 ghost use Rattle.supplement.specs.Completion.{completion_of, Includes};
 
 use crate::completed::Completed;
-use crate::plain::complete_plainly;
+use crate::plain::complete_by_trying;
 use book_model::Book;
 use pb_base::{CodeSet, Day, Memory};
 use std::alloc::Global;
@@ -44,7 +44,6 @@ impl<'a> Completer<'a> {
         ensures includes { IfOk result (λ c. Includes set c.set) }
         ensures same_codes { IfOk result (λ c. length c.set ≡ length set) }
     {
-        let _rules = self.book.supplements();
-        complete_plainly(alloc, self.book, self.day, set)
+        complete_by_trying(alloc, self.book.supplements(), self.day, set)
     }
 }
