@@ -34,8 +34,8 @@ fewer_absent x code within absent =
 pub Includes-set : (x : List Bool) (code : ℕ) → code < length x → Includes x (set x code true)
 Includes-set x code within other present =
     elim (cases_eq other code) [
-      inl same ↦ ap (λ k. get_or (set x code true) k false) same ∙ get_or-set_same x code true false within
-    | inr differs ↦ get_or-set_other x code other true false differs ∙ present
+      | inl same ↦ ap (λ k. get_or (set x code true) k false) same ∙ get_or-set_same x code true false within
+      | inr differs ↦ get_or-set_other x code other true false differs ∙ present
     ]
 
 any_fires_none : (rules : List Supplement) (day : ℕ) (x : List Bool) → first_firing rules day x ≡ None → list_any (fires day x) rules ≡ false
@@ -57,26 +57,26 @@ within_firing n rules day x f first = ap (λ o. option_map_or (λ f. added_first
 is_completed_at_none : (n : ℕ) (rules : List Supplement) (day : ℕ) (x : List Bool) → first_firing rules day x ≡ None → IsCompleted rules day x (completion_within n rules day x).set
 is_completed_at_none n rules day x none =
     subst (λ y. IsCompleted rules day x y) (sym (ap (λ c. c.set) (within_none n rules day x none)))
-      (record { closed = not_from_false _ (any_fires_none rules day x none); includes = λ code present. present; same_codes = refl })
+    (record { closed = not_from_false _ (any_fires_none rules day x none); includes = λ code present. present; same_codes = refl })
 
 is_completed_within : (n : ℕ) (rules : List Supplement) (day : ℕ) (x : List Bool) → count_by not x ≤ n → All (SupplementFits (length x)) rules → IsCompleted rules day x (completion_within n rules day x).set
 is_completed_within zero rules day x few fit =
     elim (cases_firing (first_firing rules day x)) [
-      inl none ↦ is_completed_at_none zero rules day x none
-    | inr found ↦
-        let code = first_code (length x) 0 day x rules found.0 fit found.1 in
-        absurd (omega (arith, fewer_absent x found.0.code code.0 code.1))
+      | inl none ↦ is_completed_at_none zero rules day x none
+      | inr found ↦
+          let code = first_code (length x) 0 day x rules found.0 fit found.1 in
+          absurd (omega (arith, fewer_absent x found.0.code code.0 code.1))
     ]
 is_completed_within (suc n) rules day x few fit =
     elim (cases_firing (first_firing rules day x)) [
-      inl none ↦ is_completed_at_none (suc n) rules day x none
-    | inr found ↦
-        let f = found.0 in
-        let code = first_code (length x) 0 day x rules f fit found.1 in
-        let larger = with_code_of f x in
-        let same : length larger ≡ length x = length-set x f.code true in
-        let rest = is_completed_within n rules day larger (omega (arith, fewer_absent x f.code code.0 code.1)) (subst (λ k. All (SupplementFits k) rules) (sym same) fit) in
-        subst (λ y. IsCompleted rules day x y) (sym (ap (λ c. c.set) (within_firing n rules day x f found.1)))
+      | inl none ↦ is_completed_at_none (suc n) rules day x none
+      | inr found ↦
+          let f = found.0 in
+          let code = first_code (length x) 0 day x rules f fit found.1 in
+          let larger = with_code_of f x in
+          let same : length larger ≡ length x = length-set x f.code true in
+          let rest = is_completed_within n rules day larger (omega (arith, fewer_absent x f.code code.0 code.1)) (subst (λ k. All (SupplementFits k) rules) (sym same) fit) in
+          subst (λ y. IsCompleted rules day x y) (sym (ap (λ c. c.set) (within_firing n rules day x f found.1)))
           (record { closed = rest.closed; includes = λ k present. rest.includes k (Includes-set x f.code code.0 k present); same_codes = rest.same_codes ∙ same })
     ]
 

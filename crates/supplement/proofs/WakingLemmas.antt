@@ -81,8 +81,8 @@ holds-set never x c off = refl
 absent_before : (x : List Bool) (c k : ℕ) → c < length x → has (set x c true) k ≡ false → (k ≢ c) × (has x k ≡ false)
 absent_before x c k within absent =
     elim (cases_eq k c) [
-      inl same ↦ absurd (false≢true (sym absent ∙ ap (λ j. get_or (set x c true) j false) same ∙ get_or-set_same x c true false within))
-    | inr other ↦ (other, sym (get_or-set_other x c k true false other) ∙ absent)
+      | inl same ↦ absurd (false≢true (sym absent ∙ ap (λ j. get_or (set x c true) j false) same ∙ get_or-set_same x c true false within))
+      | inr other ↦ (other, sym (get_or-set_other x c k true false other) ∙ absent)
     ]
 
 -- a rule that fires over the larger set adds another code, and fired before or has the added code in its formula
@@ -101,11 +101,11 @@ fires_after day x c s within on =
       other = absent.0;
       active = inner.0;
       was = elim (cases_Bool (occurs c s.rule)) [
-          inl there ↦ inr there
+        | inl there ↦ inr there
         | inr off ↦ inl (and_from (is_within s.from s.until day && holds s.rule x) (not (has x s.code))
             (and_from (is_within s.from s.until day) (holds s.rule x) inner.0 (sym (holds-set s.rule x c off) ∙ inner.1))
             (not_from_false (has x s.code) absent.1))
-        ];
+      ];
     }
 
 -- ---- noting rules
@@ -140,37 +140,37 @@ notes_entry old new c rule head within is entries heads =
       linked = λ codes m below l. record {
         codes_have_heads = ap length heads ∙ length-set old.heads.items c (Some n) ∙ l.codes_have_heads;
         heads_in_range = subst (λ (es2 : List Entry). All (λ h. IfSome h (λ k. k < length es2)) new.heads.items) (sym entries)
-          (subst (λ hs. All (λ h. IfSome h (λ k. k < length (es ++ e ∷ []))) hs) (sym heads)
+            (subst (λ hs. All (λ h. IfSome h (λ k. k < length (es ++ e ∷ []))) hs) (sym heads)
             (All-set (λ h. IfSome h (λ k. k < length (es ++ e ∷ []))) old.heads.items c (Some n) (omega (arith, grown))
-              (All-weaker (λ h. IfSome h (λ k. k < n)) (λ h. IfSome h (λ k. k < length (es ++ e ∷ []))) (λ h. IfSome-below h n (length (es ++ e ∷ [])) (omega (arith, grown))) old.heads.items l.heads_in_range)));
+            (All-weaker (λ h. IfSome h (λ k. k < n)) (λ h. IfSome h (λ k. k < length (es ++ e ∷ []))) (λ h. IfSome-below h n (length (es ++ e ∷ [])) (omega (arith, grown))) old.heads.items l.heads_in_range)));
         leads_back = λ k f there.
-          elim (slice_get-push_cases es e k f (ap (λ es2. slice_get es2 k) (sym entries) ∙ there)) [
-            inl before_ ↦ l.leads_back k f before_
-          | inr last ↦ subst (λ (g : Entry). IfSome g.next (λ j. j < k)) last.1 (subst (λ j2. IfSome head (λ j. j < j2)) (sym last.0)
-              (subst (λ h. IfSome h (λ j. j < n)) first (All-get_or (λ h. IfSome h (λ k2. k2 < n)) old.heads.items c None within l.heads_in_range)))
-          ];
+            elim (slice_get-push_cases es e k f (ap (λ es2. slice_get es2 k) (sym entries) ∙ there)) [
+              | inl before_ ↦ l.leads_back k f before_
+              | inr last ↦ subst (λ (g : Entry). IfSome g.next (λ j. j < k)) last.1 (subst (λ j2. IfSome head (λ j. j < j2)) (sym last.0)
+                  (subst (λ h. IfSome h (λ j. j < n)) first (All-get_or (λ h. IfSome h (λ k2. k2 < n)) old.heads.items c None within l.heads_in_range)))
+            ];
         rules_in_range = λ k f there.
-          elim (slice_get-push_cases es e k f (ap (λ es2. slice_get es2 k) (sym entries) ∙ there)) [
-            inl before_ ↦ l.rules_in_range k f before_
-          | inr last ↦ subst (λ (g : Entry). g.rule < m) last.1 below
-          ];
+            elim (slice_get-push_cases es e k f (ap (λ es2. slice_get es2 k) (sym entries) ∙ there)) [
+              | inl before_ ↦ l.rules_in_range k f before_
+              | inr last ↦ subst (λ (g : Entry). g.rule < m) last.1 below
+            ];
       };
       keeps = λ k r w.
-        subst (λ (es2 : List Entry). Leads es2 r (get_or new.heads.items k None)) (sym entries)
+          subst (λ (es2 : List Entry). Leads es2 r (get_or new.heads.items k None)) (sym entries)
           (subst (λ hs. Leads (es ++ e ∷ []) r (get_or hs k None)) (sym heads)
-            (elim (cases_eq k c) [
-              inl same ↦
+          (elim (cases_eq k c) [
+            | inl same ↦
                 let old_head : get_or old.heads.items k None ≡ head = ap (λ j. get_or old.heads.items j None) same ∙ first in
                 let at : get_or (set old.heads.items c (Some n)) k None ≡ Some n = ap (λ j. get_or (set old.heads.items c (Some n)) j None) same ∙ get_or-set_same old.heads.items c (Some n) None within in
                 subst (λ h. Leads (es ++ e ∷ []) r h) (sym at) (later n e refl (slice_get-last es e) (Leads-push es e r head (subst (λ h. Leads es r h) old_head w)))
             | inr other ↦
                 subst (λ h. Leads (es ++ e ∷ []) r h) (sym (get_or-set_other old.heads.items c k (Some n) None other)) (Leads-push es e r (get_or old.heads.items k None) w)
-            ]));
+          ]));
       wakes = λ k on.
-        subst (λ (es2 : List Entry). Leads es2 rule (get_or new.heads.items k None)) (sym entries)
+          subst (λ (es2 : List Entry). Leads es2 rule (get_or new.heads.items k None)) (sym entries)
           (subst (λ hs. Leads (es ++ e ∷ []) rule (get_or hs k None)) (sym heads)
-            (let at : get_or (set old.heads.items c (Some n)) k None ≡ Some n = ap (λ j. get_or (set old.heads.items c (Some n)) j None) (sym (eqb-true c k on)) ∙ get_or-set_same old.heads.items c (Some n) None within in
-             subst (λ h. Leads (es ++ e ∷ []) rule h) (sym at) (here n e refl (slice_get-last es e) refl)));
+          (let at : get_or (set old.heads.items c (Some n)) k None ≡ Some n = ap (λ j. get_or (set old.heads.items c (Some n)) j None) (sym (eqb-true c k on)) ∙ get_or-set_same old.heads.items c (Some n) None within in
+          subst (λ h. Leads (es ++ e ∷ []) rule h) (sym at) (here n e refl (slice_get-last es e) refl)));
     }
 
 -- ---- waking
@@ -198,19 +198,19 @@ woken_more rules entries head old now new k e s there back of_rule moved so_far 
     let goes : (u : Turn) → Contains (t ∷ now) u → Contains new u = λ u among. Contains-permutation (t ∷ now) new u moved among in
     record {
       turns = All-permutation (λ u. (r : Supplement) × (slice_get rules u.rule ≡ Some r) × (u.rank ≡ r.rank)) (t ∷ now) new moved
-        (All-cons (λ u. (r : Supplement) × (slice_get rules u.rule ≡ Some r) × (u.rank ≡ r.rank)) t now (s, of_rule, refl) so_far.turns);
+          (All-cons (λ u. (r : Supplement) × (slice_get rules u.rule ≡ Some r) × (u.rank ≡ r.rank)) t now (s, of_rule, refl) so_far.turns);
       keeps = λ u among. goes u (Contains-behind t u now (so_far.keeps u among));
       woken = λ p r lead is_rule.
-        elim (so_far.woken p r lead is_rule) [
-          inl among ↦ inl (goes (turn_of p r) (Contains-behind t (turn_of p r) now among))
-        | inr still ↦ elim (leads_on entries p k e there still) [
-            inl same ↦
-              let rule : s ≡ r = same_Some s r (sym of_rule ∙ ap (slice_get rules) same ∙ is_rule) in
-              let turn : t ≡ turn_of p r = ap (λ (q : Supplement). turn_of e.rule q) rule ∙ ap (λ j. turn_of j r) same in
-              inl (goes (turn_of p r) (subst (λ (u : Turn). Contains (t ∷ now) u) turn (Contains-front t now)))
-          | inr on ↦ inr on
-          ]
-        ];
+          elim (so_far.woken p r lead is_rule) [
+            | inl among ↦ inl (goes (turn_of p r) (Contains-behind t (turn_of p r) now among))
+            | inr still ↦ elim (leads_on entries p k e there still) [
+              | inl same ↦
+                  let rule : s ≡ r = same_Some s r (sym of_rule ∙ ap (slice_get rules) same ∙ is_rule) in
+                  let turn : t ≡ turn_of p r = ap (λ (q : Supplement). turn_of e.rule q) rule ∙ ap (λ j. turn_of j r) same in
+                  inl (goes (turn_of p r) (subst (λ (u : Turn). Contains (t ∷ now) u) turn (Contains-front t now)))
+              | inr on ↦ inr on
+            ]
+          ];
       in_range = IfSome-below e.next k (length entries) (omega (arith, slice_get_within entries k e there)) back;
     }
 
@@ -232,20 +232,20 @@ pub wakes_more : (rules : List Supplement) (day place : ℕ) (s : Supplement) (o
     → WakesFirst old rules day place → WakesFirst new rules day (place + 1)
 wakes_more rules day place s old new there noted so_far p r below is_rule active c on =
     elim (cases_eq p place) [
-      inl same ↦
-        let rule : s ≡ r = same_Some s r (sym there ∙ ap (slice_get rules) (sym same) ∙ is_rule) in
-        subst (λ q. Wakes new c q) (sym same) (noted.wakes c (subst (λ (q : Supplement). occurs c q.rule ≡ true) (sym rule) on))
-    | inr other ↦ noted.keeps c p (so_far p r (omega arith) is_rule active c on)
+      | inl same ↦
+          let rule : s ≡ r = same_Some s r (sym there ∙ ap (slice_get rules) (sym same) ∙ is_rule) in
+          subst (λ q. Wakes new c q) (sym same) (noted.wakes c (subst (λ (q : Supplement). occurs c q.rule ≡ true) (sym rule) on))
+      | inr other ↦ noted.keeps c p (so_far p r (omega arith) is_rule active c on)
     ]
 
 pub wakes_inactive : (rules : List Supplement) (day place : ℕ) (s : Supplement) (index : WakeIndex) → slice_get rules place ≡ Some s → is_within s.from s.until day ≡ false
     → WakesFirst index rules day place → WakesFirst index rules day (place + 1)
 wakes_inactive rules day place s index there off so_far p r below is_rule active c on =
     elim (cases_eq p place) [
-      inl same ↦
-        let rule : s ≡ r = same_Some s r (sym there ∙ ap (slice_get rules) (sym same) ∙ is_rule) in
-        absurd (false≢true (sym off ∙ ap (λ (q : Supplement). is_within q.from q.until day) rule ∙ active))
-    | inr other ↦ so_far p r (omega arith) is_rule active c on
+      | inl same ↦
+          let rule : s ≡ r = same_Some s r (sym there ∙ ap (slice_get rules) (sym same) ∙ is_rule) in
+          absurd (false≢true (sym off ∙ ap (λ (q : Supplement). is_within q.from q.until day) rule ∙ active))
+      | inr other ↦ so_far p r (omega arith) is_rule active c on
     ]
 
 pub links_fall : (next at : Option ℕ) (k : ℕ) → at ≡ Some k → IfSome next (λ j. j < k) → option_map_or (λ j. suc j) next 0 < option_map_or (λ j. suc j) at 0
@@ -262,12 +262,12 @@ nat_cmp-less a b less = ap (λ c. cond c Less (cond (eqb a b) Equal Greater)) (l
 comes_before : (t u : Turn) → is_lt (ordering_then (nat_cmp u.rank t.rank) (nat_cmp u.rule t.rule)) ≡ false → ComesBefore t u
 comes_before t u not_less =
     elim (cases_order t.rank u.rank) [
-      inl same ↦
-        let tie : nat_cmp u.rank t.rank ≡ Equal = nat_cmp-same u.rank t.rank (sym same) in
-        inr (same, ge_from_not_lt u.rule t.rule (sym (ap (λ o. is_lt (ordering_then o (nat_cmp u.rule t.rule))) tie) ∙ not_less))
-    | inr apart ↦ elim apart [
-        inl lower ↦ inl lower
-      | inr higher ↦ absurd (false≢true (sym not_less ∙ ap (λ o. is_lt (ordering_then o (nat_cmp u.rule t.rule))) (nat_cmp-less u.rank t.rank higher)))
+      | inl same ↦
+          let tie : nat_cmp u.rank t.rank ≡ Equal = nat_cmp-same u.rank t.rank (sym same) in
+          inr (same, ge_from_not_lt u.rule t.rule (sym (ap (λ o. is_lt (ordering_then o (nat_cmp u.rule t.rule))) tie) ∙ not_less))
+      | inr apart ↦ elim apart [
+        | inl lower ↦ inl lower
+        | inr higher ↦ absurd (false≢true (sym not_less ∙ ap (λ o. is_lt (ordering_then o (nat_cmp u.rule t.rule))) (nat_cmp-less u.rank t.rank higher)))
       ]
     ]
 

@@ -10,7 +10,12 @@ use pb_base::{CodeSet, Day, Memory};
 use std::alloc::Global;
 
 /// Completes a set of the book's codes on a day. It is the slow program of the definition: `Completer` gives the same in less time.
-pub fn complete_plainly(alloc: Global, book: &Book, day: Day, set: CodeSet) -> Result<Completed, Memory>
+pub fn complete_plainly(
+    alloc: Global,
+    book: &Book,
+    day: Day,
+    set: CodeSet,
+) -> Result<Completed, Memory>
     requires { length set ≡ length book.now.codes }
     ensures { IfOk result (λ c. c ≡ completion_of book.now day set) }
 {
@@ -18,7 +23,12 @@ pub fn complete_plainly(alloc: Global, book: &Book, day: Day, set: CodeSet) -> R
 }
 
 /// The same of these supplementing rules.
-pub fn complete_by_trying(alloc: Global, supplements: &[Supplement], day: Day, mut set: CodeSet) -> Result<Completed, Memory>
+pub fn complete_by_trying(
+    alloc: Global,
+    supplements: &[Supplement],
+    day: Day,
+    mut set: CodeSet,
+) -> Result<Completed, Memory>
     requires fit { All (SupplementFits (length set)) supplements.now }
     requires places { length supplements.now < 2 ^ 32 }
     ensures { IfOk result (λ c. c ≡ completion_by supplements.now day set) }

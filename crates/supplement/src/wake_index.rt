@@ -30,7 +30,12 @@ pub struct WakeIndex {
 
 impl WakeIndex {
     /// The index of the rules that are active on this day, over so many codes.
-    pub fn of(alloc: Global, codes: u32, supplements: &[Supplement], day: Day) -> Result<WakeIndex, Memory>
+    pub fn of(
+        alloc: Global,
+        codes: u32,
+        supplements: &[Supplement],
+        day: Day,
+    ) -> Result<WakeIndex, Memory>
         requires fit { All (SupplementFits codes) supplements.now }
         requires places { length supplements.now ≤ 5000 }
         ensures { IfOk result (IsIndex codes supplements.now day) }
@@ -45,7 +50,12 @@ impl WakeIndex {
     }
 
     /// Puts the turns of the rules that a code wakes to the others.
-    pub fn wake(&self, code: u32, supplements: &[Supplement], awake: &mut Awake) -> Result<(), Memory>
+    pub fn wake(
+        &self,
+        code: u32,
+        supplements: &[Supplement],
+        awake: &mut Awake,
+    ) -> Result<(), Memory>
         requires linked { IsLinked (length self.now.heads.items) (length supplements.now) self.now }
         requires in_range { code < length self.now.heads.items }
         requires turns { AreTurns supplements.now awake.old }

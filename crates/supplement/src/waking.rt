@@ -17,7 +17,13 @@ use pb_base::{CodeSet, Day, Memory};
 use std::alloc::Global;
 
 /// Completes a set by these supplementing rules, with the index of those that are active on the day.
-pub fn complete_by_waking(alloc: Global, supplements: &[Supplement], index: &WakeIndex, day: Day, mut set: CodeSet) -> Result<Completed, Memory>
+pub fn complete_by_waking(
+    alloc: Global,
+    supplements: &[Supplement],
+    index: &WakeIndex,
+    day: Day,
+    mut set: CodeSet,
+) -> Result<Completed, Memory>
     requires fit { All (SupplementFits (length set)) supplements.now }
     requires places { length supplements.now ≤ 5000 }
     requires index { IsIndex (length set) supplements.now day index.now }
@@ -37,7 +43,12 @@ pub fn complete_by_waking(alloc: Global, supplements: &[Supplement], index: &Wak
 }
 
 // The turns of the rules that fire.
-fn turns_of_firing(alloc: Global, supplements: &[Supplement], day: Day, set: &CodeSet) -> Result<Awake, Memory>
+fn turns_of_firing(
+    alloc: Global,
+    supplements: &[Supplement],
+    day: Day,
+    set: &CodeSet,
+) -> Result<Awake, Memory>
     requires fit { All (SupplementFits (length set.now)) supplements.now }
     requires places { length supplements.now ≤ 5000 }
     ensures turns { IfOk result (AreTurns supplements.now) }
@@ -56,7 +67,12 @@ fn turns_of_firing(alloc: Global, supplements: &[Supplement], day: Day, set: &Co
 }
 
 // Takes turns out up to the first whose rule fires.
-fn next_firing(awake: &mut Awake, supplements: &[Supplement], day: Day, set: &CodeSet) -> Option<Firing>
+fn next_firing(
+    awake: &mut Awake,
+    supplements: &[Supplement],
+    day: Day,
+    set: &CodeSet,
+) -> Option<Firing>
     requires fit { All (SupplementFits (length set.now)) supplements.now }
     requires turns { AreTurns supplements.now awake.old }
     requires awake { IsAwake supplements.now day set.now awake.old }

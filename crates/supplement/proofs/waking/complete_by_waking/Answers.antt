@@ -24,10 +24,11 @@ loop-firing-preserved c =
     let f = c.in-Some.firing in
     let first = sym c.in-Some.ensures.value in
     let code = (adds_absent rules c.args.day c.args.set c.loop-firing.set c.loop-firing.added f c.requires.fit first c.loop-firing.invariant.0).0 in
-    let indexed : IsIndex (length c.loop-firing.set) rules c.args.day c.args.index.now = subst (λ n. IsIndex n rules c.args.day c.args.index.now) (sym c.loop-firing.invariant.0.same_codes) c.requires.index in
-    (rw (c.with.ensures, c.in_ok-push.ensures.ok) (steps rules c.args.day c.args.set c.loop-firing.set c.loop-firing.added f c.requires.fit first c.loop-firing.invariant.0),
-     c.in_ok-wake.ensures.turns,
-     rw c.with.ensures (awake_after rules c.args.day c.loop-firing.set c.args.index.now f c.next_firing.new.awake c.wake.new.awake indexed first code c.in-Some.ensures.others c.in_ok-wake.ensures.keeps c.in_ok-wake.ensures.woken))
+    let indexed : IsIndex (length c.loop-firing.set) rules c.args.day c.args.index.now = subst (λ n. IsIndex n rules c.args.day c.args.index.now) (sym c.loop-firing.invariant.0.same_codes) c.requires.index in (
+      rw (c.with.ensures, c.in_ok-push.ensures.ok) (steps rules c.args.day c.args.set c.loop-firing.set c.loop-firing.added f c.requires.fit first c.loop-firing.invariant.0),
+      c.in_ok-wake.ensures.turns,
+      rw c.with.ensures (awake_after rules c.args.day c.loop-firing.set c.args.index.now f c.next_firing.new.awake c.wake.new.awake indexed first code c.in-Some.ensures.others c.in_ok-wake.ensures.keeps c.in_ok-wake.ensures.woken),
+    )
 
 pub returns : goal.returns
 returns c = ends c.args.supplements.now c.args.day c.args.set c.loop-firing.set c.loop-firing.added (sym c.in_default.ensures.value) c.loop-firing.invariant.0

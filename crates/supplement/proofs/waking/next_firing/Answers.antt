@@ -26,7 +26,7 @@ returns-then-fires-clause-value c =
     let taken = turn_taken rules c.loop-turn.awake c.pop.new.self c.in-Some.turn c.in-Some.ensures.moved c.loop-turn.invariant.0 in
     let there = slice_get_read rules (length rules) c.in-Some.turn.rule c.index-supplements-turn.result refl (slice_get_within rules c.in-Some.turn.rule taken.0 taken.1) c.index-supplements-turn.is in
     next_is_first rules c.args.day c.args.set.now c.loop-turn.awake c.pop.new.self c.in-Some.turn c.index-supplements-turn.result there (sym c.fires.ensures ∙ c.if-fires.true)
-      c.in-Some.ensures.moved c.in-Some.ensures.first c.loop-turn.invariant.0 c.loop-turn.invariant.1
+    c.in-Some.ensures.moved c.in-Some.ensures.first c.loop-turn.invariant.0 c.loop-turn.invariant.1
 
 pub returns-then-fires-clause-turns : goal.returns-then-fires-clause-turns
 returns-then-fires-clause-turns c = turns_left c.args.supplements.now c.loop-turn.awake c.pop.new.self c.in-Some.turn c.in-Some.ensures.moved c.loop-turn.invariant.0
@@ -41,9 +41,10 @@ pub loop-turn-preserved : goal.loop-turn-preserved
 loop-turn-preserved c =
     let rules = c.args.supplements.now in
     let taken = turn_taken rules c.loop-turn.awake c.pop.new.self c.in-Some.turn c.in-Some.ensures.moved c.loop-turn.invariant.0 in
-    let there = slice_get_read rules (length rules) c.in-Some.turn.rule c.index-supplements-turn.result refl (slice_get_within rules c.in-Some.turn.rule taken.0 taken.1) c.index-supplements-turn.is in
-    (turns_left rules c.loop-turn.awake c.pop.new.self c.in-Some.turn c.in-Some.ensures.moved c.loop-turn.invariant.0,
-     still_awake rules c.args.day c.args.set.now c.loop-turn.awake c.pop.new.self c.in-Some.turn c.index-supplements-turn.result there (sym c.fires.ensures ∙ c.if-fires.false) c.in-Some.ensures.moved c.loop-turn.invariant.1)
+    let there = slice_get_read rules (length rules) c.in-Some.turn.rule c.index-supplements-turn.result refl (slice_get_within rules c.in-Some.turn.rule taken.0 taken.1) c.index-supplements-turn.is in (
+      turns_left rules c.loop-turn.awake c.pop.new.self c.in-Some.turn c.in-Some.ensures.moved c.loop-turn.invariant.0,
+      still_awake rules c.args.day c.args.set.now c.loop-turn.awake c.pop.new.self c.in-Some.turn c.index-supplements-turn.result there (sym c.fires.ensures ∙ c.if-fires.false) c.in-Some.ensures.moved c.loop-turn.invariant.1,
+    )
 
 pub returns-clause-value : goal.returns-clause-value
 returns-clause-value c = none_awake c.args.supplements.now c.args.day c.args.set.now c.loop-turn.awake c.in_default.ensures.none c.loop-turn.invariant.1

@@ -14,8 +14,8 @@ loop-place-preserved c =
     let within : place < length rules = omega arith in
     let there : slice_get rules place ≡ Some s = slice_get_read rules (length rules) place s refl within c.index-supplements-place.is in
     elim c.if-fires.branch [
-      then-fires+in_ok-push w ↦ rw w.awake-is (fires_here rules c.args.day c.args.set.now place s c.loop-place.awake _ there w.in_ok-push.ensures c.loop-place.invariant)
-    | else-fires w ↦ rw w.awake-is (fires_not_here rules c.args.day c.args.set.now place s c.loop-place.awake there (sym c.fires.ensures ∙ w.if-fires.false) c.loop-place.invariant)
+      | then-fires+in_ok-push w ↦ rw w.awake-is (fires_here rules c.args.day c.args.set.now place s c.loop-place.awake _ there w.in_ok-push.ensures c.loop-place.invariant)
+      | else-fires w ↦ rw w.awake-is (fires_not_here rules c.args.day c.args.set.now place s c.loop-place.awake there (sym c.fires.ensures ∙ w.if-fires.false) c.loop-place.invariant)
     ]
 
 pub returns-clause-awake : goal.returns-clause-awake

@@ -17,7 +17,7 @@ is_completion c k = k ≡ completion_by c.supplements.result.now c.self.inside.d
 of_this_book : (c : goal.After-complete_by_waking) (P : List Supplement → ℕ → Type 0) → P c.supplements.result.now c.self.inside.day → P c.args.self.now.book.supplements c.args.self.now.day
 of_this_book c P holds =
     subst (λ (v : Completing). P v.book.supplements v.day) c.self.view_is
-      (subst (λ (rules : List Supplement). P rules c.self.inside.day) c.supplements.ensures.value holds)
+    (subst (λ (rules : List Supplement). P rules c.self.inside.day) c.supplements.ensures.value holds)
 
 is_completed : (c : goal.After-complete_by_waking) (k : Completed) → is_completion c k → IsCompleted c.args.self.now.book.supplements c.args.self.now.day c.args.set k.set
 is_completed c k is =
@@ -25,7 +25,7 @@ is_completed c k is =
     let same : length c.self.inside.book.now.codes ≡ length c.args.set = ap (λ v. length v.book.codes) c.self.view_is ∙ sym c.requires in
     let fit : All (SupplementFits (length c.args.set)) rules = subst (λ n. All (SupplementFits n) rules) same c.supplements.ensures.fit in
     of_this_book c (λ rs day. IsCompleted rs day c.args.set k.set)
-      (subst (λ (d : Completed). IsCompleted rules c.self.inside.day c.args.set d.set) (sym is) (is_completed-completion rules c.self.inside.day c.args.set fit))
+    (subst (λ (d : Completed). IsCompleted rules c.self.inside.day c.args.set d.set) (sym is) (is_completed-completion rules c.self.inside.day c.args.set fit))
 
 pub returns : goal.returns
 returns c =

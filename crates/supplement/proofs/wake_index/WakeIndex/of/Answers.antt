@@ -14,9 +14,11 @@ loop-place-preserved c =
     let within : place < length rules = omega arith in
     let there : slice_get rules place ≡ Some s = slice_get_read rules (length rules) place s refl within c.index-supplements-place.is in
     elim c.if-active.branch [
-      then-active+in_ok-note_codes w ↦
-        rw w.index-is (w.in_ok-note_codes.ensures.linked c.args.codes (length rules) within c.loop-place.invariant.0,
-          wakes_more rules c.args.day place s c.loop-place.index _ there w.in_ok-note_codes.ensures c.loop-place.invariant.1)
-    | else-active w ↦
-        rw w.index-is (c.loop-place.invariant.0, wakes_inactive rules c.args.day place s c.loop-place.index there (sym c.active.ensures ∙ w.if-active.false) c.loop-place.invariant.1)
+      | then-active+in_ok-note_codes w ↦
+          rw w.index-is (
+            w.in_ok-note_codes.ensures.linked c.args.codes (length rules) within c.loop-place.invariant.0,
+            wakes_more rules c.args.day place s c.loop-place.index _ there w.in_ok-note_codes.ensures c.loop-place.invariant.1,
+          )
+      | else-active w ↦
+          rw w.index-is (c.loop-place.invariant.0, wakes_inactive rules c.args.day place s c.loop-place.index there (sym c.active.ensures ∙ w.if-active.false) c.loop-place.invariant.1)
     ]

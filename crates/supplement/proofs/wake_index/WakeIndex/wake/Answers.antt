@@ -23,5 +23,5 @@ loop-at-preserved c =
     let s = get_or rules e.rule c.index-supplements-entry.result in
     let of_rule = slice_get-get_or rules e.rule c.index-supplements-entry.result (c.requires.linked.rules_in_range c.in-Some.place e (here_is c)) in
     woken_more rules index.entries.items head c.args.awake.now c.loop-at.awake c.push.new.self c.in-Some.place e s (here_is c)
-      (c.requires.linked.leads_back c.in-Some.place e (here_is c)) of_rule c.in_ok-push.ensures
-      (subst (λ (at : Option ℕ). WokenUpTo rules index.entries.items head c.args.awake.now c.loop-at.awake at) c.in-Some.is c.loop-at.invariant)
+    (c.requires.linked.leads_back c.in-Some.place e (here_is c)) of_rule c.in_ok-push.ensures
+    (subst (λ (at : Option ℕ). WokenUpTo rules index.entries.items head c.args.awake.now c.loop-at.awake at) c.in-Some.is c.loop-at.invariant)
