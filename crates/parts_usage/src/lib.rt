@@ -1,0 +1,16 @@
+//! What an order comes to against a book: the rule that refuses it, the position that doesn't fit, or its parts list.
+#![tactic(auto)]
+
+mod broken;
+mod chosen;
+mod fault;
+mod judgement;
+mod ordered;
+mod parts_list;
+mod unfit;
+
+pub use broken::first_broken;
+pub use fault::OrderFault;
+pub use judgement::Outcome;
+pub use parts_list::{Line, PartsList, select};
+pub use unfit::{Unfit, first_unfit};
