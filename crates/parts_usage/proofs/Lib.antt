@@ -1,0 +1,2 @@
+mod OrderedSets
+mod NameFaults
