@@ -1,5 +1,5 @@
 -- The set of the codes of an order, name by name, and the place of a name among the codes of a book.
-use Rattle.std.proofs.Common.{◌≡◌, ℕ, zero, suc, ◌<◌, Bool, ◌||◌, true, false, cond, List, [], ◌∷◌, ◌++◌, Option, Some, None, length, map, slice_get, slice_set, slice_index_or, nat_lt, refl, sym, ◌∙◌, ap, subst, ltb-true}
+use Rattle.std.proofs.Common.{◌≡◌, ℕ, zero, suc, ◌<◌, Bool, ◌||◌, true, false, cond, List, [], ◌∷◌, ◌++◌, Some, None, length, slice_get, slice_set, slice_index_or, nat_lt, refl, sym, ◌∙◌, ap, subst, ltb-true}
 use Rattle.std.specs.List.{list_any, IsDistinct, AllByRecursion, position_or_len}
 use Rattle.std.specs.Cmp.Lexicographic.{nat_list_eq_equiv, bytes_decides}
 use Rattle.std.proofs.lemmas.List.Folds.{list_any-append}
@@ -40,21 +40,21 @@ has-set_of codes names code place is_code =
 named_too : (names : List (List ℕ)) (code name : List ℕ) → same_name code name ≡ true → list_any (same_name code) (names ++ name ∷ []) ≡ true
 named_too names code name same =
     list_any-append (same_name code) names (name ∷ [])
-        ∙ ap (λ b. list_any (same_name code) names || (b || false)) same
-        ∙ or-true (list_any (same_name code) names)
+    ∙ ap (λ b. list_any (same_name code) names || (b || false)) same
+    ∙ or-true (list_any (same_name code) names)
 
 not_named_more : (names : List (List ℕ)) (code name : List ℕ) → same_name code name ≡ false → list_any (same_name code) (names ++ name ∷ []) ≡ list_any (same_name code) names
 not_named_more names code name other =
     list_any-append (same_name code) names (name ∷ [])
-        ∙ ap (λ b. list_any (same_name code) names || (b || false)) other
-        ∙ or-false (list_any (same_name code) names)
+    ∙ ap (λ b. list_any (same_name code) names || (b || false)) other
+    ∙ or-false (list_any (same_name code) names)
 
 -- a name of none of these codes changes nothing
 set_of-other : (codes names : List (List ℕ)) (name : List ℕ) → AllByRecursion (λ code. same_name name code ≡ false) codes → set_of codes names ≡ set_of codes (names ++ name ∷ [])
 set_of-other [] names name others = refl
 set_of-other (code ∷ codes) names name others =
     ap (λ b. b ∷ set_of codes names) (sym (not_named_more names code name (nat_list_eq_equiv.symm code name ∙ others.0)))
-        ∙ ap (λ x. list_any (same_name code) (names ++ name ∷ []) ∷ x) (set_of-other codes names name others.1)
+    ∙ ap (λ x. list_any (same_name code) (names ++ name ∷ []) ∷ x) (set_of-other codes names name others.1)
 
 -- of a list without repeats, the first element is none of the others
 differs : (codes : List (List ℕ)) (code name : List ℕ) (place : ℕ) → AllByRecursion (λ other. same_name code other ≡ false) codes → slice_get codes place ≡ Some name → same_name code name ≡ false
@@ -72,7 +72,7 @@ set_of-push (code ∷ codes) names name zero distinct is_name =
     let same : code ≡ name = cc in
     let P : List ℕ → Type 0 = λ n. AllByRecursion (λ other. same_name n other ≡ false) codes in
     ap (λ b. b ∷ set_of codes names) (sym (named_too names code name ((bytes_decides code name).1 same)))
-        ∙ ap (λ x. list_any (same_name code) (names ++ name ∷ []) ∷ x) (set_of-other codes names name (subst P same (IsDistinct-head same_name code codes distinct)))
+    ∙ ap (λ x. list_any (same_name code) (names ++ name ∷ []) ∷ x) (set_of-other codes names name (subst P same (IsDistinct-head same_name code codes distinct)))
 set_of-push (code ∷ codes) names name (suc place) distinct is_name =
     ap (λ b. b ∷ slice_set (set_of codes names) place true) (sym (not_named_more names code name (differs codes code name place (IsDistinct-head same_name code codes distinct) is_name)))
-        ∙ ap (λ x. list_any (same_name code) (names ++ name ∷ []) ∷ x) (set_of-push codes names name place (IsDistinct-tail same_name code codes distinct) is_name)
+    ∙ ap (λ x. list_any (same_name code) (names ++ name ∷ []) ∷ x) (set_of-push codes names name place (IsDistinct-tail same_name code codes distinct) is_name)

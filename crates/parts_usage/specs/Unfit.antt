@@ -1,5 +1,5 @@
 -- The first position that a set of codes doesn't fit.
-use Rattle.std.specs.Prelude.{ℕ, zero, suc, Bool, List, [], ◌∷◌, Option, None, Some, length, if◌then◌else◌}
+use Rattle.std.specs.Prelude.{ℕ, suc, Bool, List, [], ◌∷◌, Option, None, Some, length, if◌then◌else◌}
 use Rattle.book_model.specs.Contents.{Contents}
 use Rattle.book_model.specs.Parts.{selected}
 use Rattle.book_model.specs.Sound.{is_fit}

@@ -1,7 +1,6 @@
 //! What an order comes to.
 ghost use Rattle.std.specs.Prelude.{◌≡◌, IfOk, length};
-ghost use Rattle.pb_base.specs.Answers.{Answers};
-ghost use Rattle.parts_usage.specs.Outcome.{outcome_of_set, outcome_of};
+ghost use Rattle.parts_usage.specs.Outcome.{outcome_of_set};
 
 use crate::broken::first_broken;
 use crate::parts_list::{PartsList, select};
@@ -21,8 +20,8 @@ pub enum Outcome {
     Unfit { position: u32, count: u32 },
 }
 
-// What a completed set comes to.
-fn judge_set(alloc: Global, book: &Book, day: Day, set: CodeSet) -> Result<Outcome, Memory>
+/// What a completed set comes to.
+pub fn judge_set(alloc: Global, book: &Book, day: Day, set: CodeSet) -> Result<Outcome, Memory>
     requires { length set ≡ length book.now.codes }
     ensures { IfOk result (λ o. o ≡ outcome_of_set book.now day set) }
 {

@@ -1,12 +1,10 @@
-use Rattle.std.proofs.Common.{◌≡◌, ℕ, ◌+◌, ◌<◌, length, true, false, List, [], ◌∷◌, ◌++◌, Option, Some, slice_index_or, slice_set, sym, ◌∙◌, ap, refl, take, drop, subst}
+use Rattle.std.proofs.Common.{◌≡◌, ℕ, ◌+◌, length, true, false, List, [], ◌∷◌, ◌++◌, Some, slice_set, sym, ◌∙◌, ap, refl, take, subst}
 use Rattle.std.proofs.lemmas.List.{take_more}
 use Rattle.std.specs.List.{IsDistinct}
 use Rattle.pb_base.specs.Names.{same_name, place_in}
 use Rattle.pb_base.specs.Sets.{has, none_of}
 use Rattle.book_model.specs.Activity.{is_within}
-use Rattle.parts_usage.specs.declared.fault.OrderFault.{OrderFault}
 use Rattle.parts_usage.specs.declared.fault.OrderFault.TheVariants.{RepeatedCode}
-use Rattle.parts_usage.specs.Fault.{names_fault}
 use Rattle.parts_usage.specs.Ordered.{set_of}
 use Rattle.parts_usage.proofs.OrderedSets.{set_of-none, set_of-push, code_at_place}
 use Rattle.parts_usage.proofs.NameFaults.{repeated_fault, no_fault, faulty}
@@ -28,7 +26,7 @@ returns-then-has c =
     let repeated : has (set_of codes (take i names)) c.in-Some.code ≡ true = cc in
     let in_term : is_within c.args.book.now.first c.args.book.now.last c.args.day ≡ true = cc in
     faulty c.args.book.now c.args.day names (RepeatedCode (i + 1)) (set_of codes names) in_term
-        (c.loop-index.invariant.fault ∙ repeated_fault codes names i name c.in-Some.code c.loop-index-test.true c.index-names-index.is found repeated)
+    (c.loop-index.invariant.fault ∙ repeated_fault codes names i name c.in-Some.code c.loop-index-test.true c.index-names-index.is found repeated)
 
 pub loop-index-preserved : goal.loop-index-preserved
 loop-index-preserved c =
@@ -43,10 +41,10 @@ loop-index-preserved c =
     let taken : take i names ++ name ∷ [] ≡ take (i + 1) names = ap (λ n. take i names ++ n ∷ []) c.index-names-index.is ∙ sym (take_more names i name c.loop-index-test.true) in
     record {
       marked =
-        c.with.ensures
-            ∙ ap (λ x. slice_set x code true) c.loop-index.invariant.marked
-            ∙ set_of-push codes (take i names) name code distinct (code_at_place codes name code found)
-            ∙ ap (set_of codes) taken;
+          c.with.ensures
+          ∙ ap (λ x. slice_set x code true) c.loop-index.invariant.marked
+          ∙ set_of-push codes (take i names) name code distinct (code_at_place codes name code found)
+          ∙ ap (set_of codes) taken;
       fault =
-        c.loop-index.invariant.fault ∙ no_fault codes names i name code c.loop-index-test.true c.index-names-index.is found fresh
+          c.loop-index.invariant.fault ∙ no_fault codes names i name code c.loop-index-test.true c.index-names-index.is found fresh;
     }

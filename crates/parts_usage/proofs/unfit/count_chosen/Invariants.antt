@@ -1,5 +1,5 @@
 use Rattle.std.proofs.Common.{◌≡◌, ◌≤◌, ◌+◌, drop, length, filter}
-use Rattle.book_model.specs.Parts.{is_chosen, variants_of}
+use Rattle.book_model.specs.Parts.{is_chosen}
 use Rattle.parts_usage.proofs.unfit.count_chosen.Given as goal
 
 abbrev pub invariant-loop-variant : goal.invariant-loop-variant
