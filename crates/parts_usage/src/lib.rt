@@ -8,6 +8,8 @@ mod judgement;
 mod order;
 mod ordered;
 mod parts_list;
+#[cfg(test)]
+mod tests;
 mod unfit;
 
 pub use broken::first_broken;
