@@ -88,32 +88,3 @@ fn end_before(later: &[Day], last: Day) -> Day
         [next, ..] => next.saturating_sub(1),
     }
 }
-
-#[cfg(test)]
-mod tests {
-    use super::*;
-    use crate::{BookParts, VariantGroups};
-    use pb_base::{CodeTable, Id};
-    use std::test::Fail;
-
-    #[test]
-    fn a_book_without_records_has_one_slice(rt: HostRuntime) -> Result<(), Fail> {
-        let alloc = rt.alloc();
-        let groups = VariantGroups::of(alloc, 0, &[])?;
-        let book = Book::of(BookParts {
-            name: Id::of(b"T").ok_or("a name")?,
-            first: 1,
-            last: 9,
-            codes: CodeTable::new(alloc),
-            supplements: Vec::new(alloc),
-            constructs: Vec::new(alloc),
-            modules: Vec::new(alloc),
-            positions: Vec::new(alloc),
-            variants: Vec::new(alloc),
-            groups,
-        });
-        let slices = slices(alloc, &book)?;
-        assert_eq!(rt; slices.as_slice(), [Slice { first: 1, last: 9 }].as_slice());
-        Ok(())
-    }
-}

@@ -1,6 +1,6 @@
 //! Books made by hand: each call once with ample memory.
 
-use crate::{Book, BookParts, VariantGroups, active, is_good};
+use crate::{Book, BookParts, Slice, VariantGroups, active, is_good, slices};
 use pb_base::{CodeSet, CodeTable, Id};
 use std::test::Fail;
 
@@ -12,7 +12,9 @@ fn a_record_is_active_on_both_its_ends(rt: HostRuntime) {
 }
 
 #[test]
-fn a_book_without_records_allows_the_empty_set(rt: HostRuntime) -> Result<(), Fail> {
+fn a_book_without_records_allows_the_empty_set_and_has_one_slice(
+    rt: HostRuntime,
+) -> Result<(), Fail> {
     let alloc = rt.alloc();
     let groups = VariantGroups::of(alloc, 0, &[])?;
     let book = Book::of(BookParts {
@@ -30,6 +32,7 @@ fn a_book_without_records_allows_the_empty_set(rt: HostRuntime) -> Result<(), Fa
     let set = CodeSet::none(alloc, 0)?;
     assert!(rt; is_good(&book, 5, &set));
     assert_eq!(rt; book.name().bytes(), b"T".as_slice());
-    assert_eq!(rt; book.term().last, 9);
+    let slices = slices(alloc, &book)?;
+    assert_eq!(rt; slices.as_slice(), [Slice { first: 1, last: 9 }].as_slice());
     Ok(())
 }
