@@ -5,7 +5,7 @@ use Rattle.book_model.specs.Contents.{Contents}
 use Rattle.book_model.specs.declared.record.Supplement.{Supplement}
 use Rattle.supplement.specs.declared.completed.Added.{Added}
 use Rattle.supplement.specs.declared.completed.Completed.{Completed}
-use Rattle.supplement.specs.Completion.{completion_of}
+use Rattle.supplement.specs.Completion.{completion_by, completion_of}
 
 -- a rule of the ten days of the term
 abbrev adds : ℕ → ℕ → Rule → Supplement
@@ -33,24 +33,24 @@ only_a = true ∷ false ∷ false ∷ []
 
 -- the first rule adds C on B, the second B on A: the second fires, and then the first
 turns_true_late : completion_of (book_with (adds 1 2 (code 1) ∷ adds 2 1 (code 0) ∷ [])) 1 only_a ≡ record { set = true ∷ true ∷ true ∷ []; added = added 1 1 ∷ added 2 0 ∷ [] }
-unfolding completion_of
+unfolding completion_by
 turns_true_late = refl
 
 -- B on A without C, and C on A without B: the lower rank fires
 lower_rank : completion_of (book_with (adds 1 1 (both (code 0) (negation (code 2))) ∷ adds 2 2 (both (code 0) (negation (code 1))) ∷ [])) 1 only_a ≡ record { set = true ∷ true ∷ false ∷ []; added = added 1 0 ∷ [] }
-unfolding completion_of
+unfolding completion_by
 lower_rank = refl
 
 ranks_exchanged : completion_of (book_with (adds 2 1 (both (code 0) (negation (code 2))) ∷ adds 1 2 (both (code 0) (negation (code 1))) ∷ [])) 1 only_a ≡ record { set = true ∷ false ∷ true ∷ []; added = added 2 1 ∷ [] }
-unfolding completion_of
+unfolding completion_by
 ranks_exchanged = refl
 
 -- at equal ranks the earlier record fires
 tie : completion_of (book_with (adds 1 1 (both (code 0) (negation (code 2))) ∷ adds 1 2 (both (code 0) (negation (code 1))) ∷ [])) 1 only_a ≡ record { set = true ∷ true ∷ false ∷ []; added = added 1 0 ∷ [] }
-unfolding completion_of
+unfolding completion_by
 tie = refl
 
 -- a rule that is not active adds nothing
 out_of_days : completion_of (book_with (adds 1 1 always ∷ [])) 11 only_a ≡ record { set = only_a; added = [] }
-unfolding completion_of
+unfolding completion_by
 out_of_days = refl

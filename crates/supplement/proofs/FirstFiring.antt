@@ -172,14 +172,14 @@ first_of-assoc None p q = refl
 first_of-assoc (Some f) None q = refl
 first_of-assoc (Some f) (Some g) None =
     elim (cases_Bool (leb f.rank g.rank)) [
-      inl low ↦ ap (λ o. first_of o None) (earlier_first f g low) ∙ sym (earlier_first f g low)
-    | inr high ↦ ap (λ o. first_of o None) (later_first f g high) ∙ sym (later_first f g high)
+      | inl low ↦ ap (λ o. first_of o None) (earlier_first f g low) ∙ sym (earlier_first f g low)
+      | inr high ↦ ap (λ o. first_of o None) (later_first f g high) ∙ sym (later_first f g high)
     ]
 first_of-assoc (Some f) (Some g) (Some h) = first_of_three f g h (leb f.rank g.rank) (leb g.rank h.rank) refl refl
 
 pub first_firing-step : (i day : ℕ) (x : List Bool) (all : List Supplement) (s : Supplement) → i < length all → s ≡ get_or all i s
     → first_firing_from i day x (drop i all) ≡ first_of (firing_at i day x s) (first_firing_from (i + 1) day x (drop (i + 1) all))
-first_firing-step i day x all s within is = 
+first_firing-step i day x all s within is =
     let split : drop i all ≡ s ∷ drop (i + 1) all = drop_more all i s within ∙ ap (λ t. t ∷ drop (i + 1) all) (sym is) in
     ap (first_firing_from i day x) split ∙ ap (λ n. first_of (firing_at i day x s) (first_firing_from n day x (drop (i + 1) all))) (sym (add-one i))
 

@@ -1,4 +1,6 @@
 pub mod FirstFiring
 pub mod Laws
 mod Steps
+mod WakingLemmas
+mod TurnLemmas
 mod Cases

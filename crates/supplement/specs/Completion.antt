@@ -1,5 +1,5 @@
 -- How the supplementing rules of a book complete a set of codes on a day.
---     first_firing b day x        the rule that fires first: the lowest rank, and at one rank the earliest record
+--     first_firing rules day x    the rule that fires first: the lowest rank, and at one rank the earliest record
 --     Includes x y                y has each code that x has
 --     completion_of b day x       the completed set, and what was added, in order of adding
 use Rattle.std.specs.Prelude.{ℕ, zero, suc, Bool, true, not, List, [], ◌∷◌, Option, None, Some, nat_le, count_by, slice_set, IsTrue, if◌then◌else◌}
@@ -27,8 +27,8 @@ abbrev pub first_firing_from : ℕ → ℕ → List Bool → List Supplement →
 first_firing_from place day x [] = None
 first_firing_from place day x (s ∷ ss) = first_of (firing_at place day x s) (first_firing_from (suc place) day x ss)
 
-abbrev pub first_firing : Contents → ℕ → List Bool → Option Firing
-first_firing b day x = first_firing_from 0 day x b.supplements
+abbrev pub first_firing : List Supplement → ℕ → List Bool → Option Firing
+first_firing rules day x = first_firing_from 0 day x rules
 
 -- the set with the code of the rule
 abbrev pub with_code_of : Firing → List Bool → List Bool
@@ -45,9 +45,13 @@ abbrev pub added_first : Firing → Completed → Completed
 added_first f rest = record { set = rest.set; added = record { code = f.code; rule = f.rule } ∷ rest.added }
 
 -- the completion of a set that lacks at most n codes: where no rule fires, nothing is added; else the code of the rule that fires first, and then what completes the larger set
-abbrev pub completion_within : ℕ → Contents → ℕ → List Bool → Completed
-completion_within zero b day x = nothing_added x
-completion_within (suc n) b day x = option_map_or (λ f. added_first f (completion_within n b day (with_code_of f x))) (first_firing b day x) (nothing_added x)
+abbrev pub completion_within : ℕ → List Supplement → ℕ → List Bool → Completed
+completion_within zero rules day x = nothing_added x
+completion_within (suc n) rules day x = option_map_or (λ f. added_first f (completion_within n rules day (with_code_of f x))) (first_firing rules day x) (nothing_added x)
 
-unfoldable pub completion_of : Contents → ℕ → List Bool → Completed
-completion_of b day x = completion_within (count_by not x) b day x
+-- the completion of a set by these supplementing rules
+unfoldable pub completion_by : List Supplement → ℕ → List Bool → Completed
+completion_by rules day x = completion_within (count_by not x) rules day x
+
+abbrev pub completion_of : Contents → ℕ → List Bool → Completed
+completion_of b day x = completion_by b.supplements day x

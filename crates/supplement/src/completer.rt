@@ -4,17 +4,19 @@ ghost use Rattle.book_model.specs.Good.{is_closed};
 ghost use Rattle.supplement.specs.Completion.{completion_of, Includes};
 
 use crate::completed::Completed;
-use crate::plain::complete_plainly;
+use crate::wake_index::WakeIndex;
+use crate::waking::complete_by_waking;
 use book_model::Book;
 use pb_base::{CodeSet, Day, Memory};
 use std::alloc::Global;
 use std::marker::Model;
 
-/// Completes orders of a book on a day. It is made once and then serves any number of orders.
+/// Completes orders of a book on a day. It is made once, in time that is linear in the book's rules, and then serves any number of orders: each costs what the rules cost that an added code may have changed.
 #[derive(Drop)]
 pub struct Completer<'a> {
     book: &'a Book,
     day: Day,
+    index: WakeIndex,
 }
 
 impl<'a> Model for Completer<'a> {
@@ -24,7 +26,12 @@ impl<'a> Model for Completer<'a> {
 
     ghost coded = { completing_code };
 
+    ghost use Rattle.std.specs.Prelude.{length};
+    ghost use Rattle.supplement.specs.Waking.{IsIndex};
+
     ghost view = { λ c. record { book = c.book.now; day = c.day } };
+
+    ghost invariant = { λ c. IsIndex (length c.book.now.codes) c.book.now.supplements c.day c.index };
 }
 
 impl<'a> Completer<'a> {
@@ -32,8 +39,9 @@ impl<'a> Completer<'a> {
     pub fn new(alloc: Global, book: &'a Book, day: Day) -> Result<Completer<'a>, Memory>
         ensures { IfOk result (λ c. c ≡ record { book = book.now; day = day }) }
     {
-        let _ = alloc;
-        Ok(Completer { book, day })
+        let codes = book.codes().len();
+        let index = WakeIndex::of(alloc, codes, book.supplements(), day)?;
+        Ok(Completer { book, day, index })
     }
 
     /// Adds to a set of the book's codes what its supplementing rules add. On want of memory the set is given up.
@@ -44,7 +52,6 @@ impl<'a> Completer<'a> {
         ensures includes { IfOk result (λ c. Includes set c.set) }
         ensures same_codes { IfOk result (λ c. length c.set ≡ length set) }
     {
-        let _rules = self.book.supplements();
-        complete_plainly(alloc, self.book, self.day, set)
+        complete_by_waking(alloc, self.book.supplements(), &self.index, self.day, set)
     }
 }

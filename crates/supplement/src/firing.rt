@@ -53,12 +53,6 @@ fn first_of(earlier: Option<Firing>, later: Option<Firing>) -> Option<Firing>
     match (earlier, later) {
         (None, later) => later,
         (Some(f), None) => Some(f),
-        (Some(f), Some(g)) => {
-            if f.rank <= g.rank {
-                Some(f)
-            } else {
-                Some(g)
-            }
-        }
+        (Some(f), Some(g)) => { if f.rank <= g.rank { Some(f) } else { Some(g) } }
     }
 }

@@ -1,0 +1,8 @@
+pub mod Literal
+pub mod Clause
+pub mod Region
+pub mod Contents
+pub mod Chain
+pub mod Run
+pub mod Steps
+pub mod Derivation

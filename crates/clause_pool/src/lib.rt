@@ -1,0 +1,19 @@
+//! Clauses of propositional logic: literals, pools of clauses in one flat region, and the kernel that adds to given
+//! clauses only what follows from them by resolution.
+#![tactic(auto)]
+
+mod chain;
+mod kernel;
+mod lit;
+mod merge;
+mod pool;
+mod region;
+mod run;
+mod steps;
+#[cfg(test)]
+mod tests;
+
+pub use chain::{Pair, StepFault};
+pub use kernel::Kernel;
+pub use lit::Lit;
+pub use pool::{Mark, Pool, Ref};

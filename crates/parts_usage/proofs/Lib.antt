@@ -1,0 +1,3 @@
+mod OrderedSets
+mod NameFaults
+mod SmallBook

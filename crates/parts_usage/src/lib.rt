@@ -1,0 +1,20 @@
+//! What an order comes to against a book: the rule that refuses it, the position that doesn't fit, or its parts list.
+#![tactic(auto)]
+
+mod broken;
+mod chosen;
+mod fault;
+mod judgement;
+mod order;
+mod ordered;
+mod parts_list;
+#[cfg(test)]
+mod tests;
+mod unfit;
+
+pub use broken::first_broken;
+pub use fault::OrderFault;
+pub use judgement::Outcome;
+pub use order::outcome;
+pub use parts_list::{Line, PartsList, select};
+pub use unfit::{Unfit, first_unfit};

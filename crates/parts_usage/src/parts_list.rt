@@ -1,0 +1,89 @@
+//! Parts lists: which variant stands at which position.
+ghost use Rattle.std.specs.Prelude.{◌≡◌, ◌<◌, ◌++◌, IfOk, OnOk, length, filter};
+ghost use Rattle.book_model.specs.Parts.{parts, lines_at, is_chosen, variants_of};
+
+use crate::chosen::is_chosen;
+use book_model::{Book, active};
+use pb_base::{CodeSet, Day, Memory};
+use std::alloc::Global;
+use std::marker::Model;
+
+/// A line of a parts list. A contract sees it as the same two places.
+#[derive(Clone, Copy, Debug, PartialEq, Eq)]
+pub struct Line {
+    /// The place of the position, counted from 0.
+    pub position: u32,
+    /// The place of the variant among all variants of the book, counted from 0.
+    pub variant: u32,
+}
+
+impl Model for Line {
+    ghost use Rattle.book_model.specs.Parts.{PartsLine};
+
+    ghost Value = { PartsLine };
+
+    ghost view = { λ l. record { position = l.position; variant = l.variant } };
+
+    ghost inverse = { λ l. record { position = l.position; variant = l.variant } };
+}
+
+/// The selected variants of all positions, by position and then by variant, in record order.
+#[derive(Drop)]
+pub struct PartsList {
+    lines: Vec<Line>,
+}
+
+impl Model for PartsList {
+    ghost use Rattle.std.specs.Prelude.{List};
+    ghost use Rattle.book_model.specs.Parts.{PartsLine};
+
+    ghost Value = { List PartsLine };
+
+    ghost view = { λ l. l.lines.items };
+}
+
+impl PartsList {
+    /// The lines in their order.
+    pub fn lines(&self) -> &[Line]
+        ensures { result.now ≡ self.now }
+    {
+        &self.lines
+    }
+}
+
+/// The parts list of a set of codes on a day: the selected variants of each position.
+pub fn select(alloc: Global, book: &Book, day: Day, set: &CodeSet) -> Result<PartsList, Memory>
+    requires { length set.now ≡ length book.now.codes }
+    ensures { IfOk result (λ list. list ≡ parts book.now day set.now) }
+{
+    let mut lines = Vec::new(alloc);
+    for (place, position) in book.positions().iter().enumerate() {
+        if active(position.from, position.until, day) {
+            push_lines(&mut lines, book, day, set, place as u32)?;
+        }
+    }
+    Ok(PartsList { lines })
+}
+
+// Puts the lines of the position at this place behind the others.
+fn push_lines(
+    lines: &mut Vec<Line>,
+    book: &Book,
+    day: Day,
+    set: &CodeSet,
+    place: u32,
+) -> Result<(), Memory>
+    requires codes { length set.now ≡ length book.now.codes }
+    requires in_range { place < length book.now.positions }
+    ensures { OnOk result (lines.new.items ≡ lines.old.items ++ lines_at place (filter (is_chosen book.now day set.now) (variants_of place book.now.variants))) }
+{
+    for variant in book.variants_of(place) {
+        if is_chosen(book, day, set, *variant) {
+            lines.push(Line {
+                position: place,
+                variant: *variant,
+            })?;
+        }
+    }
+    Ok(())
+}
