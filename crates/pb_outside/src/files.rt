@@ -35,7 +35,10 @@ pub struct SystemFiles<'a, R: rt::Files> {
 }
 
 impl<'a, R: rt::Files> SystemFiles<'a, R> {
-    pub fn new(system: &'a R) -> SystemFiles<'a, R> {
+    /// No fault so far.
+    pub fn new(system: &'a R) -> SystemFiles<'a, R>
+        ensures { ⟦<SystemFiles<'a, R> as Files>⟧.fault_count result ≡ 0 }
+    {
         SystemFiles {
             system,
             faults: FaultCount::new(),

@@ -1,4 +1,5 @@
 //! Adapters over the streams of the system: standard input and output, opened files and connections. They tell no content.
+ghost use Rattle.std.specs.Prelude.{◌≡◌};
 
 use crate::{FaultCount, OutError, Sink, Source};
 use std::io::{Read, Write};
@@ -14,7 +15,10 @@ pub struct StreamSource<R: Read> {
 }
 
 impl<R: Read> StreamSource<R> {
-    pub fn new(reader: R) -> StreamSource<R> {
+    /// No fault so far.
+    pub fn new(reader: R) -> StreamSource<R>
+        ensures { ⟦<StreamSource<R> as Source>⟧.read_fault_count result ≡ 0 }
+    {
         StreamSource {
             reader,
             faults: FaultCount::new(),
@@ -58,7 +62,10 @@ pub struct StreamSink<W: Write> {
 }
 
 impl<W: Write> StreamSink<W> {
-    pub fn new(writer: W) -> StreamSink<W> {
+    /// No fault so far.
+    pub fn new(writer: W) -> StreamSink<W>
+        ensures { ⟦<StreamSink<W> as Sink>⟧.write_fault_count result ≡ 0 }
+    {
         StreamSink {
             writer,
             faults: FaultCount::new(),
