@@ -1,6 +1,6 @@
 -- The names of the codes in a set, one after the other.
 use Rattle.std.proofs.Common.{◌≡◌, ◌<◌, ℕ, ◌+◌, Bool, List, [], ◌∷◌, ◌++◌, length, get_or, drop, ap, ◌∙◌, subst, append_assoc}
-use Rattle.std.specs.Prelude.{Option, Some, IfSome, slice_get}
+use Rattle.std.specs.Prelude.{Option, IfSome, slice_get}
 use Rattle.std.proofs.lemmas.List.{drop_more}
 use Rattle.std.proofs.lemmas.Option.{slice_get-get_or}
 use Rattle.partsbook.specs.OutcomeText.{named, names_from}

@@ -3,7 +3,7 @@
 --     status 1     it is refused, or unfit
 --     status 2     the words are of no form
 --     status 3     the book or the order has a fault
-use Rattle.std.specs.Prelude.{◌≡◌, ℕ, List, [], ◌∷◌, Option, None, Result, Ok, Err, IsOk, IfOk, IsSomeAnd, codes}
+use Rattle.std.specs.Prelude.{◌≡◌, ℕ, List, [], ◌∷◌, None, Result, Ok, Err, IsOk, IfOk, IsSomeAnd, codes}
 use Rattle.std.specs.Option.{option_map_or}
 use Rattle.book_model.specs.Contents.{Contents}
 use Rattle.book_text.specs.BookText.{book_of}
@@ -61,11 +61,11 @@ order_reply (Ok b) day ordered = judged_reply b (outcome_of b day ordered)
 order_reply (Err fault) day ordered = book_fault_reply fault
 
 -- what a command answers to an input
-abbrev pub command_reply : List ℕ → Command → Reply
+unfoldable pub command_reply : List ℕ → Command → Reply
 command_reply input (OrderCommand day ordered) = order_reply (book_of input) day ordered
 
 -- what the program answers to its words and its input
-abbrev pub reply : List (List ℕ) → List ℕ → Reply
+unfoldable pub reply : List (List ℕ) → List ℕ → Reply
 reply words input = option_map_or (command_reply input) (command_in words) usage_reply
 
 -- the words are a command, and neither the book nor the order has a fault
@@ -73,8 +73,8 @@ pub record IsValidOrder (input : List ℕ) (day : ℕ) (ordered : List (List ℕ
   pub book : IsOk (book_of input)
   pub order : IfOk (book_of input) (λ b. order_fault b day ordered ≡ None)
 
-abbrev pub IsValidCommand : List ℕ → Command → Type 0
+unfoldable pub IsValidCommand : List ℕ → Command → Type 0
 IsValidCommand input (OrderCommand day ordered) = IsValidOrder input day ordered
 
-abbrev pub IsValid : List (List ℕ) → List ℕ → Type 0
+unfoldable pub IsValid : List (List ℕ) → List ℕ → Type 0
 IsValid words input = IsSomeAnd (command_in words) (IsValidCommand input)

@@ -1,6 +1,6 @@
 -- What the words of a command line ask for.
 --     order DAY CODE..     the order of these codes on this day
-use Rattle.std.specs.Prelude.{ℕ, Bool, List, [], ◌∷◌, Option, None, Some, String, map, string_bytes, codes, if◌then◌else◌}
+use Rattle.std.specs.Prelude.{ℕ, List, [], ◌∷◌, Option, None, Some, String, map, string_bytes, codes, if◌then◌else◌}
 use Rattle.std.specs.Option.{option_map, option_and_then}
 use Rattle.std.specs.List.{list_all}
 use Rattle.std.specs.declared.alloc.Global.{Global}
@@ -25,6 +25,6 @@ order_in [] = None
 order_in (day ∷ names) = option_and_then (λ on. option_map (λ ordered. Order on ordered) (codes_in names)) (day_in day)
 
 -- the command that the words ask for, or none where they are of no form
-abbrev pub command_in : List (List ℕ) → Option Command
+unfoldable pub command_in : List (List ℕ) → Option Command
 command_in [] = None
 command_in (name ∷ words) = if same_name name (codes "order") then order_in words else None

@@ -1,5 +1,5 @@
 //! Judges an order against the text of a book.
-ghost use Rattle.std.specs.Prelude.{◌≡◌, ◌≤◌, IfOk};
+ghost use Rattle.std.specs.Prelude.{◌≡◌, ◌⊎◌, ◌≤◌, IfOk};
 ghost use Rattle.std.specs.Option.{option_to_list};
 ghost use Rattle.book_text.specs.BookText.{book_of};
 ghost use Rattle.parts_usage.specs.Outcome.{outcome_of};
@@ -17,9 +17,10 @@ use pb_base::{CodeList, CodeName, Day, Fail, Memory};
 use std::alloc::Global;
 
 /// What a command answers to an input. Its status is 0, 1 or 3.
+#[tactic(auto, unfolding(crate::specs::Reply::command_reply))]
 pub fn command_reply(alloc: Global, command: &Command, input: &[u8]) -> Result<Reply, Memory>
     ensures reply { IfOk result (λ reply. reply ≡ command_reply input.now command.now) }
-    ensures status { IfOk result (λ reply. reply.status ≤ 3) }
+    ensures status { IfOk result (λ reply. (reply.status ≤ 1) ⊎ (reply.status ≡ 3)) }
 {
     match command {
         Command::Order { day, codes } => order_reply(alloc, input, *day, codes),
@@ -29,7 +30,7 @@ pub fn command_reply(alloc: Global, command: &Command, input: &[u8]) -> Result<R
 /// What the order of these codes on this day comes to against the book of the text.
 fn order_reply(alloc: Global, text: &[u8], day: Day, codes: &CodeList) -> Result<Reply, Memory>
     ensures reply { IfOk result (λ reply. reply ≡ order_reply (book_of text.now) day codes.now) }
-    ensures status { IfOk result (λ reply. reply.status ≤ 3) }
+    ensures status { IfOk result (λ reply. (reply.status ≤ 1) ⊎ (reply.status ≡ 3)) }
 {
     match read_book(alloc, text) {
         Ok(book) => judged_reply(alloc, &book, day, codes.names()),
@@ -40,7 +41,7 @@ fn order_reply(alloc: Global, text: &[u8], day: Day, codes: &CodeList) -> Result
 
 fn judged_reply(alloc: Global, book: &Book, day: Day, codes: &[CodeName]) -> Result<Reply, Memory>
     ensures reply { IfOk result (λ reply. reply ≡ judged_reply book.now (outcome_of book.now day codes.now)) }
-    ensures status { IfOk result (λ reply. reply.status ≤ 3) }
+    ensures status { IfOk result (λ reply. (reply.status ≤ 1) ⊎ (reply.status ≡ 3)) }
 {
     match outcome(alloc, book, day, codes) {
         Ok(judged) => outcome_reply(alloc, book, &judged),
@@ -51,7 +52,7 @@ fn judged_reply(alloc: Global, book: &Book, day: Day, codes: &[CodeName]) -> Res
 
 fn outcome_reply(alloc: Global, book: &Book, outcome: &Outcome) -> Result<Reply, Memory>
     ensures reply { IfOk result (λ reply. reply ≡ outcome_reply book.now outcome.now) }
-    ensures status { IfOk result (λ reply. reply.status ≤ 3) }
+    ensures status { IfOk result (λ reply. (reply.status ≤ 1) ⊎ (reply.status ≡ 3)) }
 {
     let text = outcome_text(alloc, book, outcome)?;
     Ok(Reply::new(text, outcome_status(outcome), outcome_note(outcome)))

@@ -55,6 +55,7 @@ fn run_command<S: Source, K: Sink>(
 ) -> u8
     ensures reply { result ≤ 3 → GivesReplyTo command.now (S.left source.old) result (K.taken sink.old) (K.taken sink.new) log.old log.new }
     ensures input_read { result ≤ 3 → LeavesRest (S.left source.old) (S.left source.new) }
+    ensures not_usage { result ≢ 2 }
     ensures read_fault { result ≡ 4 → TellsReadFault (S.read_fault_count source.old) (S.read_fault_count source.new) (K.taken sink.old) (K.taken sink.new) log.old log.new }
     ensures sink { TellsSink result (K.write_fault_count sink.old) (K.write_fault_count sink.new) (K.taken sink.old) (K.taken sink.new) log.old log.new }
     ensures never_falls { S.read_fault_count source.old ≤ S.read_fault_count source.new }
@@ -75,7 +76,7 @@ fn answer<K: Sink>(
     log: &mut RunLog,
 ) -> u8
     ensures reply { result ≤ 3 → Gives (command_reply input.now command.now) result (K.taken sink.old) (K.taken sink.new) log.old log.new }
-    ensures read_fault { result ≢ 4 }
+    ensures status { (result ≤ 1) ⊎ (result ≡ 3) ⊎ (result ≡ 5) ⊎ (result ≡ 9) }
     ensures sink { TellsSink result (K.write_fault_count sink.old) (K.write_fault_count sink.new) (K.taken sink.old) (K.taken sink.new) log.old log.new }
 {
     match command_reply(alloc, command, input) {

@@ -8,6 +8,7 @@ use pb_base::{CodeList, CodeName, Memory};
 use std::alloc::Global;
 
 /// The command that the words ask for, or None where they are of no form.
+#[tactic(auto, unfolding(crate::specs::Words::command_in))]
 pub fn command_in(alloc: Global, words: &[String]) -> Result<Option<Command>, Memory>
     ensures { IfOk result (λ command. command ≡ command_in (texts_of words.now)) }
 {
