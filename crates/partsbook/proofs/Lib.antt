@@ -1,0 +1,4 @@
+pub mod NamesText
+pub mod Texts
+pub mod Sinks
+pub mod Answered

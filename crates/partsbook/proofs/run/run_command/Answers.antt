@@ -1,0 +1,20 @@
+use Rattle.std.proofs.Common.{arith}
+use Rattle.partsbook.proofs.Answered.{IsInput-from_read, LeavesRest-from_read}
+use Rattle.partsbook.proofs.run.run_command.Goals as goal
+
+pub returns-in-Ok-clause-reply : goal.returns-in-Ok-clause-reply
+returns-in-Ok-clause-reply g c = λ small. (
+  c.deref.result.now,
+  rw c.deref.ensures.value (IsInput-from_read (g.S.Source.left c.args.source.now) (g.S.Source.left c.read_up_to.new.source) c.in-Ok.input.items c.in-Ok.ensures.told),
+  c.answer.ensures.reply small,
+)
+
+pub returns-in-Ok-clause-input_read : goal.returns-in-Ok-clause-input_read
+returns-in-Ok-clause-input_read g c = λ small.
+    LeavesRest-from_read (g.S.Source.left c.args.source.now) (g.S.Source.left c.read_up_to.new.source) c.in-Ok.input.items c.in-Ok.ensures.told
+
+pub returns-in-Err-Failed-clause-reply : goal.returns-in-Err-Failed-clause-reply
+returns-in-Err-Failed-clause-reply g c = λ small. absurd (omega arith)
+
+pub returns-in-Err-Memory-clause-reply : goal.returns-in-Err-Memory-clause-reply
+returns-in-Err-Memory-clause-reply g c = λ small. absurd (omega arith)

@@ -1,0 +1,59 @@
+-- What a run does to the outside.
+use Rattle.std.specs.Prelude.{◌≡◌, ◌⊎◌, ℕ, ◌≤◌, List, [], ◌∷◌, ◌++◌, Option, Some, IfSome, take, drop, codes}
+use Rattle.pb_outside.specs.Faults.{Rose}
+use Rattle.pb_outside.specs.Sink.{TakesPiece}
+use Rattle.partsbook.specs.Reply.{Reply, command_reply, reply}
+use Rattle.partsbook.specs.declared.command.Command.{Command}
+use Rattle.partsbook.specs.declared.log.Note.{Note}
+use Rattle.partsbook.specs.declared.log.Note.TheVariants.{Count}
+
+-- a book's text has at most 1,048,576 bytes, and one byte more shows that it is too large
+abbrev pub input_limit : ℕ
+input_limit = 1048577
+
+-- the input is all of what the source had, or so much of it, where it tells that
+abbrev pub IsInput : Option (List ℕ) → List ℕ → Type 0
+IsInput left input = IfSome left (λ all. input ≡ take input_limit all)
+
+-- and the rest is left unread
+abbrev pub LeavesRest : Option (List ℕ) → Option (List ℕ) → Type 0
+LeavesRest left left' = IfSome left (λ all. left' ≡ Some (drop input_limit all))
+
+-- the text was written whole, the status is the reply's, and the log has the notes on which it rests
+pub record Gives (r : Reply) (status : ℕ) (taken taken' : Option (List ℕ)) (log log' : List Note) : Type 0 where
+  pub status_is : status ≡ r.status
+  pub text : TakesPiece r.text taken taken'
+  pub notes : log' ≡ log ++ r.notes
+
+-- the reply of a command to what was read
+abbrev pub GivesReplyTo : Command → Option (List ℕ) → ℕ → Option (List ℕ) → Option (List ℕ) → List Note → List Note → Type 0
+GivesReplyTo command left status taken taken' log log' = (input : List ℕ) × IsInput left input × Gives (command_reply input command) status taken taken' log log'
+
+-- the reply to the words and to what was read
+abbrev pub GivesReply : List (List ℕ) → Option (List ℕ) → ℕ → Option (List ℕ) → Option (List ℕ) → List Note → List Note → Type 0
+GivesReply words left status taken taken' log log' = (input : List ℕ) × IsInput left input × Gives (reply words input) status taken taken' log log'
+
+abbrev pub read_fault_text : List ℕ
+read_fault_text = codes "read fault\n"
+
+abbrev pub memory_text : List ℕ
+memory_text = codes "want of memory\n"
+
+-- the source failed: the line says so, and the log has the two counts
+pub record TellsReadFault (before after : ℕ) (taken taken' : Option (List ℕ)) (log log' : List Note) : Type 0 where
+  pub rose : Rose before after
+  pub text : TakesPiece read_fault_text taken taken'
+  pub notes : log' ≡ log ++ Count 1 before after ∷ []
+
+-- the log ends with the two counts of the sink
+abbrev pub EndsWithCounts : ℕ → ℕ → List Note → List Note → Type 0
+EndsWithCounts before after log log' = (notes : List Note) × (log' ≡ log ++ (notes ++ Count 3 before after ∷ []))
+
+-- what a status says of the sink, with its counts of faults before and after
+pub record TellsSink (status before after : ℕ) (taken taken' : Option (List ℕ)) (log log' : List Note) : Type 0 where
+  pub write_fault : status ≡ 5 → Rose before after
+  pub write_note : status ≡ 5 → EndsWithCounts before after log log'
+  -- the line of want of memory was written, unless the sink failed too
+  pub memory : status ≡ 9 → TakesPiece memory_text taken taken' ⊎ Rose before after
+  pub statuses : (status ≤ 5) ⊎ (status ≡ 9)
+  pub never_falls : before ≤ after

@@ -1,0 +1,30 @@
+-- What the words of a command line ask for.
+--     order DAY CODE..     the order of these codes on this day
+use Rattle.std.specs.Prelude.{ℕ, List, [], ◌∷◌, Option, None, Some, String, map, string_bytes, codes, if◌then◌else◌}
+use Rattle.std.specs.Option.{option_map, option_and_then}
+use Rattle.std.specs.List.{list_all}
+use Rattle.std.specs.declared.alloc.Global.{Global}
+use Rattle.pb_base.specs.Names.{same_name, is_code_name}
+use Rattle.book_text.specs.Fields.{is_number, value_of}
+use Rattle.partsbook.specs.declared.command.Command.{Command}
+use Rattle.partsbook.specs.declared.command.Command.TheVariants.{Order}
+
+-- the bytes of some words
+abbrev pub texts_of : List (String Global) → List (List ℕ)
+texts_of words = map string_bytes words
+
+-- a day is 1 to 5 digits
+abbrev pub day_in : List ℕ → Option ℕ
+day_in text = if is_number text then Some (value_of text) else None
+
+abbrev pub codes_in : List (List ℕ) → Option (List (List ℕ))
+codes_in texts = if list_all is_code_name texts then Some texts else None
+
+abbrev pub order_in : List (List ℕ) → Option Command
+order_in [] = None
+order_in (day ∷ names) = option_and_then (λ on. option_map (λ ordered. Order on ordered) (codes_in names)) (day_in day)
+
+-- the command that the words ask for, or none where they are of no form
+unfoldable pub command_in : List (List ℕ) → Option Command
+command_in [] = None
+command_in (name ∷ words) = if same_name name (codes "order") then order_in words else None

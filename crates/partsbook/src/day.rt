@@ -1,0 +1,42 @@
+//! Days in a command line.
+ghost use Rattle.std.specs.Prelude.{◌≡◌, ◌≤◌, length, true};
+ghost use Rattle.std.specs.List.{list_all};
+ghost use Rattle.book_text.specs.Fields.{is_digit, is_number, value_of};
+ghost use Rattle.partsbook.specs.Words.{day_in};
+
+use pb_base::Day;
+
+/// The day that 1 to 5 digits name, or None for any other text.
+pub fn day_in(text: &[u8]) -> Option<Day>
+    ensures { result ≡ day_in text.now }
+{
+    if is_number(text) {
+        Some(value_of(text))
+    } else {
+        None
+    }
+}
+
+fn is_number(text: &[u8]) -> bool
+    ensures { result ≡ is_number text.now }
+{
+    !text.is_empty() && text.len() <= 5 && are_digits(text)
+}
+
+fn are_digits(text: &[u8]) -> bool
+    ensures { result ≡ list_all is_digit text.now }
+{
+    text.iter().all(|b| b.is_ascii_digit())
+}
+
+// The value of 1 to 5 digits.
+fn value_of(text: &[u8]) -> u32
+    requires { is_number text.now ≡ true }
+    ensures { result ≡ value_of text.now }
+{
+    let mut value = 0;
+    for b in text {
+        value = 10 * value + u32::from(*b - b'0');
+    }
+    value
+}

@@ -1,0 +1,65 @@
+//! What a run's status rests on.
+ghost use Rattle.std.specs.Prelude.{◌≡◌, ◌++◌, [], ◌∷◌, OnOk, OnErr};
+
+use book_text::BookFault;
+use parts_usage::OrderFault;
+use pb_base::Memory;
+use std::alloc::Global;
+use std::marker::Model;
+
+/// One thing that a status rests on. Places count from 0.
+#[derive(Clone, Copy, Debug, PartialEq, Eq)]
+pub enum Note {
+    /// The text of the book has this fault.
+    Text(BookFault),
+    /// The order has this fault.
+    Order(OrderFault),
+    /// The constructibility rule at this place refuses the order.
+    Refused(u32),
+    /// The order selects so many variants of the position at this place, which may not be.
+    Unfit { position: u32, count: u32 },
+    /// The count of faults of an object that was handed in rose: 1 for the source, 3 for the sink.
+    Count { which: u8, before: u64, after: u64 },
+}
+
+/// The notes of one run, in the order in which they were made.
+#[derive(Drop)]
+pub struct RunLog {
+    notes: Vec<Note>,
+}
+
+impl Model for RunLog {
+    ghost use Rattle.std.specs.Prelude.{List};
+    ghost use Rattle.partsbook.specs.declared.log.Note.{Note};
+
+    ghost Value = { List Note };
+
+    ghost view = { λ l. l.notes.items };
+}
+
+impl RunLog {
+    /// The log without notes.
+    pub fn new(alloc: Global) -> RunLog
+        ensures { result ≡ [] }
+    {
+        RunLog {
+            notes: Vec::new(alloc),
+        }
+    }
+
+    /// Puts a note behind the others. On want of memory the log is as before.
+    pub fn push(&mut self, note: Note) -> Result<(), Memory>
+        ensures ok { OnOk result (self.new ≡ self.old ++ note ∷ []) }
+        ensures err { OnErr result (self.new ≡ self.old) }
+    {
+        self.notes.push(note)?;
+        Ok(())
+    }
+
+    /// The notes so far.
+    pub fn notes(&self) -> &[Note]
+        ensures { result.now ≡ self.now }
+    {
+        &self.notes
+    }
+}

@@ -1,0 +1,51 @@
+//! Reads the words of a command line.
+ghost use Rattle.std.specs.Prelude.{◌≡◌, IfOk};
+ghost use Rattle.partsbook.specs.Words.{texts_of, codes_in, order_in, command_in};
+
+use crate::command::Command;
+use crate::day::day_in;
+use pb_base::{CodeList, CodeName, Memory};
+use std::alloc::Global;
+
+/// The command that the words ask for, or None where they are of no form.
+#[tactic(auto, unfolding(crate::specs::Words::command_in))]
+pub fn command_in(alloc: Global, words: &[String]) -> Result<Option<Command>, Memory>
+    ensures { IfOk result (λ command. command ≡ command_in (texts_of words.now)) }
+{
+    let Some((name, rest)) = words.split_first() else {
+        return Ok(None);
+    };
+    if name.as_str() == "order" {
+        order_in(alloc, rest)
+    } else {
+        Ok(None)
+    }
+}
+
+fn order_in(alloc: Global, words: &[String]) -> Result<Option<Command>, Memory>
+    ensures { IfOk result (λ command. command ≡ order_in (texts_of words.now)) }
+{
+    let Some((day, names)) = words.split_first() else {
+        return Ok(None);
+    };
+    let Some(day) = day_in(day.as_bytes()) else {
+        return Ok(None);
+    };
+    match codes_in(alloc, names)? {
+        Some(codes) => Ok(Some(Command::Order { day, codes })),
+        None => Ok(None),
+    }
+}
+
+fn codes_in(alloc: Global, words: &[String]) -> Result<Option<CodeList>, Memory>
+    ensures { IfOk result (λ ordered. ordered ≡ codes_in (texts_of words.now)) }
+{
+    let mut codes = CodeList::new(alloc);
+    for word in words {
+        match CodeName::of(word.as_bytes()) {
+            Some(name) => codes.push(name)?,
+            None => return Ok(None),
+        }
+    }
+    Ok(Some(codes))
+}

@@ -1,0 +1,9 @@
+pub mod Faults
+pub mod Source
+pub mod Sink
+pub mod Files
+pub mod FaultPlan
+pub mod MemorySource
+pub mod MemorySink
+pub mod MemoryFiles
+pub mod NamedFile

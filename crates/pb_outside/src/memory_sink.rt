@@ -1,0 +1,87 @@
+//! A sink in memory.
+ghost use Rattle.std.specs.Prelude.{◌≡◌, ◌≢◌, ◌≤◌, ◌↔◌, [], IsTrue, Some, IfOk, OnOk, OnErr};
+ghost use Rattle.pb_outside.specs.Faults.{Rose};
+ghost use Rattle.pb_outside.specs.MemorySink.{refuses, after_write, after_refusal};
+ghost use Rattle.pb_outside.specs.Sink.{TakesPiece, TakesFront};
+
+use crate::{FaultPlan, OutError, Sink};
+use pb_base::Memory;
+use std::alloc::Global;
+use std::marker::Model;
+
+/// Bytes kept in memory, with room for so many and with chosen calls that fail. It tells all.
+#[derive(Drop)]
+pub struct MemorySink {
+    taken: Vec<u8>,
+    room: usize,
+    plan: FaultPlan,
+}
+
+impl Model for MemorySink {
+    ghost use Rattle.std.specs.Prelude.{◌+◌, ◌≤◌, vec_len, vec_capacity};
+    ghost use Rattle.pb_outside.specs.MemorySink.{Writes};
+
+    ghost Value = { Writes };
+
+    ghost view = { λ s. record { taken = s.taken.items; room = s.room; plan = s.plan } };
+
+    ghost invariant = { λ s. vec_len s.taken + s.room ≤ vec_capacity s.taken };
+}
+
+impl MemorySink {
+    /// Makes the room for `room` bytes at once, so that no write takes memory. A call fails, and takes nothing, exactly where its number is among `fails` or its piece is longer than the room that is left.
+    pub fn new(alloc: Global, room: usize, fails: Vec<u64>) -> Result<MemorySink, Memory>
+        ensures taken { IfOk result (λ sink. sink.taken ≡ []) }
+        ensures room { IfOk result (λ sink. sink.room ≡ room) }
+        ensures plan { IfOk result (λ sink. sink.plan ≡ record { fails = fails.items; next_call = 0; faults = 0 }) }
+    {
+        Ok(MemorySink {
+            taken: Vec::with_capacity(alloc, room)?,
+            room,
+            plan: FaultPlan::new(fails),
+        })
+    }
+
+    /// What was taken so far.
+    pub fn taken(&self) -> &[u8]
+        ensures { result.now ≡ self.now.taken }
+    {
+        &self.taken
+    }
+}
+
+impl Sink for MemorySink {
+    ghost taken = { λ s. Some s.taken };
+
+    ghost write_fault_count = { λ s. s.plan.faults };
+
+    fn write(&mut self, piece: &[u8]) -> Result<(), OutError>
+        ensures whole { OnOk result (TakesPiece piece.now (Some self.old.taken) (Some self.new.taken)) }
+        ensures front { OnErr result (TakesFront piece.now (Some self.old.taken) (Some self.new.taken)) }
+        ensures no_memory { result ≢ Err OutError.Memory }
+        ensures cause { result ≡ Err OutError.Failed → Rose self.old.plan.faults self.new.plan.faults }
+        ensures never_falls { self.old.plan.faults ≤ self.new.plan.faults }
+
+        // Exactly the calls that are to fail, and pieces longer than the room, are refused.
+        ensures fails { (result ≡ Err OutError.Failed) ↔ IsTrue (refuses self.old piece.now) }
+        ensures written { OnOk result (self.new ≡ after_write self.old piece.now) }
+        ensures refused { OnErr result (self.new ≡ after_refusal self.old) }
+    {
+        if self.plan.begin_call() {
+            return Err(OutError::Failed);
+        }
+        if piece.len() > self.room {
+            self.plan.count_fault();
+            return Err(OutError::Failed);
+        }
+        if self.taken.extend_from_slice(piece).is_err() {
+            unreachable!();
+        }
+        self.room -= piece.len();
+        Ok(())
+    }
+
+    fn write_faults(&self) -> u64 {
+        self.plan.faults()
+    }
+}
