@@ -1,0 +1,228 @@
+-- The clauses of the formulas of a slice hold just where the variables are the truth of what they stand for and each
+-- demand is met, and all demands are met just by the good sets.
+use Rattle.std.proofs.Common.{inl, inr, append_assoc, ◌≡◌, ℕ, ◌+◌, ◌<◌, Bool, true, false, not, ◌&&◌, ◌||◌, eqb, ltb, List, [], ◌∷◌, ◌++◌, Option, None, Some, length, map, refl, sym, ap, subst, ◌∙◌, arith, length-append}
+use Rattle.std.specs.List.{list_any, filter, All, AllByRecursion}
+use Rattle.std.specs.Option.{IfSome}
+use Rattle.std.proofs.lemmas.List.Elements.{recursion_from_All}
+use Rattle.std.proofs.lemmas.Bool.{and_parts, and_from, and_left, or_from, or_parts, cases_Bool, cond-true, cond-false, ltb-true, lt-ltb, eq-eqb, eqb-true, not_from_false, not-true}
+use Rattle.pb_base.specs.Rule.{Rule, holds, codes_below}
+use Rattle.pb_base.specs.Sets.{has}
+use Rattle.book_model.specs.Activity.{is_within}
+use Rattle.book_model.specs.Contents.{Contents}
+use Rattle.book_model.specs.Good.{breaks, applies, is_good}
+use Rattle.book_model.specs.Book.{SupplementFits, ConstructFits}
+use Rattle.book_model.specs.declared.record.Supplement.{Supplement}
+use Rattle.book_model.specs.declared.record.Construct.{Construct}
+use Rattle.clause_pool.specs.Literal.{literal, complement, is_true}
+use Rattle.clause_pool.specs.Clause.{Sat}
+use Rattle.clause_pool.proofs.LiteralLaws.{is_true-complement}
+use Rattle.clausify.specs.Formulas.{connectives, literal_of, formula_clauses}
+use Rattle.clausify.specs.Items.{Demand, adds, needed_by, needed, free, Item, demand_clauses, variables_of, item_clauses, demand_on, supplement_item, construct_item, rule_items}
+use Rattle.clausify.proofs.Truth.{all-append, all_first, all_last, true_positive, true_negative, one_true, two_true}
+use Rattle.clausify.proofs.FormulaLaws.{named_in, Names, Begins, length-named_in, names-append, names_first, names_last, denotes, sat_from_names, names_from_sat}
+
+-- the demand is met where the formula has this truth
+abbrev pub meets_demand : List Bool → Demand → Bool → Bool
+meets_demand x (adds code) t = not t || has x code
+meets_demand x (needed_by code) t = not (has x code) || t
+meets_demand x needed t = t
+meets_demand x free t = true
+
+abbrev pub meets : List Bool → Item → Bool
+meets x i = meets_demand x i.demand (holds i.rule x)
+
+abbrev pub demand_fits : ℕ → Demand → Bool
+demand_fits n (adds code) = ltb code n
+demand_fits n (needed_by code) = ltb code n
+demand_fits n needed = true
+demand_fits n free = true
+
+abbrev pub item_fits : ℕ → Item → Bool
+item_fits n i = codes_below n i.rule && demand_fits n i.demand
+
+or_nothing : (p : Bool) → (p || false) ≡ p
+or_nothing true = refl
+or_nothing false = refl
+
+or_rest : (p q : Bool) → (p || (q || false)) ≡ (p || q)
+or_rest p q = ap (λ (b : Bool). p || b) (or_nothing q)
+
+-- the clause of a demand holds just where the demand is met
+pub sat_from_demand : (n : ℕ) (x : List Bool) (a : ℕ → Bool) → Begins n x a → (d : Demand) (l : ℕ) (t : Bool) → demand_fits n d ≡ true → is_true a l ≡ t → meets_demand x d t ≡ true → Sat (demand_clauses d l) a
+sat_from_demand n x a b (adds code) l t fit h m =
+    (two_true a (complement l) (literal code true) (not t) (has x code) (is_true-complement a l ∙ ap not h) (true_positive a code ∙ b.codes code (ltb-true code n fit)) ∙ or_rest (not t) (has x code) ∙ m, tt)
+sat_from_demand n x a b (needed_by code) l t fit h m =
+    (two_true a (literal code false) l (not (has x code)) t (true_negative a code ∙ ap not (b.codes code (ltb-true code n fit))) h ∙ or_rest (not (has x code)) t ∙ m, tt)
+sat_from_demand n x a b needed l t fit h m = (one_true a l ∙ or_nothing (is_true a l) ∙ h ∙ m, tt)
+sat_from_demand n x a b free l t fit h m = tt
+
+pub demand_from_sat : (n : ℕ) (x : List Bool) (a : ℕ → Bool) → Begins n x a → (d : Demand) (l : ℕ) (t : Bool) → demand_fits n d ≡ true → is_true a l ≡ t → Sat (demand_clauses d l) a → meets_demand x d t ≡ true
+demand_from_sat n x a b (adds code) l t fit h s =
+    sym (two_true a (complement l) (literal code true) (not t) (has x code) (is_true-complement a l ∙ ap not h) (true_positive a code ∙ b.codes code (ltb-true code n fit)) ∙ or_rest (not t) (has x code)) ∙ s.0
+demand_from_sat n x a b (needed_by code) l t fit h s =
+    sym (two_true a (literal code false) l (not (has x code)) t (true_negative a code ∙ ap not (b.codes code (ltb-true code n fit))) h ∙ or_rest (not (has x code)) t) ∙ s.0
+demand_from_sat n x a b needed l t fit h s = sym (one_true a l ∙ or_nothing (is_true a l) ∙ h) ∙ s.0
+demand_from_sat n x a b free l t fit h s = refl
+
+-- what the variables of the items stand for
+abbrev pub items_named : List Item → List Rule
+items_named [] = []
+items_named (i ∷ is) = named_in i.rule ++ items_named is
+
+abbrev pub AllFit : ℕ → List Item → Type 0
+AllFit n is = AllByRecursion (λ i. item_fits n i ≡ true) is
+
+abbrev pub AllMeet : List Bool → List Item → Type 0
+AllMeet x is = AllByRecursion (λ i. meets x i ≡ true) is
+
+pub length-items_named : (is : List Item) → length (items_named is) ≡ variables_of is
+length-items_named [] = refl
+length-items_named (i ∷ is) = length-append (named_in i.rule) (items_named is) ∙ omega (arith, length-named_in i.rule, length-items_named is)
+
+pub items_named-append : (is js : List Item) → items_named (is ++ js) ≡ items_named is ++ items_named js
+items_named-append [] js = refl
+items_named-append (i ∷ is) js = ap (λ (fs : List Rule). named_in i.rule ++ fs) (items_named-append is js) ∙ sym (append_assoc (named_in i.rule) (items_named is) (items_named js))
+
+pub variables_of-append : (is js : List Item) → variables_of (is ++ js) ≡ variables_of is + variables_of js
+variables_of-append [] js = omega arith
+variables_of-append (i ∷ is) js = omega (arith, variables_of-append is js)
+
+pub item_clauses-append : (n v : ℕ) (is js : List Item) → item_clauses n v (is ++ js) ≡ item_clauses n v is ++ item_clauses n (v + variables_of is) js
+item_clauses-append n v [] js = ap (λ (w : ℕ). item_clauses n w js) (let e : v ≡ v + 0 = omega arith in e)
+item_clauses-append n v (i ∷ is) js =
+    ap (λ (cs : List (List ℕ)). formula_clauses n v i.rule ++ demand_clauses i.demand (literal_of n v i.rule) ++ cs) (item_clauses-append n (v + connectives i.rule) is js)
+    ∙ sym (append_assoc (formula_clauses n v i.rule ++ demand_clauses i.demand (literal_of n v i.rule)) (item_clauses n (v + connectives i.rule) is) _)
+    ∙ ap (λ (w : ℕ). item_clauses n v (i ∷ is) ++ item_clauses n w js) (let e : v + connectives i.rule + variables_of is ≡ v + variables_of (i ∷ is) = omega arith in e)
+
+first_names : (a : ℕ → Bool) (x : List Bool) (v : ℕ) (i : Item) (is : List Item) → Names a x v (items_named (i ∷ is)) → Names a x v (named_in i.rule)
+first_names a x v i is h = names_first a x v (named_in i.rule) (items_named is) h
+
+later_names : (a : ℕ → Bool) (x : List Bool) (v : ℕ) (i : Item) (is : List Item) → Names a x v (items_named (i ∷ is)) → Names a x (v + connectives i.rule) (items_named is)
+later_names a x v i is h = subst (λ (k : ℕ). Names a x (v + k) (items_named is)) (length-named_in i.rule) (names_last a x v (named_in i.rule) (items_named is) h)
+
+pub sat_from_items : (n : ℕ) (x : List Bool) (a : ℕ → Bool) → Begins n x a → (v : ℕ) (is : List Item) → AllFit n is → Names a x v (items_named is) → AllMeet x is → Sat (item_clauses n v is) a
+sat_from_items n x a b v [] fit names met = tt
+sat_from_items n x a b v (i ∷ is) fit names met =
+    let fits = and_parts (codes_below n i.rule) (demand_fits n i.demand) fit.0 in
+    let here = first_names a x v i is names in
+    all-append _ (formula_clauses n v i.rule ++ demand_clauses i.demand (literal_of n v i.rule)) _
+    (all-append _ (formula_clauses n v i.rule) _ (sat_from_names n x a b v i.rule fits.0 here)
+    (sat_from_demand n x a b i.demand (literal_of n v i.rule) (holds i.rule x) fits.1 (denotes n x a b v i.rule fits.0 here) met.0))
+    (sat_from_items n x a b (v + connectives i.rule) is fit.1 (later_names a x v i is names) met.1)
+
+pub names_from_items : (n : ℕ) (x : List Bool) (a : ℕ → Bool) → Begins n x a → (v : ℕ) (is : List Item) → AllFit n is → Sat (item_clauses n v is) a → Names a x v (items_named is)
+names_from_items n x a b v [] fit h = tt
+names_from_items n x a b v (i ∷ is) fit h =
+    let fits = and_parts (codes_below n i.rule) (demand_fits n i.demand) fit.0 in
+    let own = all_first _ (formula_clauses n v i.rule ++ demand_clauses i.demand (literal_of n v i.rule)) _ h in
+    let rest = all_last _ (formula_clauses n v i.rule ++ demand_clauses i.demand (literal_of n v i.rule)) _ h in
+    names-append a x v (named_in i.rule) (items_named is)
+    (names_from_sat n x a b v i.rule fits.0 (all_first _ (formula_clauses n v i.rule) _ own))
+    (subst (λ (k : ℕ). Names a x (v + k) (items_named is)) (sym (length-named_in i.rule)) (names_from_items n x a b (v + connectives i.rule) is fit.1 rest))
+
+pub meets_from_items : (n : ℕ) (x : List Bool) (a : ℕ → Bool) → Begins n x a → (v : ℕ) (is : List Item) → AllFit n is → Sat (item_clauses n v is) a → AllMeet x is
+meets_from_items n x a b v [] fit h = tt
+meets_from_items n x a b v (i ∷ is) fit h =
+    let fits = and_parts (codes_below n i.rule) (demand_fits n i.demand) fit.0 in
+    let own = all_first _ (formula_clauses n v i.rule ++ demand_clauses i.demand (literal_of n v i.rule)) _ h in
+    let rest = all_last _ (formula_clauses n v i.rule ++ demand_clauses i.demand (literal_of n v i.rule)) _ h in
+    let names = names_from_sat n x a b v i.rule fits.0 (all_first _ (formula_clauses n v i.rule) _ own) in (
+      demand_from_sat n x a b i.demand (literal_of n v i.rule) (holds i.rule x) fits.1 (denotes n x a b v i.rule fits.0 names) (all_last _ (formula_clauses n v i.rule) _ own),
+      meets_from_items n x a b (v + connectives i.rule) is fit.1 rest,
+    )
+
+not_fired : (w p q : Bool) → (not p || q) ≡ true → (w && p && not q) ≡ false
+not_fired true true true h = refl
+not_fired true true false h = sym h
+not_fired true false q h = refl
+not_fired false p q h = refl
+
+met_where_not_fired : (w p q : Bool) → w ≡ true → (w && p && not q) ≡ false → (not p || q) ≡ true
+met_where_not_fired w true true e h = refl
+met_where_not_fired w true false e h = sym h ∙ ap (λ (b : Bool). b && true && true) e
+met_where_not_fired w false q e h = refl
+
+-- active records of one kind, of which each says that p implies q: none is against the set just where all demands are met
+module _ {X : Type 0} where
+  pub none_from_meets : (x : List Bool) (w p q : X → Bool) (f : X → Item) → ((s : X) → meets x (f s) ≡ (not (p s) || q s)) → (ss : List X) → AllMeet x (map f (filter w ss)) → list_any (λ s. w s && p s && not (q s)) ss ≡ false
+  none_from_meets x w p q f same [] h = refl
+  none_from_meets x w p q f same (s ∷ ss) h =
+      elim (cases_Bool (w s)) [
+        | inl e ↦
+            let both = subst (λ (k : List X). AllMeet x (map f k)) (cond-true (w s) (s ∷ filter w ss) (filter w ss) e) h in
+            or_from _ _ (not_fired (w s) (p s) (q s) (sym (same s) ∙ both.0)) (none_from_meets x w p q f same ss both.1)
+        | inr e ↦
+            let rest = subst (λ (k : List X). AllMeet x (map f k)) (cond-false (w s) (s ∷ filter w ss) (filter w ss) e) h in
+            or_from _ _ (and_left _ _ (and_left (w s) (p s) e)) (none_from_meets x w p q f same ss rest)
+      ]
+
+  pub meets_from_none : (x : List Bool) (w p q : X → Bool) (f : X → Item) → ((s : X) → meets x (f s) ≡ (not (p s) || q s)) → (ss : List X) → list_any (λ s. w s && p s && not (q s)) ss ≡ false → AllMeet x (map f (filter w ss))
+  meets_from_none x w p q f same [] h = tt
+  meets_from_none x w p q f same (s ∷ ss) h =
+      let parts = or_parts (w s && p s && not (q s)) (list_any (λ s. w s && p s && not (q s)) ss) h in
+      elim (cases_Bool (w s)) [
+        | inl e ↦
+            subst (λ (k : List X). AllMeet x (map f k)) (sym (cond-true (w s) (s ∷ filter w ss) (filter w ss) e))
+            (same s ∙ met_where_not_fired (w s) (p s) (q s) e parts.0, meets_from_none x w p q f same ss parts.1)
+        | inr e ↦
+            subst (λ (k : List X). AllMeet x (map f k)) (sym (cond-false (w s) (s ∷ filter w ss) (filter w ss) e))
+            (meets_from_none x w p q f same ss parts.1)
+      ]
+
+  -- what holds of all records holds of the items of the active ones
+  pub fit_filtered : (n : ℕ) (w : X → Bool) (Fits : X → Type 0) (f : X → Item) → ((s : X) → Fits s → item_fits n (f s) ≡ true) → (ss : List X) → AllByRecursion Fits ss → AllFit n (map f (filter w ss))
+  fit_filtered n w Fits f gives [] h = tt
+  fit_filtered n w Fits f gives (s ∷ ss) h =
+      elim (cases_Bool (w s)) [
+        | inl e ↦
+            subst (λ (k : List X). AllFit n (map f k)) (sym (cond-true (w s) (s ∷ filter w ss) (filter w ss) e))
+            (gives s h.0, fit_filtered n w Fits f gives ss h.1)
+        | inr e ↦
+            subst (λ (k : List X). AllFit n (map f k)) (sym (cond-false (w s) (s ∷ filter w ss) (filter w ss) e))
+            (fit_filtered n w Fits f gives ss h.1)
+      ]
+
+meets-construct : (x : List Bool) (o : Option ℕ) (t : Bool) → meets_demand x (demand_on o) t ≡ (not (applies o x) || t)
+meets-construct x None t = refl
+meets-construct x (Some code) t = refl
+
+-- all demands are met just by the good sets
+pub good_from_meets : (b : Contents) (day : ℕ) (x : List Bool) → length x ≡ length b.codes → AllMeet x (rule_items b day) → is_good b day x ≡ true
+good_from_meets b day x len h =
+    let first = all_first _ (map supplement_item (filter (λ s. is_within s.from s.until day) b.supplements)) _ h in
+    let last = all_last _ (map supplement_item (filter (λ s. is_within s.from s.until day) b.supplements)) _ h in
+    and_from _ _
+    (and_from _ _
+    (not_from_false _ (none_from_meets x (λ (s : Supplement). is_within s.from s.until day) (λ s. holds s.rule x) (λ s. has x s.code) supplement_item (λ s. refl) b.supplements first))
+    (not_from_false _ (none_from_meets x (λ (c : Construct). is_within c.from c.until day) (λ c. applies c.on x) (λ c. holds c.rule x) construct_item (λ c. meets-construct x c.on (holds c.rule x)) b.constructs last)))
+    (eq-eqb _ _ len)
+
+pub meets_from_good : (b : Contents) (day : ℕ) (x : List Bool) → is_good b day x ≡ true → AllMeet x (rule_items b day)
+meets_from_good b day x h =
+    let rules = and_parts _ (eqb (length x) (length b.codes)) h in
+    let kinds = and_parts _ (not (list_any (breaks day x) b.constructs)) rules.0 in
+    all-append _ (map supplement_item (filter (λ s. is_within s.from s.until day) b.supplements)) _
+    (meets_from_none x (λ (s : Supplement). is_within s.from s.until day) (λ s. holds s.rule x) (λ s. has x s.code) supplement_item (λ s. refl) b.supplements (not-true _ kinds.0))
+    (meets_from_none x (λ (c : Construct). is_within c.from c.until day) (λ c. applies c.on x) (λ c. holds c.rule x) construct_item (λ c. meets-construct x c.on (holds c.rule x)) b.constructs (not-true _ kinds.1))
+
+pub length_from_good : (b : Contents) (day : ℕ) (x : List Bool) → is_good b day x ≡ true → length x ≡ length b.codes
+length_from_good b day x h = eqb-true _ _ (and_parts _ (eqb (length x) (length b.codes)) h).1
+
+supplement_item_fits : (n : ℕ) (s : Supplement) → SupplementFits n s → item_fits n (supplement_item s) ≡ true
+supplement_item_fits n s h = and_from _ _ (h.rule.in_range) (lt-ltb s.code n h.code)
+
+demand_on_fits : (n : ℕ) (o : Option ℕ) → IfSome o (λ code. code < n) → demand_fits n (demand_on o) ≡ true
+demand_on_fits n None h = refl
+demand_on_fits n (Some code) h = lt-ltb code n h
+
+construct_item_fits : (n : ℕ) (c : Construct) → ConstructFits n c → item_fits n (construct_item c) ≡ true
+construct_item_fits n c h = and_from _ _ (h.rule.in_range) (demand_on_fits n c.on h.on)
+
+pub rule_items_fit : (b : Contents) (day : ℕ) → All (SupplementFits (length b.codes)) b.supplements → All (ConstructFits (length b.codes)) b.constructs → AllFit (length b.codes) (rule_items b day)
+rule_items_fit b day hs hc =
+    all-append _ (map supplement_item (filter (λ s. is_within s.from s.until day) b.supplements)) _
+    (fit_filtered (length b.codes) (λ (s : Supplement). is_within s.from s.until day) (SupplementFits (length b.codes)) supplement_item (supplement_item_fits (length b.codes)) b.supplements (recursion_from_All (SupplementFits (length b.codes)) b.supplements hs))
+    (fit_filtered (length b.codes) (λ (c : Construct). is_within c.from c.until day) (ConstructFits (length b.codes)) construct_item (construct_item_fits (length b.codes)) b.constructs (recursion_from_All (ConstructFits (length b.codes)) b.constructs hc))
+
+pub variables_more : (is js : List Item) → variables_of (is ++ js) ≡ variables_of is + variables_of js
+variables_more is js = variables_of-append is js

@@ -1,0 +1,12 @@
+pub mod Truth
+pub mod FormulaLaws
+pub mod ItemLaws
+pub mod GoalLaws
+pub mod SliceLaws
+pub mod Remaining
+pub mod Bounds
+pub mod CountLaws
+pub mod SteadyLaws
+pub mod CodedLaws
+pub mod QuestionLaws
+mod SmallBook

@@ -1,0 +1,15 @@
+use Rattle.std.proofs.Common.{map, ap, ◌∙◌}
+use Rattle.clausify.specs.declared.question.Asked.{Asked}
+use Rattle.clausify.specs.declared.question.Question.{Question}
+use Rattle.clausify.proofs.QuestionLaws.{asked_in_order}
+use Rattle.clausify.proofs.SteadyLaws.{codes_slice}
+use Rattle.clausify.proofs.coding.clauses_of.Goals as goal
+
+pub returns-clause-questions : goal.returns-clause-questions
+returns-clause-questions c =
+    let question_of : Asked → Question = λ q. q.question in
+    ap (map question_of) c.in_ok-coded.ensures.coded.asked ∙ asked_in_order c.args.book.now c.args.slice.first
+
+pub returns-clause-sets : goal.returns-clause-sets
+returns-clause-sets c =
+    codes_slice c.args.book.now c.args.slice c.in_ok-coded.field-0 c.in_ok-coded.ensures.book c.in_ok-coded.ensures.coded

@@ -1,0 +1,38 @@
+-- The clauses of a slice, the number of their variables, and the literals of its goals. Variable i below n is code i, and
+-- variable n is always true. All records are taken as they are active on one day.
+use Rattle.std.specs.Prelude.{◌≡◌, ℕ, ◌+◌, true, List, [], ◌∷◌, ◌++◌, length}
+use Rattle.book_model.specs.Contents.{Contents}
+use Rattle.clause_pool.specs.Literal.{literal}
+use Rattle.clause_pool.specs.Clause.{clause_of}
+use Rattle.clausify.specs.Choices.{choices}
+use Rattle.clausify.specs.Items.{rule_items, items, item_clauses, variables_of}
+use Rattle.clausify.specs.Goals.{choices_clauses, choices_variables, choices_asked, codes_asked_from, void_asked}
+use Rattle.clausify.specs.declared.question.Asked.{Asked}
+use Rattle.clausify.specs.declared.question.Coded.{Coded}
+
+-- the first variable of the usages
+abbrev pub usages_start : Contents → ℕ → ℕ
+usages_start b day = length b.codes + 1 + variables_of (rule_items b day)
+
+-- the first variable of the goals
+abbrev pub goals_start : Contents → ℕ → ℕ
+goals_start b day = length b.codes + 1 + variables_of (items b day)
+
+abbrev pub slice_clauses : Contents → ℕ → List (List ℕ)
+slice_clauses b day =
+    clause_of (literal (length b.codes) true ∷ [])
+    ∷ (item_clauses (length b.codes) (length b.codes + 1) (items b day)
+    ++ choices_clauses b (length b.codes) (usages_start b day) (goals_start b day) (choices b day))
+
+abbrev pub slice_variables : Contents → ℕ → ℕ
+slice_variables b day = goals_start b day + choices_variables b (length b.codes) (usages_start b day) (choices b day)
+
+abbrev pub slice_asked : Contents → ℕ → List Asked
+slice_asked b day =
+    void_asked (length b.codes)
+    ∷ (codes_asked_from 0 b.codes ++ choices_asked b (length b.codes) (usages_start b day) (goals_start b day) (choices b day))
+
+pub record IsCoded (b : Contents) (day : ℕ) (c : Coded) : Type 0 where
+  pub clauses : c.pool.clauses ≡ slice_clauses b day
+  pub variables : c.vars ≡ slice_variables b day
+  pub asked : c.questions.items ≡ slice_asked b day

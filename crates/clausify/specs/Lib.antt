@@ -1,0 +1,9 @@
+pub mod Formulas
+pub mod Items
+pub mod Choices
+pub mod Questions
+pub mod Goals
+pub mod Coded
+pub mod Lifting
+pub mod Making
+pub mod Limit

@@ -1,0 +1,92 @@
+//! The choices of a day: the active positions, each with its active variants.
+ghost use Rattle.std.specs.Prelude.{◌≡◌, ◌+◌, ◌^◌, ◌<◌, ◌≤◌, ◌++◌, IfOk, OnOk, map, length};
+ghost use Rattle.clausify.specs.Items.{item_clauses, variables_of, usage_item, usage_items};
+ghost use Rattle.clausify.specs.Choices.{active_variants, is_active_variant, choices, usage};
+ghost use Rattle.clausify.specs.Goals.{usages_from, all_usages};
+ghost use Rattle.clausify.specs.Making.{Makes};
+
+use crate::maker::Maker;
+use crate::usage::Usage;
+use book_model::{Book, active};
+use pb_base::{Day, Formula, Memory};
+use std::alloc::Global;
+
+/// Whether the variant at this place is active.
+fn is_active(book: &Book, day: Day, variant: u32) -> bool
+    requires { variant < length book.now.variants }
+    ensures { result ≡ is_active_variant book.now day variant }
+{
+    let variant = &book.variants()[variant as usize];
+    active(variant.from, variant.until, day)
+}
+
+/// The formula of the variant at this place.
+fn usage(book: &Book, variant: u32) -> &Formula
+    requires { variant < length book.now.variants }
+    ensures { result.now ≡ usage book.now variant }
+{
+    &book.variants()[variant as usize].rule
+}
+
+/// How many variants of the position are active.
+pub(crate) fn active_count(book: &Book, day: Day, position: u32) -> usize
+    requires { position < length book.now.positions }
+    ensures count { result ≡ length (active_variants book.now day position) }
+    ensures limit { result ≤ 200 }
+{
+    let mut count = 0;
+    for variant in book.variants_of(position) {
+        if is_active(book, day, *variant) {
+            count += 1;
+        }
+    }
+    count
+}
+
+/// The usages of the position's active variants, added at the end.
+pub(crate) fn add_usages(
+    maker: &mut Maker,
+    usages: &mut Vec<Usage>,
+    book: &Book,
+    day: Day,
+    position: u32,
+) -> Result<(), Memory>
+    requires within { position < length book.now.positions }
+    requires room { maker.old.next + variables_of (map (usage_item book.now) (active_variants book.now day position)) < 2 ^ 32 }
+    ensures made { let items = map (usage_item book.now) (active_variants book.now day position) in
+        OnOk result (Makes maker.old maker.new (item_clauses maker.old.truth maker.old.next items) (variables_of items)) }
+    ensures usages { OnOk result (usages.new.items ≡ usages.old.items
+        ++ usages_from book.now maker.old.truth maker.old.next (active_variants book.now day position)) }
+{
+    for variant in book.variants_of(position) {
+        if is_active(book, day, *variant) {
+            let literal = maker.literal(usage(book, *variant))?;
+            usages.push(Usage {
+                variant: *variant,
+                literal,
+            })?;
+        }
+    }
+    Ok(())
+}
+
+/// The usages of all choices, in order.
+pub(crate) fn usages_of(
+    alloc: Global,
+    maker: &mut Maker,
+    book: &Book,
+    day: Day,
+) -> Result<Vec<Usage>, Memory>
+    requires { maker.old.next + variables_of (usage_items book.now (choices book.now day)) < 2 ^ 32 }
+    ensures made { let items = usage_items book.now (choices book.now day) in
+        OnOk result (Makes maker.old maker.new (item_clauses maker.old.truth maker.old.next items) (variables_of items)) }
+    ensures usages { IfOk result (λ us. us.items ≡ all_usages book.now maker.old.truth maker.old.next (choices book.now day)) }
+{
+    let mut usages = Vec::new(alloc);
+    for (place, position) in book.positions().iter().enumerate() {
+        if active(position.from, position.until, day) {
+            add_usages(maker, &mut usages, book, day, place as u32)?;
+        }
+    }
+    Ok(usages)
+}

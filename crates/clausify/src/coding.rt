@@ -1,0 +1,58 @@
+//! The clauses of a slice.
+ghost use Rattle.std.specs.Prelude.{◌≡◌, IfOk, map};
+ghost use Rattle.book_model.specs.Book.{IsBook};
+ghost use Rattle.book_model.specs.Slices.{IsSteady};
+ghost use Rattle.clausify.specs.Questions.{questions};
+ghost use Rattle.clausify.specs.Coded.{IsCoded};
+ghost use Rattle.clausify.specs.Limit.{CodesWithin};
+ghost use Rattle.clausify.specs.Lifting.{CodesSlice};
+
+use crate::choices::usages_of;
+use crate::counting::question_count;
+use crate::goals::{ask_choices, ask_codes};
+use crate::items::add_rules;
+use crate::maker::Maker;
+use crate::question::{Asked, Coded, Question};
+use book_model::{Book, Slice};
+use clause_pool::Lit;
+use pb_base::{Day, Fail, Memory};
+use std::alloc::Global;
+
+/// The most questions that may be asked of a slice.
+const MOST_QUESTIONS: u64 = 200_000;
+
+/// The clauses of the records that are active on a day.
+fn coded(alloc: Global, book: &Book, day: Day) -> Result<Coded, Memory>
+    ensures coded { IfOk result (λ c. IsCoded book.now day c) }
+    ensures book { IsBook book.now }
+{
+    let codes = book.codes();
+    let mut maker = Maker::new(alloc, codes.len())?;
+    add_rules(&mut maker, book, day)?;
+    let usages = usages_of(alloc, &mut maker, book, day)?;
+    let mut questions = Vec::new(alloc);
+    questions.push(Asked {
+        question: Question::Void,
+        goal: Lit::new(maker.truth, true),
+    })?;
+    ask_codes(&mut questions, codes)?;
+    ask_choices(&mut maker, &mut questions, book, day, &usages)?;
+    Ok(Coded {
+        pool: maker.pool,
+        vars: maker.next,
+        questions,
+    })
+}
+
+/// The clauses of a slice of the book, with its questions. They are refused, with the number of questions, where there are more than 200,000.
+pub fn clauses_of(alloc: Global, book: &Book, slice: Slice) -> Result<Coded, Fail<u64>>
+    ensures coded { CodesWithin book.now slice.first result }
+    ensures questions { IfOk result (λ c. map (λ q. q.question) c.questions.items ≡ questions book.now slice.first) }
+    ensures sets { IfOk result (λ c. IsSteady book.now slice → CodesSlice book.now slice c) }
+{
+    let count = question_count(book, slice);
+    if count > MOST_QUESTIONS {
+        return Err(Fail::Refused(count));
+    }
+    Ok(coded(alloc, book, slice.first)?)
+}

@@ -1,0 +1,18 @@
+//! The clauses of a slice of a book: satisfied by just the assignments that begin with a good set, each in one way.
+#![tactic(auto)]
+
+mod choices;
+mod coding;
+mod counting;
+mod goals;
+mod items;
+mod maker;
+mod question;
+mod usage;
+
+pub use coding::clauses_of;
+pub use counting::question_count;
+pub use question::{Asked, Coded, Question};
+
+#[cfg(test)]
+mod tests;
