@@ -1,5 +1,8 @@
 //! The answers of `run` to orders against small books, as a person would check them by hand.
 
+mod checks;
+mod unplaced;
+
 use crate::log::{Note, RunLog};
 use crate::run::run;
 use parts_usage::OrderFault;
