@@ -1,10 +1,9 @@
 -- The definition of completing at small books.
-use Rattle.std.proofs.Common.{◌≡◌, ℕ, Bool, true, false, List, [], ◌∷◌, Some, None, refl}
+use Rattle.std.proofs.Common.{◌≡◌, ℕ, Bool, true, false, List, [], ◌∷◌, refl}
 use Rattle.pb_base.specs.Rule.{Rule, code, negation, both, always}
 use Rattle.book_model.specs.Contents.{Contents}
 use Rattle.book_model.specs.declared.record.Supplement.{Supplement}
 use Rattle.supplement.specs.declared.completed.Added.{Added}
-use Rattle.supplement.specs.declared.completed.Completed.{Completed}
 use Rattle.supplement.specs.Completion.{completion_by, completion_of}
 
 -- a rule of the ten days of the term

@@ -1,5 +1,5 @@
 -- What holds of every completion.
-use Rattle.std.proofs.Common.{◌≡◌, ℕ, zero, suc, ◌+◌, ◌<◌, ◌≤◌, Bool, true, false, not, cond, List, [], ◌∷◌, length, get_or, set, Option, Some, None, refl, sym, ap, subst, ◌∙◌, ◌⊎◌, inl, inr, arith, All, IsTrue}
+use Rattle.std.proofs.Common.{◌≡◌, ℕ, zero, suc, ◌<◌, ◌≤◌, Bool, true, false, not, cond, List, [], ◌∷◌, length, get_or, set, Option, Some, None, refl, sym, ap, subst, ◌∙◌, ◌⊎◌, inl, inr, arith, All}
 use Rattle.std.specs.Prelude.{count_by}
 use Rattle.std.specs.Option.{option_map_or}
 use Rattle.std.specs.List.{list_any}
@@ -13,7 +13,6 @@ use Rattle.book_model.specs.Book.{SupplementFits}
 use Rattle.book_model.specs.Contents.{Contents}
 use Rattle.book_model.specs.Good.{fires, is_closed}
 use Rattle.book_model.specs.declared.record.Supplement.{Supplement}
-use Rattle.supplement.specs.declared.completed.Completed.{Completed}
 use Rattle.supplement.specs.declared.firing.Firing.{Firing}
 use Rattle.supplement.specs.Completion.{Includes, first_firing, with_code_of, nothing_added, added_first, completion_within, completion_by, completion_of}
 use Rattle.supplement.proofs.FirstFiring.{none_fires, first_firing-none, first_code}

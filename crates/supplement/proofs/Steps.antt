@@ -1,14 +1,14 @@
 -- Completing step by step.
-use Rattle.std.proofs.Common.{◌≡◌, ℕ, ◌<◌, Bool, true, false, not, List, [], ◌∷◌, ◌++◌, length, set, drop, get_or, Option, Some, None, refl, sym, ap, subst, ◌∙◌, arith, All, append_assoc, append-nil, add-one}
+use Rattle.std.proofs.Common.{◌≡◌, ℕ, ◌<◌, Bool, true, false, not, List, [], ◌∷◌, ◌++◌, length, set, Some, None, refl, sym, ap, subst, ◌∙◌, arith, All, append_assoc, append-nil}
 use Rattle.std.specs.Prelude.{count_by}
-use Rattle.std.proofs.lemmas.List.{length-set, drop_more}
+use Rattle.std.proofs.lemmas.List.{length-set}
 use Rattle.pb_base.specs.Sets.{has}
 use Rattle.book_model.specs.Book.{SupplementFits}
 use Rattle.book_model.specs.declared.record.Supplement.{Supplement}
 use Rattle.supplement.specs.declared.completed.Added.{Added}
 use Rattle.supplement.specs.declared.completed.Completed.{Completed}
 use Rattle.supplement.specs.declared.firing.Firing.{Firing}
-use Rattle.supplement.specs.Completion.{first_firing, with_code_of, nothing_added, added_first, completion_by}
+use Rattle.supplement.specs.Completion.{first_firing, with_code_of, nothing_added, completion_by}
 use Rattle.supplement.proofs.FirstFiring.{first_code}
 use Rattle.supplement.proofs.Laws.{fewer_absent, completion-none, completion-firing}
 

@@ -1,5 +1,5 @@
 -- Among the turns that are awake the first that fires is that of the rule that fires first.
-use Rattle.std.proofs.Common.{◌≡◌, ◌≢◌, ℕ, zero, suc, ◌+◌, ◌<◌, ◌≤◌, Bool, true, false, List, [], ◌∷◌, length, get_or, set, Option, Some, None, refl, sym, ap, subst, ◌∙◌, ◌⊎◌, inl, inr, arith, All}
+use Rattle.std.proofs.Common.{◌≡◌, ◌≢◌, ℕ, zero, suc, ◌+◌, ◌<◌, ◌≤◌, Bool, true, false, List, [], ◌∷◌, length, get_or, set, Some, None, refl, sym, ap, subst, ◌∙◌, ◌⊎◌, inl, inr, arith, All}
 use Rattle.std.specs.List.{slice_get, Contains}
 use Rattle.std.specs.List.Sorted.{IsPermutation}
 use Rattle.std.proofs.lemmas.Bool.{cases_Bool, cases_eq, false≢true}
@@ -13,7 +13,7 @@ use Rattle.supplement.specs.declared.firing.Firing.{Firing}
 use Rattle.supplement.specs.declared.wake_index.WakeIndex.{WakeIndex}
 use Rattle.supplement.specs.Completion.{first_firing}
 use Rattle.supplement.specs.Waking.{Wakes, IsIndex, IsAwake, AreTurns, turn_of, ComesBefore}
-use Rattle.supplement.proofs.FirstFiring.{FiresAt, ComesFirst, firing_of, first_fires, first_firing-is, first_firing-none}
+use Rattle.supplement.proofs.FirstFiring.{ComesFirst, firing_of, first_fires, first_firing-is, first_firing-none}
 use Rattle.supplement.proofs.WakingLemmas.{fires_after}
 
 first_or_rest : {X : Type 0} (x u : X) (xs : List X) (k : ℕ) → k < length (x ∷ xs) → get_or (x ∷ xs) k u ≡ u → (x ≡ u) ⊎ Contains xs u

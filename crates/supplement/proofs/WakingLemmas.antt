@@ -1,16 +1,15 @@
 -- The links of the index, and what an added code can change.
-use Rattle.std.proofs.Common.{◌≡◌, ◌≢◌, ℕ, zero, suc, ◌+◌, ◌<◌, ◌≤◌, Bool, true, false, not, ◌&&◌, ◌||◌, eqb, List, [], ◌∷◌, ◌++◌, length, map, get_or, set, cond, ltb, replicate, Option, Some, None, IfSome, refl, sym, ap, subst, ◌∙◌, ◌⊎◌, inl, inr, arith, All, length-append}
+use Rattle.std.proofs.Common.{◌≡◌, ◌≢◌, ℕ, zero, suc, ◌+◌, ◌<◌, ◌≤◌, Bool, true, false, not, ◌&&◌, ◌||◌, eqb, List, [], ◌∷◌, ◌++◌, length, map, get_or, set, cond, replicate, Option, Some, None, IfSome, refl, sym, ap, subst, ◌∙◌, ◌⊎◌, inl, inr, arith, All, length-append}
 use Rattle.std.specs.List.{slice_get, Contains, AllByRecursion}
 use Rattle.std.specs.Option.{option_map_or}
 use Rattle.std.specs.Ordering.{nat_cmp, is_lt, ordering_then}
-use Rattle.std.specs.declared.cmp.Ordering.{Ordering}
 use Rattle.std.specs.declared.cmp.Ordering.TheVariants.{Less, Equal, Greater}
 use Rattle.std.specs.declared.cmp.Reverse.{Reverse}
 use Rattle.std.proofs.lemmas.Map.Keys.{ge_from_not_lt}
 use Rattle.std.specs.List.Sorted.{IsPermutation}
 use Rattle.std.proofs.lemmas.List.Sorted.{All-permutation, Contains-permutation}
-use Rattle.std.proofs.lemmas.Bool.{cases_Bool, cases_eq, cases_order, eq-eqb, lt-ltb, le-ltb, eqb-true, eqb-false, ne_eqb, and_parts, and_from, or_cases, or_parts, not_from_false, not-true, false≢true}
-use Rattle.std.proofs.lemmas.Option.{none-some, same_Some, slice_get_within, slice_get_read, slice_get-get_or, get_or_from_slice_get}
+use Rattle.std.proofs.lemmas.Bool.{cases_Bool, cases_eq, cases_order, eq-eqb, lt-ltb, le-ltb, eqb-true, eqb-false, and_parts, and_from, or_cases, or_parts, not_from_false, not-true, false≢true}
+use Rattle.std.proofs.lemmas.Option.{none-some, same_Some, slice_get_within, slice_get_read, get_or_from_slice_get}
 use Rattle.std.proofs.lemmas.List.{length-set, length-replicate, get_or-set_same, get_or-set_other}
 use Rattle.std.proofs.lemmas.List.Elements.{All-nil, All-cons, All-same, All-replicate, All-set, All-weaker, All-get_or}
 use Rattle.pb_base.specs.Rule.{Rule, code, negation, both, either, always, never, holds}
@@ -21,7 +20,7 @@ use Rattle.book_model.specs.declared.record.Supplement.{Supplement}
 use Rattle.supplement.specs.declared.awake.Turn.{Turn}
 use Rattle.supplement.specs.declared.wake_index.Entry.{Entry}
 use Rattle.supplement.specs.declared.wake_index.WakeIndex.{WakeIndex}
-use Rattle.supplement.specs.Waking.{occurs, Leads, here, later, Wakes, IsLinked, KeepsWaking, WakesBy, Notes, WakesFirst, AreTurns, turn_of, ComesBefore}
+use Rattle.supplement.specs.Waking.{occurs, Leads, here, later, Wakes, IsLinked, Notes, WakesFirst, AreTurns, turn_of, ComesBefore}
 
 -- ---- lists
 pub slice_get-push : {X : Type 0} (xs ys : List X) (k : ℕ) (e : X) → slice_get xs k ≡ Some e → slice_get (xs ++ ys) k ≡ Some e

@@ -8,7 +8,6 @@ use Rattle.pb_base.specs.Sets.{has}
 use Rattle.book_model.specs.Contents.{Contents}
 use Rattle.book_model.specs.Good.{fires}
 use Rattle.book_model.specs.declared.record.Supplement.{Supplement}
-use Rattle.supplement.specs.declared.completed.Added.{Added}
 use Rattle.supplement.specs.declared.completed.Completed.{Completed}
 use Rattle.supplement.specs.declared.firing.Firing.{Firing}
 

@@ -3,7 +3,7 @@
 --     Wakes index c rule              the index leads from the code to the rule
 --     IsIndex codes rules day index   it leads from each code to each active rule in whose formula the code occurs
 --     IsAwake rules day x turns       each rule that fires has its turn among them
-use Rattle.std.specs.Prelude.{◌≡◌, ℕ, ◌<◌, ◌≤◌, Bool, true, false, ◌||◌, ◌==◌, ◌⊎◌, List, Option, None, Some, IfSome, All, Contains, length, slice_index_or, slice_get, IsTrue}
+use Rattle.std.specs.Prelude.{◌≡◌, ℕ, ◌<◌, ◌≤◌, Bool, true, false, ◌||◌, ◌==◌, ◌⊎◌, List, Option, None, Some, IfSome, All, Contains, length, slice_index_or, slice_get}
 use Rattle.pb_base.specs.Rule.{Rule, code, negation, both, either, always, never}
 use Rattle.book_model.specs.Activity.{is_within}
 use Rattle.book_model.specs.Good.{fires}

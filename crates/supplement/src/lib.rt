@@ -12,3 +12,6 @@ mod waking;
 pub use completed::{Added, AddedList, Completed};
 pub use completer::Completer;
 pub use plain::complete_plainly;
+
+#[cfg(test)]
+mod tests;

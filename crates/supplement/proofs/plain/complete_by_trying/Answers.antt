@@ -1,6 +1,6 @@
 -- Each firing rule goes one step on the way, and takes one absent code away.
 use Rattle.std.proofs.Common.{sym}
-use Rattle.supplement.proofs.Steps.{begins, steps, ends, adds_absent, fewer_after}
+use Rattle.supplement.proofs.Steps.{steps, ends, adds_absent, fewer_after}
 use Rattle.supplement.proofs.plain.complete_by_trying.Goals as goal
 
 pub with-requires : goal.with-requires

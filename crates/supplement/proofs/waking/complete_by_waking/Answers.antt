@@ -1,5 +1,5 @@
 -- Each firing rule goes one step on the way, and each rule that fires then is awake.
-use Rattle.std.proofs.Common.{◌≡◌, ℕ, ◌<◌, length, sym, subst, ◌∙◌, arith}
+use Rattle.std.proofs.Common.{◌<◌, length, sym, subst, ◌∙◌}
 use Rattle.supplement.specs.Waking.{IsIndex}
 use Rattle.supplement.proofs.Steps.{steps, ends, adds_absent, fewer_after}
 use Rattle.supplement.proofs.TurnLemmas.{awake_after}

@@ -1,10 +1,8 @@
 -- The turn that was taken out is that of a rule; where it fires it fires first, and where not, none is missed.
-use Rattle.std.proofs.Common.{◌≡◌, ◌<◌, length, true, false, Some, sym, subst, refl, ◌∙◌, arith}
-use Rattle.std.specs.List.{slice_get}
+use Rattle.std.proofs.Common.{length, sym, subst, refl, ◌∙◌, arith}
 use Rattle.std.proofs.lemmas.Option.{slice_get_read, slice_get_within}
 use Rattle.std.proofs.lemmas.List.Sorted.{length_permutation}
 use Rattle.book_model.specs.Book.{SupplementFits}
-use Rattle.book_model.specs.Good.{fires}
 use Rattle.book_model.specs.declared.record.Supplement.{Supplement}
 use Rattle.supplement.proofs.TurnLemmas.{turns_left, turn_taken, still_awake, others_left, next_is_first, none_awake}
 use Rattle.supplement.proofs.waking.next_firing.Goals as goal
