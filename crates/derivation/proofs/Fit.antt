@@ -1,0 +1,178 @@
+-- Where a set refutes the questions of a day that have to be closed, its parts list has no gap and no choice.
+use Rattle.std.proofs.Common.{subst, ◌≡◌, ℕ, suc, ◌+◌, ◌≤◌, Bool, true, false, not, ◌&&◌, ◌||◌, cond, eqb, leb, List, [], ◌∷◌, ◌++◌, Option, None, Some, length, map, inl, inr, refl, sym, ap, ◌∙◌, ◌⊎◌, arith}
+use Rattle.std.specs.List.{filter, slice_get, AllByRecursion}
+use Rattle.std.specs.Option.{option_map_or}
+use Rattle.std.proofs.lemmas.Bool.{false≢true, true≢false, cases_Bool, and_from, and_cases, not-false, le-leb, eq-eqb, cond-true, cond-false}
+use Rattle.pb_base.specs.Rule.{Rule, negation, both, never, holds}
+use Rattle.book_model.specs.Activity.{is_within}
+use Rattle.book_model.specs.Contents.{Contents}
+use Rattle.book_model.specs.Parts.{variants_of, is_used, is_chosen, is_active_position, selected}
+use Rattle.book_model.specs.Sound.{permits, is_fit, are_fit_from, is_sound}
+use Rattle.book_model.specs.declared.record.Position.{Position}
+use Rattle.book_model.specs.declared.record.Variant.{Variant}
+use Rattle.clausify.specs.Choices.{Choice, usage, is_active_variant, active_variants, choices_from}
+use Rattle.clausify.specs.Questions.{pairs, and_none, none_rule}
+use Rattle.clausify.specs.Goals.{usages_from, pairs_asked, choice_asked, choice_variables, choices_asked, superfluous_asked, uncovered_asked, uncovered_literal, codes_asked_from, void_asked}
+use Rattle.clausify.specs.Items.{variables_of, usage_item}
+use Rattle.clausify.specs.Coded.{slice_asked, usages_start, goals_start}
+use Rattle.clausify.specs.declared.question.Asked.{Asked}
+use Rattle.clausify.specs.declared.question.Question.TheVariants.{Ambiguous, Uncovered}
+use Rattle.clausify.specs.Choices.{choices}
+use Rattle.clausify.specs.Formulas.{connectives, literal_of}
+use Rattle.clausify.proofs.Truth.{all_first, all_last}
+use Rattle.clause_pool.specs.Literal.{literal}
+use Rattle.derivation.proofs.Refuted.{IsRefuted, AllRefuted, first_if}
+
+-- a variant with the literal of its usage, which the list of them is over
+abbrev items_of : {A B C D X : Type 0} → (A → B → C → D → List X) → Type 0
+items_of {A} {B} {C} {D} {X} f = X
+
+abbrev Usage : Type 0
+Usage = items_of usages_from
+
+-- whether the set meets the usage of a variant
+abbrev meets : Contents → List Bool → ℕ → Bool
+meets b x variant = holds (usage b variant) x
+
+abbrev NotBoth : Contents → List Bool → Usage × Usage → Type 0
+NotBoth b x p = (meets b x p.0.variant && meets b x p.1.variant) ≡ false
+
+not_both_asked : (b : Contents) (day : ℕ) (x : List Bool) (position v : ℕ) (ps : List (Usage × Usage)) → AllRefuted b day x (pairs_asked position v ps) → AllByRecursion (NotBoth b x) ps
+not_both_asked b day x position v [] h = tt
+not_both_asked b day x position v (p ∷ ps) h = (h.0 refl, not_both_asked b day x position (v + 1) ps h.1)
+
+-- beside a variant that is met no other is
+none_beside : (b : Contents) (x : List Bool) (u : Usage) (n v : ℕ) (vs : List ℕ) → meets b x u.variant ≡ true
+    → AllByRecursion (NotBoth b x) (map (λ y. (u, y)) (usages_from b n v vs)) → filter (meets b x) vs ≡ []
+none_beside b x u n v [] met h = refl
+none_beside b x u n v (y ∷ ys) met h =
+    let unmet : meets b x y ≡ false = elim (and_cases (meets b x u.variant) (meets b x y) h.0) [ inl e ↦ absurd (true≢false (sym met ∙ e)) | inr e ↦ e ] in
+    cond-false (meets b x y) (y ∷ filter (meets b x) ys) (filter (meets b x) ys) unmet ∙ none_beside b x u n (v + connectives (usage b y)) ys met h.1
+
+split_pairs : (b : Contents) (x : List Bool) (u : Usage) (us : List Usage) → AllByRecursion (NotBoth b x) (pairs (u ∷ us))
+    → AllByRecursion (NotBoth b x) (map (λ y. (u, y)) us) × AllByRecursion (NotBoth b x) (pairs us)
+split_pairs b x u us h = (all_first (NotBoth b x) (map (λ y. (u, y)) us) (pairs us) h, all_last (NotBoth b x) (map (λ y. (u, y)) us) (pairs us) h)
+
+met_first : (p : ℕ → Bool) (y : ℕ) (ys : List ℕ) → p y ≡ true → filter p (y ∷ ys) ≡ y ∷ filter p ys
+met_first p y ys met = cond-true (p y) (y ∷ filter p ys) (filter p ys) met
+
+unmet_first : (p : ℕ → Bool) (y : ℕ) (ys : List ℕ) → p y ≡ false → filter p (y ∷ ys) ≡ filter p ys
+unmet_first p y ys unmet = cond-false (p y) (y ∷ filter p ys) (filter p ys) unmet
+
+-- where no two variants are met together, at most one is
+at_most_one : (b : Contents) (x : List Bool) (n v : ℕ) (vs : List ℕ) → AllByRecursion (NotBoth b x) (pairs (usages_from b n v vs)) → length (filter (meets b x) vs) ≤ 1
+at_most_one b x n v [] h = omega arith
+at_most_one b x n v (y ∷ ys) h =
+    let parts = split_pairs b x (record { variant = y; literal = literal_of n v (usage b y) }) (usages_from b n (v + connectives (usage b y)) ys) h in
+    elim (cases_Bool (meets b x y)) [
+      | inl met ↦
+          let none : filter (meets b x) ys ≡ [] = none_beside b x (record { variant = y; literal = literal_of n v (usage b y) }) n (v + connectives (usage b y)) ys met parts.0 in
+          let one : length (filter (meets b x) (y ∷ ys)) ≡ 1 = ap length (met_first (meets b x) y ys met ∙ ap (λ l. y ∷ l) none) in
+          omega arith
+      | inr unmet ↦
+          let same : length (filter (meets b x) (y ∷ ys)) ≡ length (filter (meets b x) ys) = ap length (unmet_first (meets b x) y ys unmet) in
+          omega (arith, at_most_one b x n (v + connectives (usage b y)) ys parts.1)
+    ]
+
+keeps_more : (p : ℕ → Bool) (y : ℕ) (ys : List ℕ) → length (filter p ys) ≤ length (filter p (y ∷ ys))
+keeps_more p y ys =
+    elim (cases_Bool (p y)) [
+      | inl met ↦ let more : length (filter p (y ∷ ys)) ≡ suc (length (filter p ys)) = ap length (met_first p y ys met) in omega arith
+      | inr unmet ↦ let same : length (filter p (y ∷ ys)) ≡ length (filter p ys) = ap length (unmet_first p y ys unmet) in omega arith
+    ]
+
+some_met : (p : ℕ → Bool) (y : ℕ) (ys : List ℕ) → p y ≡ true → 1 ≤ length (filter p (y ∷ ys))
+some_met p y ys met = let more : length (filter p (y ∷ ys)) ≡ suc (length (filter p ys)) = ap length (met_first p y ys met) in omega arith
+
+-- where a rule and none of the variants are not met, the rule isn't, or some variant is
+some_of : (b : Contents) (x : List Bool) (f : Rule) (vs : List ℕ) → holds (and_none f (map (usage b) vs)) x ≡ false → (holds f x ≡ false) ⊎ (1 ≤ length (filter (meets b x) vs))
+some_of b x f [] h = inl h
+some_of b x f (y ∷ ys) h =
+    elim (cases_Bool (meets b x y)) [
+      | inl met ↦ inr (some_met (meets b x) y ys met)
+      | inr unmet ↦ elim (some_of b x (both f (negation (usage b y))) ys h) [
+        | inl e ↦ elim (and_cases (holds f x) (not (meets b x y)) e) [ inl g ↦ inl g | inr g ↦ absurd (false≢true (sym g ∙ ap not unmet)) ]
+        | inr more ↦ inr (omega (arith, keeps_more (meets b x) y ys))
+      ]
+    ]
+
+at_least_one : (b : Contents) (x : List Bool) (vs : List ℕ) → holds (none_rule (map (usage b) vs)) x ≡ false → 1 ≤ length (filter (meets b x) vs)
+at_least_one b x [] h = absurd (true≢false h)
+at_least_one b x (y ∷ ys) h =
+    elim (some_of b x (negation (usage b y)) ys h) [
+      | inl e ↦ some_met (meets b x) y ys (not-false (meets b x y) e)
+      | inr more ↦ omega (arith, keeps_more (meets b x) y ys)
+    ]
+
+-- the chosen variants are the active ones whose usage is met
+chosen_of : (day : ℕ) (x : List Bool) (o : Option Variant)
+    → option_map_or (is_used day x) o false ≡ (option_map_or (λ v. is_within v.from v.until day) o false && holds (option_map_or (λ v. v.rule) o never) x)
+chosen_of day x None = refl
+chosen_of day x (Some v) = refl
+
+filtered : (p q r : ℕ → Bool) → ((v : ℕ) → p v ≡ (q v && r v)) → (vs : List ℕ) → filter p vs ≡ filter r (filter q vs)
+filtered p q r same [] = refl
+filtered p q r same (v ∷ vs) =
+    elim (cases_Bool (q v)) [
+      | inl taken ↦
+          let e : p v ≡ r v = same v ∙ ap (λ t. t && r v) taken in
+          ap (λ t. cond t (v ∷ filter p vs) (filter p vs)) e ∙ ap (λ l. cond (r v) (v ∷ l) l) (filtered p q r same vs) ∙ sym (ap (filter r) (met_first q v vs taken))
+      | inr left ↦
+          let e : p v ≡ false = same v ∙ ap (λ t. t && r v) left in
+          unmet_first p v vs e ∙ filtered p q r same vs ∙ sym (ap (filter r) (unmet_first q v vs left))
+    ]
+
+permits_from : (p : Position) (count : ℕ) → count ≤ 1 → (p.mandatory ≡ true → 1 ≤ count) → permits p count ≡ true
+permits_from p count most some =
+    elim (cases_Bool p.mandatory) [
+      | inl must ↦ let least : 1 ≤ count = some must in let one : count ≡ 1 = omega arith in cond-true p.mandatory (eqb count 1) (leb count 1) must ∙ eq-eqb count 1 one
+      | inr may ↦ cond-false p.mandatory (eqb count 1) (leb count 1) may ∙ le-leb count 1 most
+    ]
+
+abbrev choice_at : Contents → ℕ → ℕ → Position → Choice
+choice_at b day i p = record { position = i; mandatory = p.mandatory; variants = active_variants b day i }
+
+active_fits : (b : Contents) (day : ℕ) (x : List Bool) (n v w i : ℕ) (p : Position) → is_active_position day p ≡ true
+    → AllRefuted b day x (choice_asked n w i p.mandatory (usages_from b n v (active_variants b day i))) → is_fit b day x i p ≡ true
+active_fits b day x n v w i p active h =
+    let us = usages_from b n v (active_variants b day i) in
+    let front : AllRefuted b day x (map superfluous_asked us ++ pairs_asked i w (pairs us)) =
+    all_first (IsRefuted b day x) (map superfluous_asked us ++ pairs_asked i w (pairs us)) (uncovered_asked n (w + length (pairs us)) i p.mandatory us) h in
+    let back : AllRefuted b day x (uncovered_asked n (w + length (pairs us)) i p.mandatory us) =
+    all_last (IsRefuted b day x) (map superfluous_asked us ++ pairs_asked i w (pairs us)) (uncovered_asked n (w + length (pairs us)) i p.mandatory us) h in
+    let paired : AllRefuted b day x (pairs_asked i w (pairs us)) = all_last (IsRefuted b day x) (map superfluous_asked us) (pairs_asked i w (pairs us)) front in
+    let uncovered = first_if (IsRefuted b day x) p.mandatory (record { question = Uncovered i; goal = uncovered_literal n (w + length (pairs us)) us }) [] back in
+    let same : selected b day x i p ≡ filter (meets b x) (active_variants b day i) =
+    cond-true (is_active_position day p) (filter (is_chosen b day x) (variants_of i b.variants)) [] active
+    ∙ filtered (is_chosen b day x) (is_active_variant b day) (meets b x) (λ k. chosen_of day x (slice_get b.variants k)) (variants_of i b.variants) in
+    ap (λ t. not t || permits p (length (selected b day x i p))) active ∙ ap (λ l. permits p (length l)) same
+    ∙ permits_from p (length (filter (meets b x) (active_variants b day i)))
+    (at_most_one b x n v (active_variants b day i) (not_both_asked b day x i w (pairs us) paired))
+    (λ must. at_least_one b x (active_variants b day i) (uncovered.0 must refl))
+
+fit_from : (b : Contents) (day : ℕ) (x : List Bool) (n v w i : ℕ) (ps : List Position) → AllRefuted b day x (choices_asked b n v w (choices_from i b day ps)) → are_fit_from i b day x ps ≡ true
+fit_from b day x n v w i [] h = refl
+fit_from b day x n v w i (p ∷ ps) h =
+    let rest = choices_from (suc i) b day ps in
+    let c = choice_at b day i p in
+    let us = usages_from b n v (active_variants b day i) in
+    let v' = v + variables_of (map (usage_item b) (active_variants b day i)) in
+    let w' = w + choice_variables p.mandatory us in
+    elim (cases_Bool (is_active_position day p)) [
+      | inl active ↦
+          let k : AllRefuted b day x (choices_asked b n v w (c ∷ rest)) =
+          subst (λ cs. AllRefuted b day x (choices_asked b n v w cs)) (cond-true (is_active_position day p) (c ∷ rest) rest active) h in
+          and_from (is_fit b day x i p) (are_fit_from (suc i) b day x ps)
+          (active_fits b day x n v w i p active (all_first (IsRefuted b day x) (choice_asked n w i p.mandatory us) (choices_asked b n v' w' rest) k))
+          (fit_from b day x n v' w' (suc i) ps (all_last (IsRefuted b day x) (choice_asked n w i p.mandatory us) (choices_asked b n v' w' rest) k))
+      | inr idle ↦
+          and_from (is_fit b day x i p) (are_fit_from (suc i) b day x ps)
+          (ap (λ t. not t || permits p (length (selected b day x i p))) idle)
+          (fit_from b day x n v w (suc i) ps
+          (subst (λ cs. AllRefuted b day x (choices_asked b n v w cs)) (cond-false (is_active_position day p) (c ∷ rest) rest idle) h))
+    ]
+
+pub sound_from_refuted : (b : Contents) (day : ℕ) (x : List Bool) → AllRefuted b day x (slice_asked b day) → is_sound b day x ≡ true
+sound_from_refuted b day x h =
+    fit_from b day x (length b.codes) (usages_start b day) (goals_start b day) 0 b.positions
+    (all_last (IsRefuted b day x) (codes_asked_from 0 b.codes) (choices_asked b (length b.codes) (usages_start b day) (goals_start b day) (choices b day)) h.1)

@@ -1,0 +1,9 @@
+pub mod PieceLaws
+pub mod CloseLaws
+pub mod StepLaws
+pub mod Refuted
+pub mod Fit
+pub mod DaysAlike
+pub mod Walk
+pub mod LimitLaws
+pub mod Released

@@ -1,0 +1,12 @@
+-- A text in pieces: lines, each ended by a line feed, and words, parted by one space.
+--     pieces 10 text    the lines of a text, and last the piece behind the last line feed
+--     pieces 32 line    the words of a line; a space too many shows as an empty word
+use Rattle.std.specs.Prelude.{ℕ, Bool, List, [], ◌==◌, if◌then◌else◌}
+use Rattle.std.specs.List.{slice_split}
+
+abbrev pub pieces : ℕ → List ℕ → List (List ℕ)
+pieces separator text = slice_split (λ b. b == separator) text
+
+-- the pieces that a reader has not given yet
+abbrev pub pieces_left : Bool → ℕ → List ℕ → List (List ℕ)
+pieces_left done separator rest = if done then [] else pieces separator rest

@@ -1,0 +1,48 @@
+//! The numbers and literals of a certificate.
+ghost use Rattle.std.specs.Prelude.{◌≡◌};
+ghost use Rattle.derivation.specs.Words.{has_number_form, number_of, literal_of};
+
+use clause_pool::Lit;
+
+/// The number that a word is: `0`, or 1 to 20 digits without a leading zero. What is above the highest number is read as it.
+pub(crate) fn number(word: &[u8]) -> Option<u64>
+    ensures { result ≡ number_of word.now }
+{
+    if !has_number_form(word) {
+        return None;
+    }
+    let mut value: u64 = 0;
+    for b in word {
+        if !b.is_ascii_digit() {
+            return None;
+        }
+        value = value
+            .saturating_mul(10)
+            .saturating_add(u64::from(*b - b'0'));
+    }
+    Some(value)
+}
+
+fn has_number_form(word: &[u8]) -> bool
+    ensures { result ≡ has_number_form word.now }
+{
+    match word {
+        [] => false,
+        [first, rest @ ..] => (*first != b'0' || rest.is_empty()) && rest.len() <= 19,
+    }
+}
+
+/// The literal that a word is: its sign, then the number of its variable.
+pub(crate) fn literal(word: &[u8]) -> Option<Lit>
+    ensures { result ≡ literal_of word.now }
+{
+    let [sign, digits @ ..] = word else {
+        return None;
+    };
+    let positive = *sign == b'+';
+    if !positive && *sign != b'-' {
+        return None;
+    }
+    let variable = number(digits)?.min(u64::from(u32::MAX));
+    Some(Lit::new(variable as u32, positive))
+}
