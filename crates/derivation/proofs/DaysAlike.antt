@@ -1,6 +1,6 @@
 -- On two days on which the same records are active, the same sets are good and the same are sound.
-use Rattle.std.proofs.Common.{◌≡◌, ℕ, zero, suc, ◌+◌, ◌-◌, ◌<◌, ◌≤◌, Bool, true, false, not, ◌&&◌, ◌||◌, cond, eqb, List, [], ◌∷◌, ◌++◌, Option, Some, length, map, inl, inr, refl, sym, ap, subst, ◌∙◌, ◌⊎◌, arith}
-use Rattle.std.specs.List.{filter, slice_get, list_any, range_with_len, flat_map, All, AllByRecursion}
+use Rattle.std.proofs.Common.{◌≡◌, ℕ, zero, suc, ◌+◌, ◌-◌, ◌<◌, ◌≤◌, Bool, true, false, not, ◌&&◌, ◌||◌, cond, eqb, List, [], ◌∷◌, ◌++◌, Some, length, map, inl, inr, refl, sym, ap, subst, ◌∙◌, ◌⊎◌, arith}
+use Rattle.std.specs.List.{filter, slice_get, list_any, range_with_len, flat_map, AllByRecursion}
 use Rattle.std.specs.Option.{option_map_or}
 use Rattle.std.proofs.lemmas.Bool.{false≢true, or_cases, and_from, eqb-true, eq-eqb, le-leb, cases_eq}
 use Rattle.std.proofs.lemmas.List.Elements.{recursion_from_All}
@@ -9,7 +9,7 @@ use Rattle.pb_base.specs.Sets.{has}
 use Rattle.book_model.specs.Activity.{is_within}
 use Rattle.book_model.specs.Contents.{Contents}
 use Rattle.book_model.specs.Good.{fires, breaks, applies, is_good, is_closed, is_constructible}
-use Rattle.book_model.specs.Parts.{variants_of, is_used, is_chosen, selected}
+use Rattle.book_model.specs.Parts.{variants_of, is_used, is_chosen}
 use Rattle.book_model.specs.Sound.{permits, is_fit, are_fit_from, is_sound}
 use Rattle.book_model.specs.Slices.{periods_of, days_from_to, days_in, IsSteady}
 use Rattle.book_model.specs.declared.record.Slice.{Slice}

@@ -12,15 +12,13 @@ use Rattle.book_model.specs.declared.record.Position.{Position}
 use Rattle.book_model.specs.declared.record.Variant.{Variant}
 use Rattle.clausify.specs.Choices.{Choice, usage, is_active_variant, active_variants, choices_from}
 use Rattle.clausify.specs.Questions.{pairs, and_none, none_rule}
-use Rattle.clausify.specs.Goals.{usages_from, pairs_asked, choice_asked, choice_variables, choices_asked, superfluous_asked, uncovered_asked, uncovered_literal, codes_asked_from, void_asked}
+use Rattle.clausify.specs.Goals.{usages_from, pairs_asked, choice_asked, choice_variables, choices_asked, superfluous_asked, uncovered_asked, uncovered_literal, codes_asked_from}
 use Rattle.clausify.specs.Items.{variables_of, usage_item}
 use Rattle.clausify.specs.Coded.{slice_asked, usages_start, goals_start}
-use Rattle.clausify.specs.declared.question.Asked.{Asked}
-use Rattle.clausify.specs.declared.question.Question.TheVariants.{Ambiguous, Uncovered}
+use Rattle.clausify.specs.declared.question.Question.TheVariants.{Uncovered}
 use Rattle.clausify.specs.Choices.{choices}
 use Rattle.clausify.specs.Formulas.{connectives, literal_of}
 use Rattle.clausify.proofs.Truth.{all_first, all_last}
-use Rattle.clause_pool.specs.Literal.{literal}
 use Rattle.derivation.proofs.Refuted.{IsRefuted, AllRefuted, first_if}
 
 -- a variant with the literal of its usage, which the list of them is over

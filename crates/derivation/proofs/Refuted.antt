@@ -1,17 +1,16 @@
 -- A question is refuted on a day by a set where the set doesn't meet its goal. A good set refutes each question that a
 -- clause closes.
-use Rattle.std.proofs.Common.{◌≡◌, ℕ, suc, Bool, true, false, not, ◌&&◌, ◌||◌, cond, eqb, List, [], ◌∷◌, inl, inr, sym, ap, ◌∙◌}
+use Rattle.std.proofs.Common.{◌≡◌, ℕ, suc, Bool, true, false, cond, eqb, List, [], ◌∷◌, inl, inr, sym, ap, ◌∙◌}
 use Rattle.std.specs.List.{list_any, list_all, AllByRecursion}
 use Rattle.std.proofs.lemmas.Bool.{false≢true, and_parts, or_cases, eqb-true, not-true}
 use Rattle.pb_base.specs.Rule.{holds}
 use Rattle.book_model.specs.Contents.{Contents}
 use Rattle.clause_pool.specs.Literal.{complement, is_true}
-use Rattle.clause_pool.specs.Clause.{clause_true, Sat, Follows}
+use Rattle.clause_pool.specs.Clause.{Sat, Follows}
 use Rattle.clause_pool.proofs.LiteralLaws.{is_true-complement}
 use Rattle.clausify.specs.Questions.{goal}
 use Rattle.clausify.specs.Lifting.{GoalsTrue}
 use Rattle.clausify.specs.declared.question.Asked.{Asked}
-use Rattle.clausify.specs.declared.question.Question.{Question}
 use Rattle.derivation.specs.declared.waiting.Waiting.{Waiting}
 use Rattle.derivation.specs.Stage.{is_to_close, to_close}
 use Rattle.derivation.specs.Lines.{closes}

@@ -1,11 +1,11 @@
 -- A certificate without fault shows that its book can be released.
-use Rattle.std.proofs.Common.{◌≡◌, ℕ, List, Option, None, Some, Result, Ok, Err, refl, sym, ap, subst, ◌∙◌}
+use Rattle.std.proofs.Common.{◌≡◌, ℕ, List, None, Some, Result, Ok, Err, refl, ap, subst, ◌∙◌}
 use Rattle.std.specs.List.{slice_get, flat_map, All}
 use Rattle.std.proofs.lemmas.Option.{slice_get_within, get_or_from_slice_get}
 use Rattle.book_model.specs.Contents.{Contents}
 use Rattle.book_model.specs.Book.{IsBook}
 use Rattle.book_model.specs.Sound.{IsReleasable}
-use Rattle.book_model.specs.Slices.{all_slices, slices_of, days_in, days_of, IsSteady}
+use Rattle.book_model.specs.Slices.{slices_of, days_in, days_of, IsSteady}
 use Rattle.book_model.specs.declared.record.Slice.{Slice}
 use Rattle.book_model.proofs.SliceLaws.{slices_partition, slices_steady}
 use Rattle.std.specs.Result.{OnOk}

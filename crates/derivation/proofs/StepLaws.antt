@@ -1,5 +1,5 @@
 -- What the words of a `step` line give, pair by pair.
-use Rattle.std.proofs.Common.{◌≡◌, ℕ, List, [], ◌∷◌, ◌++◌, Some, refl, ap, ◌∙◌, sym}
+use Rattle.std.proofs.Common.{◌≡◌, ℕ, List, [], ◌∷◌, ◌++◌, Some, ap, ◌∙◌, sym}
 use Rattle.std.specs.Option.{option_and_then}
 use Rattle.clause_pool.specs.declared.chain.Pair.{Pair}
 use Rattle.derivation.specs.Words.{number_of, literal_of}

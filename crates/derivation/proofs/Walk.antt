@@ -1,8 +1,8 @@
 -- What is known at each stage of a certificate without fault, and what its end proves of the book.
-use Rattle.std.proofs.Common.{◌≡◌, ℕ, zero, suc, ◌+◌, ◌-◌, ◌<◌, ◌≤◌, Bool, true, false, cond, eqb, ltb, ◌&&◌, List, [], ◌∷◌, ◌++◌, Option, None, Some, Result, Ok, Err, length, codes, inl, inr, refl, sym, ap, subst, ◌∙◌, ◌⊎◌, arith, append_assoc, append-nil}
+use Rattle.std.proofs.Common.{◌≡◌, ℕ, zero, suc, ◌+◌, ◌-◌, ◌<◌, Bool, true, false, cond, eqb, ltb, ◌&&◌, List, [], ◌∷◌, ◌++◌, Option, None, Some, Result, Ok, Err, length, codes, inl, inr, refl, sym, ap, subst, ◌∙◌, arith, append_assoc, append-nil}
 use Rattle.std.specs.List.{slice_get, list_all, flat_map, AllByRecursion}
 use Rattle.std.specs.Option.{option_map_or}
-use Rattle.std.proofs.lemmas.Bool.{false≢true, and_parts, eqb-true, cases_cond, cases_eq}
+use Rattle.std.proofs.lemmas.Bool.{false≢true, eqb-true, cases_cond, cases_eq}
 use Rattle.std.proofs.lemmas.Option.{slice_get_within}
 use Rattle.pb_base.specs.Names.{same_name, is_code_name}
 use Rattle.pb_base.specs.Sets.{none_of}
@@ -18,22 +18,20 @@ use Rattle.clause_pool.specs.declared.chain.Pair.{Pair}
 use Rattle.clause_pool.specs.declared.chain.StepFault.{StepFault}
 use Rattle.clause_pool.proofs.ChainLaws.{Follows-chain, Follows-cut, Follows-given}
 use Rattle.clausify.specs.Coded.{slice_clauses, slice_asked}
-use Rattle.clausify.specs.Lifting.{IsLifted, CodesGoodSets}
 use Rattle.clausify.proofs.SliceLaws.{codes_good_sets}
 use Rattle.clausify.proofs.Truth.{all-append}
-use Rattle.derivation.specs.declared.fault.CertFault.{CertFault}
 use Rattle.derivation.specs.declared.fault.CertKind.{CertKind}
 use Rattle.derivation.specs.declared.fault.CertKind.TheVariants.{Syntax, WrongBook, NotClosed, BadSet}
 use Rattle.derivation.specs.declared.fault.Certified.{Certified}
 use Rattle.derivation.specs.declared.waiting.Waiting.{Waiting}
 use Rattle.derivation.specs.Words.{number_of}
 use Rattle.derivation.specs.Stage.{Work, Stage, at_head, at_book, at_slices, at_set, within, at_end, to_close}
-use Rattle.derivation.specs.Lines.{words_of, led_by, named, name_and_number, after_head, after_book, once_closed, is_number, after_slice, is_last, after_end, set_of, is_good_set, opened, after_set, with_step, stepped, pairs_of, after_step, closes, closed_by, close_next, closed, two_numbers, after_close, after_work, after_line}
+use Rattle.derivation.specs.Lines.{words_of, led_by, named, name_and_number, after_book, once_closed, is_number, after_slice, is_last, after_end, set_of, is_good_set, opened, after_set, with_step, stepped, pairs_of, after_step, closes, closed_by, close_next, closed, two_numbers, after_close, after_work, after_line}
 use Rattle.derivation.specs.Certificate.{after_last, at_line, with_line, read_lines, read_cert}
 use Rattle.derivation.specs.Pieces.{pieces}
 use Rattle.derivation.proofs.Refuted.{IsClosed, all_refuted}
 use Rattle.derivation.proofs.Fit.{sound_from_refuted}
-use Rattle.derivation.proofs.DaysAlike.{SliceOf, slice_of, good_alike, sound_alike}
+use Rattle.derivation.proofs.DaysAlike.{slice_of, good_alike, sound_alike}
 
 -- some set is good on the day, and each of its questions that has to be closed is closed
 pub record IsDone (b : Contents) (day : ℕ) : Type 0 where

@@ -11,7 +11,7 @@ use Rattle.derivation.specs.declared.fault.CertKind.{CertKind}
 use Rattle.derivation.specs.declared.fault.CertKind.TheVariants.{Syntax, Trailing, Limit}
 use Rattle.derivation.specs.declared.fault.Certified.{Certified}
 use Rattle.derivation.specs.Pieces.{pieces}
-use Rattle.derivation.specs.Stage.{Work, Stage, at_head, at_book, at_slices, at_set, within, at_end}
+use Rattle.derivation.specs.Stage.{Stage, at_head, at_book, at_slices, at_set, within, at_end}
 use Rattle.book_model.specs.declared.slicing.LimitFault.{LimitFault}
 use Rattle.derivation.specs.Limits.{slices_within}
 use Rattle.derivation.specs.Lines.{words_of, after_line}

@@ -1,6 +1,5 @@
 -- The limits of a book's slices and questions, before any line of a certificate is read.
 use Rattle.std.specs.Prelude.{ℕ, suc, ◌≤◌, List, [], ◌∷◌, Option, None, Some, Result, Ok, Err, All, length, nat_lt, if◌then◌else◌}
-use Rattle.std.specs.Result.{result_err}
 use Rattle.book_model.specs.Contents.{Contents}
 use Rattle.book_model.specs.Slices.{slices_of}
 use Rattle.book_model.specs.declared.record.Slice.{Slice}

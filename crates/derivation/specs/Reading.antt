@@ -1,5 +1,5 @@
 -- The stage that the reader of a certificate stands at.
-use Rattle.std.specs.Prelude.{◌≡◌, ℕ, List, Result, Ok, Err, drop}
+use Rattle.std.specs.Prelude.{◌≡◌, Result, Ok, Err, drop}
 use Rattle.pb_base.specs.declared.answer.Fail.{Fail}
 use Rattle.pb_base.specs.declared.answer.Fail.TheVariants.{Refused, Memory}
 use Rattle.derivation.specs.declared.fault.CertKind.{CertKind}

@@ -2,7 +2,7 @@
 --     number_of w      a number: `0`, or 1 to 20 digits without a leading zero
 --     literal_of w     a literal: a sign and the number of its variable
 --     names_of ws      names of codes
-use Rattle.std.specs.Prelude.{ℕ, zero, suc, ◌+◌, ◌-◌, ◌*◌, min, Bool, true, false, not, ◌&&◌, ◌||◌, ◌==◌, nat_le, List, [], ◌∷◌, Option, None, Some, length, if◌then◌else◌}
+use Rattle.std.specs.Prelude.{ℕ, ◌+◌, ◌-◌, ◌*◌, min, Bool, true, false, not, ◌&&◌, ◌||◌, ◌==◌, nat_le, List, [], ◌∷◌, Option, None, Some, length, if◌then◌else◌}
 use Rattle.std.specs.Option.{option_map}
 use Rattle.clause_pool.specs.Literal.{literal}
 

@@ -1,4 +1,4 @@
-use Rattle.std.proofs.Common.{◌≡◌, ◌≤◌, ◌<◌, ◌+◌, length}
+use Rattle.std.proofs.Common.{◌≡◌, ◌<◌, ◌+◌, length}
 use Rattle.derivation.specs.Certificate.{read_lines}
 use Rattle.derivation.specs.Reading.{stage_of}
 use Rattle.derivation.proofs.check.read_cert.Given as goal

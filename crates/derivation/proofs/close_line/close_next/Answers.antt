@@ -1,5 +1,4 @@
-use Rattle.std.proofs.Common.{◌≡◌, ◌≤◌, ◌<◌, length, ap, arith, true, false, get_or, []}
-use Rattle.derivation.specs.Lines.{closes}
+use Rattle.std.proofs.Common.{◌≤◌, ◌<◌, length, ap, arith}
 use Rattle.derivation.specs.Reading.{work_of}
 use Rattle.derivation.proofs.CloseLaws.{close_no_clause, close_not_closed, close_closed}
 use Rattle.derivation.proofs.close_line.close_next.Goals as goal
