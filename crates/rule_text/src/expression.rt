@@ -38,6 +38,7 @@ impl Frame {
     ghost use Rattle.rule_text.specs.Views.{frame_of, expression_of};
 
     // Nothing was read yet.
+    #[inline(always)]
     pub(crate) fn new(depth: u32) -> Frame
         requires { depth ≤ 64 }
         ensures { frame_of result ≡ in_bracket depth }
@@ -51,6 +52,7 @@ impl Frame {
     }
 
     // How deep the text nests at the factor to come.
+    #[inline(always)]
     pub(crate) fn nesting(&self) -> u32
         ensures value { result ≡ nesting (frame_of self.now) }
         ensures within { result ≤ 64 }
@@ -58,6 +60,7 @@ impl Frame {
         self.depth + self.signs
     }
 
+    #[inline(always)]
     pub(crate) fn with_sign(self) -> Frame
         requires { nesting (frame_of self) < 64 }
         ensures { frame_of result ≡ with_sign (frame_of self) }
@@ -76,6 +79,7 @@ impl Frame {
         }
     }
 
+    #[inline(always)]
     pub(crate) fn with_factor(self, alloc: Global, factor: Formula) -> Result<Expression, Memory>
         ensures { IfOk result (λ e. expression_of e ≡ with_factor (frame_of self) factor) }
     {
@@ -99,6 +103,7 @@ impl Expression {
     ghost use Rattle.rule_text.specs.Views.{frame_of, expression_of};
 
     // The formula, if it ends here.
+    #[inline(always)]
     pub(crate) fn whole(self, alloc: Global) -> Result<Formula, Memory>
         ensures { IfOk result (λ f. f ≡ whole (expression_of self)) }
     {
@@ -111,6 +116,7 @@ impl Expression {
     }
 
     // It goes on with a further factor of the last term.
+    #[inline(always)]
     pub(crate) fn with_plus(self) -> Frame
         ensures { frame_of result ≡ with_plus (expression_of self) }
     {
@@ -128,6 +134,7 @@ impl Expression {
     }
 
     // It goes on with a further term.
+    #[inline(always)]
     pub(crate) fn with_slash(self, alloc: Global) -> Result<Frame, Memory>
         ensures { IfOk result (λ f. frame_of f ≡ with_slash (expression_of self)) }
     {
@@ -146,6 +153,7 @@ impl Expression {
     }
 }
 
+#[inline(always)]
 fn conjunction(alloc: Global, left: Option<Formula>, right: Formula) -> Result<Formula, Memory>
     ensures { IfOk result (λ f. f ≡ joined both left right) }
 {
@@ -155,6 +163,7 @@ fn conjunction(alloc: Global, left: Option<Formula>, right: Formula) -> Result<F
     }
 }
 
+#[inline(always)]
 fn disjunction(alloc: Global, left: Option<Formula>, right: Formula) -> Result<Formula, Memory>
     ensures { IfOk result (λ f. f ≡ joined either left right) }
 {

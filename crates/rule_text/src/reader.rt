@@ -64,6 +64,7 @@ impl Reader {
     }
 
     // Takes the token at this place.
+    #[inline(always)]
     pub(crate) fn take(
         self,
         alloc: Global,
@@ -95,6 +96,7 @@ impl Reader {
 impl Awaiting {
     ghost use Rattle.rule_text.specs.Views.{awaiting_of, token_of, Steps};
 
+    #[inline(always)]
     fn take(
         self,
         alloc: Global,
@@ -112,6 +114,7 @@ impl Awaiting {
         }
     }
 
+    #[inline(always)]
     fn word(
         self,
         alloc: Global,
@@ -140,6 +143,7 @@ impl Awaiting {
         }))
     }
 
+    #[inline(always)]
     fn minus(self, at: u32) -> Result<Reader, Fail<RuleFault>>
         ensures { (names : List (List ℕ)) → Steps result (step names (awaiting_of self) (at, minus)) }
     {
@@ -161,6 +165,7 @@ impl Awaiting {
         }))
     }
 
+    #[inline(always)]
     fn opening(self, at: u32) -> Result<Reader, Fail<RuleFault>>
         ensures { (names : List (List ℕ)) → Steps result (step names (awaiting_of self) (at, opening)) }
     {
@@ -185,6 +190,7 @@ impl Awaiting {
 impl Complete {
     ghost use Rattle.rule_text.specs.Views.{complete_of, token_of, Steps};
 
+    #[inline(always)]
     fn take(self, alloc: Global, at: u32, token: Token<'_>) -> Result<Reader, Fail<RuleFault>>
         ensures { (names : List (List ℕ)) → Steps result (step names (complete_of self) (at, token_of token.entry)) }
     {
@@ -197,6 +203,7 @@ impl Complete {
         }
     }
 
+    #[inline(always)]
     fn plus(self, at: u32) -> Result<Reader, Fail<RuleFault>>
         ensures { (names : List (List ℕ)) → Steps result (step names (complete_of self) (at, plus)) }
     {
@@ -215,6 +222,7 @@ impl Complete {
         }))
     }
 
+    #[inline(always)]
     fn slash(self, alloc: Global, at: u32) -> Result<Reader, Fail<RuleFault>>
         ensures { (names : List (List ℕ)) → Steps result (step names (complete_of self) (at, slash)) }
     {
@@ -234,6 +242,7 @@ impl Complete {
         }))
     }
 
+    #[inline(always)]
     fn closing(self, alloc: Global, at: u32) -> Result<Reader, Fail<RuleFault>>
         ensures { (names : List (List ℕ)) → Steps result (step names (complete_of self) (at, closing)) }
     {
@@ -254,6 +263,7 @@ impl Complete {
         }))
     }
 
+    #[inline(always)]
     fn semicolon(self, alloc: Global, at: u32) -> Result<Reader, Fail<RuleFault>>
         ensures { (names : List (List ℕ)) → Steps result (step names (complete_of self) (at, semicolon)) }
     {
