@@ -6,7 +6,7 @@ mod unplaced;
 use crate::log::{Note, RunLog};
 use crate::run::run;
 use parts_usage::OrderFault;
-use pb_outside::{MemorySink, MemorySource};
+use pb_outside::{MemoryFiles, MemorySink, MemorySource, NamedFile};
 use std::alloc::Global;
 use std::process::Abort;
 use std::test::Fail;
@@ -29,6 +29,19 @@ const ENGINE: [&str; 14] = [
     "variant,V1,P1,A100,1,M1,,\nvariant,V2,P1,A200,1,M2,,",
 ];
 
+/// The certificate of this book: the two questions of its position are closed by the clauses 21 and 22.
+const CERTIFICATE: [&str; 9] = [
+    "partsbook certificate 1",
+    "book T 1",
+    "slice 0",
+    "set M1 G5",
+    "step 9 -0 15 -1 16",
+    "close 13 21",
+    "step 8 +7 5 +0 18 +1 19",
+    "close 14 22",
+    "end",
+];
+
 /// The text of these lines, each ended by `end`.
 fn joined(alloc: Global, lines: &[&str], end: &str) -> Result<Vec<u8>, Fail> {
     let mut text = Vec::new(alloc);
@@ -39,11 +52,31 @@ fn joined(alloc: Global, lines: &[&str], end: &str) -> Result<Vec<u8>, Fail> {
     Ok(text)
 }
 
-/// Asserts what a run with these words, parted by spaces, writes for this input, and its status.
+/// The first lines of the certificate, so many, and then the rest, in a file C.
+fn file_c(alloc: Global, kept: usize, rest: &str) -> Result<Vec<NamedFile>, Fail> {
+    let mut content = Vec::new(alloc);
+    for line in CERTIFICATE.iter().take(kept) {
+        content.extend_from_slice(line.as_bytes())?;
+        content.extend_from_slice(b"\n")?;
+    }
+    content.extend_from_slice(rest.as_bytes())?;
+    only(alloc, content)
+}
+
+/// A file C of this content.
+fn only(alloc: Global, content: Vec<u8>) -> Result<Vec<NamedFile>, Fail> {
+    let mut files = Vec::new(alloc);
+    let name = String::from_str(alloc, "C")?;
+    files.push(NamedFile { name, content })?;
+    Ok(files)
+}
+
+/// Asserts what a run with these words, parted by spaces, writes for this input and these files, and its status.
 fn answers(
     rt: &impl Abort,
     alloc: Global,
     input: Vec<u8>,
+    files: Vec<NamedFile>,
     words: &str,
     want: (u8, &str),
 ) -> Result<(), Fail> {
@@ -54,12 +87,22 @@ fn answers(
     let pieces = [7, 0, 100].to_vec(alloc)?;
     let mut source = MemorySource::new(input, pieces, Vec::new(alloc));
     let mut sink = MemorySink::new(alloc, 1000, Vec::new(alloc))?;
+    let mut files = MemoryFiles::new(files, Vec::new(alloc));
     let mut log = RunLog::new(alloc);
-    let status = run(alloc, &all, &mut source, &mut sink, &mut log);
+    let status = run(
+        alloc,
+        &all,
+        &mut source,
+        &mut sink,
+        &mut files,
+        &mut log,
+    );
     assert_eq!(rt; sink.taken(), want.1.as_bytes(), "text of {words}");
     assert_eq!(rt; status, want.0, "status of {words}");
     Ok(())
 }
+
+const USAGE: &str = "usage: order DAY CODE.. | verify CERTFILE\n";
 
 const ACCEPTED: &str = "accepted\ncodes M1 G5\nMOT,P1,A100,1\n";
 
@@ -76,15 +119,19 @@ fn orders_against_the_engine_book(rt: HostRuntime) -> Result<(), Fail> {
         ("order 1001 M1", 3, "order fault 1\n"),
         ("order 1 M1 XX", 3, "order fault 2 2\n"),
         ("order 1 M1 M1", 3, "order fault 3 2\n"),
-        ("order", 2, "usage: order DAY CODE..\n"),
-        ("order x M1", 2, "usage: order DAY CODE..\n"),
-        ("order 000001 M1", 2, "usage: order DAY CODE..\n"),
-        ("order 1 TRUE", 2, "usage: order DAY CODE..\n"),
-        ("order 1 -- M1", 2, "usage: order DAY CODE..\n"),
-        ("offer 1 M1", 2, "usage: order DAY CODE..\n"),
+        ("order", 2, USAGE),
+        ("order x M1", 2, USAGE),
+        ("order 000001 M1", 2, USAGE),
+        ("order 1 TRUE", 2, USAGE),
+        ("order 1 -- M1", 2, USAGE),
+        ("offer 1 M1", 2, USAGE),
+        ("verify", 2, USAGE),
+        ("verify -C", 2, USAGE),
+        ("verify C D", 2, USAGE),
     ] {
         let input = joined(rt.alloc(), &ENGINE, "\n")?;
-        answers(&rt, rt.alloc(), input, words, (status, text))?;
+        let files = Vec::new(rt.alloc());
+        answers(&rt, rt.alloc(), input, files, words, (status, text))?;
     }
     Ok(())
 }
@@ -117,7 +164,8 @@ fn books_with_one_line_changed(rt: HostRuntime) -> Result<(), Fail> {
         let mut lines = ENGINE;
         lines[place] = line;
         let input = joined(rt.alloc(), &lines, "\r\n")?;
-        answers(&rt, rt.alloc(), input, words, (status, text))?;
+        let files = Vec::new(rt.alloc());
+        answers(&rt, rt.alloc(), input, files, words, (status, text))?;
     }
     Ok(())
 }
@@ -160,7 +208,36 @@ fn rules_that_supplement_by_rank(rt: HostRuntime) -> Result<(), Fail> {
             rule,
         ];
         let input = joined(rt.alloc(), &lines, "\n")?;
-        answers(&rt, rt.alloc(), input, "order 1 A", (0, text))?;
+        let files = Vec::new(rt.alloc());
+        answers(&rt, rt.alloc(), input, files, "order 1 A", (0, text))?;
+    }
+    Ok(())
+}
+
+#[test]
+fn certificates_of_the_engine_book(rt: HostRuntime) -> Result<(), Fail> {
+    let alloc = rt.alloc();
+    for (kept, rest, status, text) in [
+        (9, "", 0, "verified T slices 1 steps 2\n"),
+        (9, "\n", 8, "certificate fault 10 7\n"),
+        (1, "book T 2\n", 8, "certificate fault 2 2\n"),
+        (3, "set M1\n", 8, "certificate fault 4 6 0\n"),
+        (4, "step 21 -0 15\n", 8, "certificate fault 5 3\n"),
+        (4, "step 9 +0 15 -1 16\n", 8, "certificate fault 5 4\n"),
+        (7, "end\n", 8, "certificate fault 8 5 14\n"),
+        (0, "", 8, "certificate fault 1 1\n"),
+        (1, "", 8, "certificate fault 2 1\n"),
+        (2, "", 8, "certificate fault 3 1\n"),
+        (3, "", 8, "certificate fault 4 1\n"),
+        (4, "", 8, "certificate fault 5 1\n"),
+        (5, "", 8, "certificate fault 6 1\n"),
+        (6, "", 8, "certificate fault 7 1\n"),
+        (7, "", 8, "certificate fault 8 1\n"),
+        (8, "", 8, "certificate fault 9 1\n"),
+    ] {
+        let input = joined(alloc, &ENGINE, "\n")?;
+        let files = file_c(alloc, kept, rest)?;
+        answers(&rt, alloc, input, files, "verify C", (status, text))?;
     }
     Ok(())
 }
@@ -168,15 +245,20 @@ fn rules_that_supplement_by_rank(rt: HostRuntime) -> Result<(), Fail> {
 #[test]
 fn inputs_at_their_limits(rt: HostRuntime) -> Result<(), Fail> {
     let alloc = rt.alloc();
-    answers(
-        &rt,
-        alloc,
-        Vec::new(alloc),
-        "order 1 M1",
-        (3, "book fault 1 3\n"),
-    )?;
+    let none = Vec::new(alloc);
+    let want = (3, "book fault 1 3\n");
+    answers(&rt, alloc, Vec::new(alloc), none, "order 1 M1", want)?;
+    // Where the book has a fault, the file isn't read.
+    let none = Vec::new(alloc);
+    answers(&rt, alloc, Vec::new(alloc), none, "verify C", want)?;
     let long = vec![in alloc; b'x'; 1_048_577]?;
-    answers(&rt, alloc, long, "order 1 M1", (3, "book fault 0 1\n"))
+    let none = Vec::new(alloc);
+    let want = (3, "book fault 0 1\n");
+    answers(&rt, alloc, long, none, "order 1 M1", want)?;
+    let input = joined(alloc, &ENGINE, "\n")?;
+    let long = only(alloc, vec![in alloc; b'x'; 67_108_865]?)?;
+    let want = (8, "certificate fault 0 8\n");
+    answers(&rt, alloc, input, long, "verify C", want)
 }
 
 #[test]
@@ -210,6 +292,19 @@ fn faults_of_the_outside_and_the_log(rt: HostRuntime) -> Result<(), Fail> {
             .as_slice(),
         ),
         (
+            "verify C",
+            [].as_slice(),
+            [].as_slice(),
+            4,
+            "read fault\n",
+            [Note::Count {
+                which: 2,
+                before: 0,
+                after: 1,
+            }]
+            .as_slice(),
+        ),
+        (
             "order 1",
             [].as_slice(),
             [].as_slice(),
@@ -233,8 +328,9 @@ fn faults_of_the_outside_and_the_log(rt: HostRuntime) -> Result<(), Fail> {
         let input = joined(alloc, &ENGINE, "\n")?;
         let mut source = MemorySource::new(input, Vec::new(alloc), read_fails.to_vec(alloc)?);
         let mut sink = MemorySink::new(alloc, 1000, write_fails.to_vec(alloc)?)?;
+        let mut files = MemoryFiles::new(Vec::new(alloc), Vec::new(alloc));
         let mut log = RunLog::new(alloc);
-        assert_eq!(rt; run(alloc, &all, &mut source, &mut sink, &mut log), status);
+        assert_eq!(rt; run(alloc, &all, &mut source, &mut sink, &mut files, &mut log), status);
         assert_eq!(rt; sink.taken(), text.as_bytes());
         assert_eq!(rt; log.notes(), notes);
     }
