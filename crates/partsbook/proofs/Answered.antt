@@ -49,8 +49,7 @@ GivesReply-of_command words command left files status taken taken' log log' e h 
 pub GivesReply-of_usage : (words : List (List ℕ)) (left : Option (List ℕ)) (files : Option (List NamedBytes)) (status : ℕ) (taken taken' : Option (List ℕ)) (log log' : List Note) → command_in words ≡ None → Gives usage_reply status taken taken' log log' → GivesReply words left files status taken taken' log log'
 unfolding reply
 GivesReply-of_usage words left files status taken taken' log log' e h =
-    let input : (i : List ℕ) × IsInput left i = input_of left in
-    (
+    let input : (i : List ℕ) × IsInput left i = input_of left in (
       input.0,
       None,
       input.1,
@@ -123,9 +122,9 @@ settled command files all status sb sa fb fa kb ka taken taken' log log' answere
     elim sink.statuses [
       | inl le ↦ below le
       | inr above ↦ elim above [
-          | inl eight ↦ inl (done (omega arith) (omega arith) (omega arith))
-          | inr nine ↦ inr nine
-        ]
+        | inl eight ↦ inl (done (omega arith) (omega arith) (omega arith))
+        | inr nine ↦ inr nine
+      ]
     ]
   where
     done : status ≢ 4 → status ≢ 5 → status ≢ 9 → status ≤ 1

@@ -76,7 +76,8 @@ fn put_slices(text: &mut Text, count: u32) -> Result<(), Memory>
     ensures { OnOk result (text.new ≡ text.old ++ limit_text (LimitFault.Slices count)) }
 {
     text.put(b" limit slices")?;
-    text.put_number(u64::from(count))
+    text.put_number(u64::from(count))?;
+    Ok(())
 }
 
 fn put_questions(text: &mut Text, slice: u32, count: u64) -> Result<(), Memory>
@@ -84,5 +85,6 @@ fn put_questions(text: &mut Text, slice: u32, count: u64) -> Result<(), Memory>
 {
     text.put(b" limit questions")?;
     text.put_number(u64::from(slice))?;
-    text.put_number(count)
+    text.put_number(count)?;
+    Ok(())
 }

@@ -32,14 +32,7 @@ fn main(rt: HostRuntime) -> ExitCode {
     let mut files = SystemFiles::new(&rt);
     let mut log = RunLog::new(alloc);
     ExitCode::from(match given_words(&rt) {
-        Ok(words) => run(
-            alloc,
-            &words,
-            &mut source,
-            &mut sink,
-            &mut files,
-            &mut log,
-        ),
+        Ok(words) => run(alloc, &words, &mut source, &mut sink, &mut files, &mut log),
         Err(error) if error.kind() == io::ErrorKind::OutOfMemory => {
             tell_want_of_memory(&mut sink, &mut log)
         }

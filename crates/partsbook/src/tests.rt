@@ -89,14 +89,7 @@ fn answers(
     let mut sink = MemorySink::new(alloc, 1000, Vec::new(alloc))?;
     let mut files = MemoryFiles::new(files, Vec::new(alloc));
     let mut log = RunLog::new(alloc);
-    let status = run(
-        alloc,
-        &all,
-        &mut source,
-        &mut sink,
-        &mut files,
-        &mut log,
-    );
+    let status = run(alloc, &all, &mut source, &mut sink, &mut files, &mut log);
     assert_eq!(rt; sink.taken(), want.1.as_bytes(), "text of {words}");
     assert_eq!(rt; status, want.0, "status of {words}");
     Ok(())
@@ -330,7 +323,10 @@ fn faults_of_the_outside_and_the_log(rt: HostRuntime) -> Result<(), Fail> {
         let mut sink = MemorySink::new(alloc, 1000, write_fails.to_vec(alloc)?)?;
         let mut files = MemoryFiles::new(Vec::new(alloc), Vec::new(alloc));
         let mut log = RunLog::new(alloc);
-        assert_eq!(rt; run(alloc, &all, &mut source, &mut sink, &mut files, &mut log), status);
+        assert_eq!(rt;
+            run(alloc, &all, &mut source, &mut sink, &mut files, &mut log),
+            status
+        );
         assert_eq!(rt; sink.taken(), text.as_bytes());
         assert_eq!(rt; log.notes(), notes);
     }
