@@ -1,5 +1,6 @@
 //! The answers of `run` to orders against small books, as a person would check them by hand.
 
+mod certificates;
 mod checks;
 mod unplaced;
 
@@ -29,19 +30,6 @@ const ENGINE: [&str; 14] = [
     "variant,V1,P1,A100,1,M1,,\nvariant,V2,P1,A200,1,M2,,",
 ];
 
-/// The certificate of this book: the two questions of its position are closed by the clauses 21 and 22.
-const CERTIFICATE: [&str; 9] = [
-    "partsbook certificate 1",
-    "book T 1",
-    "slice 0",
-    "set M1 G5",
-    "step 9 -0 15 -1 16",
-    "close 13 21",
-    "step 8 +7 5 +0 18 +1 19",
-    "close 14 22",
-    "end",
-];
-
 /// The text of these lines, each ended by `end`.
 fn joined(alloc: Global, lines: &[&str], end: &str) -> Result<Vec<u8>, Fail> {
     let mut text = Vec::new(alloc);
@@ -52,27 +40,19 @@ fn joined(alloc: Global, lines: &[&str], end: &str) -> Result<Vec<u8>, Fail> {
     Ok(text)
 }
 
-/// The first lines of the certificate, so many, and then the rest, in a file C.
-fn file_c(alloc: Global, kept: usize, rest: &str) -> Result<Vec<NamedFile>, Fail> {
-    let mut content = Vec::new(alloc);
-    for line in CERTIFICATE.iter().take(kept) {
-        content.extend_from_slice(line.as_bytes())?;
-        content.extend_from_slice(b"\n")?;
-    }
-    content.extend_from_slice(rest.as_bytes())?;
-    only(alloc, content)
-}
-
-/// A file C of this content.
-fn only(alloc: Global, content: Vec<u8>) -> Result<Vec<NamedFile>, Fail> {
-    let mut files = Vec::new(alloc);
-    let name = String::from_str(alloc, "C")?;
-    files.push(NamedFile { name, content })?;
-    Ok(files)
-}
-
-/// Asserts what a run with these words, parted by spaces, writes for this input and these files, and its status.
+/// Asserts what a run with these words, parted by spaces, writes for this input, and its status.
 fn answers(
+    rt: &impl Abort,
+    alloc: Global,
+    input: Vec<u8>,
+    words: &str,
+    want: (u8, &str),
+) -> Result<(), Fail> {
+    answers_with(rt, alloc, input, Vec::new(alloc), words, want)
+}
+
+/// The same, where these files are there.
+fn answers_with(
     rt: &impl Abort,
     alloc: Global,
     input: Vec<u8>,
@@ -123,8 +103,7 @@ fn orders_against_the_engine_book(rt: HostRuntime) -> Result<(), Fail> {
         ("verify C D", 2, USAGE),
     ] {
         let input = joined(rt.alloc(), &ENGINE, "\n")?;
-        let files = Vec::new(rt.alloc());
-        answers(&rt, rt.alloc(), input, files, words, (status, text))?;
+        answers(&rt, rt.alloc(), input, words, (status, text))?;
     }
     Ok(())
 }
@@ -157,8 +136,7 @@ fn books_with_one_line_changed(rt: HostRuntime) -> Result<(), Fail> {
         let mut lines = ENGINE;
         lines[place] = line;
         let input = joined(rt.alloc(), &lines, "\r\n")?;
-        let files = Vec::new(rt.alloc());
-        answers(&rt, rt.alloc(), input, files, words, (status, text))?;
+        answers(&rt, rt.alloc(), input, words, (status, text))?;
     }
     Ok(())
 }
@@ -201,36 +179,7 @@ fn rules_that_supplement_by_rank(rt: HostRuntime) -> Result<(), Fail> {
             rule,
         ];
         let input = joined(rt.alloc(), &lines, "\n")?;
-        let files = Vec::new(rt.alloc());
-        answers(&rt, rt.alloc(), input, files, "order 1 A", (0, text))?;
-    }
-    Ok(())
-}
-
-#[test]
-fn certificates_of_the_engine_book(rt: HostRuntime) -> Result<(), Fail> {
-    let alloc = rt.alloc();
-    for (kept, rest, status, text) in [
-        (9, "", 0, "verified T slices 1 steps 2\n"),
-        (9, "\n", 8, "certificate fault 10 7\n"),
-        (1, "book T 2\n", 8, "certificate fault 2 2\n"),
-        (3, "set M1\n", 8, "certificate fault 4 6 0\n"),
-        (4, "step 21 -0 15\n", 8, "certificate fault 5 3\n"),
-        (4, "step 9 +0 15 -1 16\n", 8, "certificate fault 5 4\n"),
-        (7, "end\n", 8, "certificate fault 8 5 14\n"),
-        (0, "", 8, "certificate fault 1 1\n"),
-        (1, "", 8, "certificate fault 2 1\n"),
-        (2, "", 8, "certificate fault 3 1\n"),
-        (3, "", 8, "certificate fault 4 1\n"),
-        (4, "", 8, "certificate fault 5 1\n"),
-        (5, "", 8, "certificate fault 6 1\n"),
-        (6, "", 8, "certificate fault 7 1\n"),
-        (7, "", 8, "certificate fault 8 1\n"),
-        (8, "", 8, "certificate fault 9 1\n"),
-    ] {
-        let input = joined(alloc, &ENGINE, "\n")?;
-        let files = file_c(alloc, kept, rest)?;
-        answers(&rt, alloc, input, files, "verify C", (status, text))?;
+        answers(&rt, rt.alloc(), input, "order 1 A", (0, text))?;
     }
     Ok(())
 }
@@ -238,20 +187,15 @@ fn certificates_of_the_engine_book(rt: HostRuntime) -> Result<(), Fail> {
 #[test]
 fn inputs_at_their_limits(rt: HostRuntime) -> Result<(), Fail> {
     let alloc = rt.alloc();
-    let none = Vec::new(alloc);
-    let want = (3, "book fault 1 3\n");
-    answers(&rt, alloc, Vec::new(alloc), none, "order 1 M1", want)?;
-    // Where the book has a fault, the file isn't read.
-    let none = Vec::new(alloc);
-    answers(&rt, alloc, Vec::new(alloc), none, "verify C", want)?;
+    answers(
+        &rt,
+        alloc,
+        Vec::new(alloc),
+        "order 1 M1",
+        (3, "book fault 1 3\n"),
+    )?;
     let long = vec![in alloc; b'x'; 1_048_577]?;
-    let none = Vec::new(alloc);
-    let want = (3, "book fault 0 1\n");
-    answers(&rt, alloc, long, none, "order 1 M1", want)?;
-    let input = joined(alloc, &ENGINE, "\n")?;
-    let long = only(alloc, vec![in alloc; b'x'; 67_108_865]?)?;
-    let want = (8, "certificate fault 0 8\n");
-    answers(&rt, alloc, input, long, "verify C", want)
+    answers(&rt, alloc, long, "order 1 M1", (3, "book fault 0 1\n"))
 }
 
 #[test]
