@@ -1,4 +1,5 @@
 pub mod NamesText
 pub mod Texts
 pub mod Sinks
+pub mod Replies
 pub mod Answered

@@ -1,13 +1,14 @@
 -- What the words of a command line ask for.
 --     order DAY CODE..     the order of these codes on this day
-use Rattle.std.specs.Prelude.{ℕ, List, [], ◌∷◌, Option, None, Some, String, map, string_bytes, codes, if◌then◌else◌}
+--     verify CERTFILE      the check of the certificate in this file
+use Rattle.std.specs.Prelude.{ℕ, Bool, true, not, ◌==◌, List, [], ◌∷◌, Option, None, Some, String, map, string_bytes, codes, if◌then◌else◌}
 use Rattle.std.specs.Option.{option_map, option_and_then}
 use Rattle.std.specs.List.{list_all}
 use Rattle.std.specs.declared.alloc.Global.{Global}
 use Rattle.pb_base.specs.Names.{same_name, is_code_name}
 use Rattle.book_text.specs.Fields.{is_number, value_of}
 use Rattle.partsbook.specs.declared.command.Command.{Command}
-use Rattle.partsbook.specs.declared.command.Command.TheVariants.{Order}
+use Rattle.partsbook.specs.declared.command.Command.TheVariants.{Order, Verify}
 
 -- the bytes of some words
 abbrev pub texts_of : List (String Global) → List (List ℕ)
@@ -24,7 +25,17 @@ abbrev pub order_in : List (List ℕ) → Option Command
 order_in [] = None
 order_in (day ∷ names) = option_and_then (λ on. option_map (λ ordered. Order on ordered) (codes_in names)) (day_in day)
 
+-- a word that begins with `-` names no file
+abbrev pub is_file_name : List ℕ → Bool
+is_file_name [] = true
+is_file_name (b ∷ bs) = not (b == 45)
+
+abbrev pub verify_in : List (List ℕ) → Option Command
+verify_in [] = None
+verify_in (file ∷ []) = if is_file_name file then Some (Verify file) else None
+verify_in (file ∷ word ∷ words) = None
+
 -- the command that the words ask for, or none where they are of no form
 unfoldable pub command_in : List (List ℕ) → Option Command
 command_in [] = None
-command_in (name ∷ words) = if same_name name (codes "order") then order_in words else None
+command_in (name ∷ words) = if same_name name (codes "order") then order_in words else (if same_name name (codes "verify") then verify_in words else None)

@@ -1,13 +1,13 @@
-//! The words of a command line.
-ghost use Rattle.std.specs.Prelude.{◌≡◌, IfOk};
+//! The commands of the program.
 
-use crate::day::day_in;
-use pb_base::{CodeList, CodeName, Day, Memory};
-use std::alloc::Global;
+use crate::file_name::FileName;
+use pb_base::{CodeList, Day};
 
 /// What a command line asks for.
 #[derive(Drop)]
 pub enum Command {
     /// What the order of these codes on this day comes to.
     Order { day: Day, codes: CodeList },
+    /// Whether the certificate in this file shows that the book can be released.
+    Verify { file: FileName },
 }

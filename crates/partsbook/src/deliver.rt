@@ -1,9 +1,9 @@
 //! Writes a run's text and gives its status.
-ghost use Rattle.std.specs.Prelude.{◌≡◌, ◌⊎◌, ◌≤◌, ◌++◌, OnOk, IfErr};
+ghost use Rattle.std.specs.Prelude.{◌≡◌, ◌≢◌, ◌⊎◌, ◌≤◌, ◌++◌, OnOk, IfErr};
 ghost use Rattle.std.specs.Option.{option_to_list};
 ghost use Rattle.pb_outside.specs.Faults.{Rose};
 ghost use Rattle.pb_outside.specs.Sink.{TakesPiece};
-ghost use Rattle.partsbook.specs.Reply.{usage_reply};
+ghost use Rattle.partsbook.specs.Reply.{IsAnswerStatus, usage_reply};
 ghost use Rattle.partsbook.specs.Run.{Gives, TellsReadFault, TellsSink};
 
 use crate::log::{Note, RunLog};
@@ -20,9 +20,9 @@ const WANT_OF_MEMORY: u8 = 9;
 
 /// Notes what the reply rests on, writes its text, and gives its status.
 pub fn deliver<K: Sink>(reply: &Reply, sink: &mut K, log: &mut RunLog) -> u8
-    requires { (reply.now.status ≤ 1) ⊎ (reply.now.status ≡ 3) }
-    ensures whole { result ≤ 3 → Gives reply.now result (K.taken sink.old) (K.taken sink.new) log.old log.new }
-    ensures status { (result ≤ 1) ⊎ (result ≡ 3) ⊎ (result ≡ 5) ⊎ (result ≡ 9) }
+    requires { IsAnswerStatus reply.now.status }
+    ensures whole { result ≢ 5 → result ≢ 9 → Gives reply.now result (K.taken sink.old) (K.taken sink.new) log.old log.new }
+    ensures status { IsAnswerStatus result ⊎ (result ≡ 5) ⊎ (result ≡ 9) }
     ensures sink { TellsSink result (K.write_fault_count sink.old) (K.write_fault_count sink.new) (K.taken sink.old) (K.taken sink.new) log.old log.new }
 {
     match note_and_write(reply.note(), reply.text(), sink, log) {
@@ -31,15 +31,21 @@ pub fn deliver<K: Sink>(reply: &Reply, sink: &mut K, log: &mut RunLog) -> u8
     }
 }
 
-/// Tells that the source failed, with its counts of faults before and after.
-pub fn tell_read_fault<K: Sink>(before: u64, after: u64, sink: &mut K, log: &mut RunLog) -> u8
+/// Tells that the source or the files failed: the number of that object, and its counts of faults before and after.
+pub fn tell_read_fault<K: Sink>(
+    which: u8,
+    before: u64,
+    after: u64,
+    sink: &mut K,
+    log: &mut RunLog,
+) -> u8
     requires { Rose before after }
-    ensures read_fault { result ≡ 4 → TellsReadFault before after (K.taken sink.old) (K.taken sink.new) log.old log.new }
+    ensures read_fault { result ≡ 4 → TellsReadFault which before after (K.taken sink.old) (K.taken sink.new) log.old log.new }
     ensures status { (result ≡ 4) ⊎ (result ≡ 5) ⊎ (result ≡ 9) }
     ensures sink { TellsSink result (K.write_fault_count sink.old) (K.write_fault_count sink.new) (K.taken sink.old) (K.taken sink.new) log.old log.new }
 {
     let note = Note::Count {
-        which: 1,
+        which,
         before,
         after,
     };
@@ -55,7 +61,7 @@ pub fn tell_usage<K: Sink>(sink: &mut K, log: &mut RunLog) -> u8
     ensures status { (result ≡ 2) ⊎ (result ≡ 5) ⊎ (result ≡ 9) }
     ensures sink { TellsSink result (K.write_fault_count sink.old) (K.write_fault_count sink.new) (K.taken sink.old) (K.taken sink.new) log.old log.new }
 {
-    match write(b"usage: order DAY CODE..\n", sink, log) {
+    match write(b"usage: order DAY CODE.. | verify CERTFILE\n", sink, log) {
         Ok(()) => USAGE,
         Err(status) => status,
     }

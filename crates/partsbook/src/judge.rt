@@ -1,11 +1,10 @@
 //! Judges an order against the text of a book.
-ghost use Rattle.std.specs.Prelude.{◌≡◌, ◌⊎◌, ◌≤◌, IfOk};
+ghost use Rattle.std.specs.Prelude.{◌≡◌, ◌≤◌, IfOk};
 ghost use Rattle.std.specs.Option.{option_to_list};
 ghost use Rattle.book_text.specs.BookText.{book_of};
 ghost use Rattle.parts_usage.specs.Outcome.{outcome_of};
-ghost use Rattle.partsbook.specs.Reply.{book_fault_reply, order_fault_reply, outcome_status, outcome_notes, outcome_reply, judged_reply, order_reply, command_reply};
+ghost use Rattle.partsbook.specs.Reply.{book_fault_reply, order_fault_reply, outcome_status, outcome_notes, outcome_reply, judged_reply, order_reply, IsAnswerStatus};
 
-use crate::command::Command;
 use crate::fault_text::{book_fault_text, order_fault_text};
 use crate::log::Note;
 use crate::outcome_text::outcome_text;
@@ -16,21 +15,10 @@ use parts_usage::{OrderFault, Outcome, outcome};
 use pb_base::{CodeList, CodeName, Day, Fail, Memory};
 use std::alloc::Global;
 
-/// What a command answers to an input. Its status is 0, 1 or 3.
-#[tactic(auto, unfolding(crate::specs::Reply::command_reply))]
-pub fn command_reply(alloc: Global, command: &Command, input: &[u8]) -> Result<Reply, Memory>
-    ensures reply { IfOk result (λ reply. reply ≡ command_reply input.now command.now) }
-    ensures status { IfOk result (λ reply. (reply.status ≤ 1) ⊎ (reply.status ≡ 3)) }
-{
-    match command {
-        Command::Order { day, codes } => order_reply(alloc, input, *day, codes),
-    }
-}
-
 /// What the order of these codes on this day comes to against the book of the text.
-fn order_reply(alloc: Global, text: &[u8], day: Day, codes: &CodeList) -> Result<Reply, Memory>
+pub fn order_reply(alloc: Global, text: &[u8], day: Day, codes: &CodeList) -> Result<Reply, Memory>
     ensures reply { IfOk result (λ reply. reply ≡ order_reply (book_of text.now) day codes.now) }
-    ensures status { IfOk result (λ reply. (reply.status ≤ 1) ⊎ (reply.status ≡ 3)) }
+    ensures status { IfOk result (λ reply. IsAnswerStatus reply.status) }
 {
     match read_book(alloc, text) {
         Ok(book) => judged_reply(alloc, &book, day, codes.names()),
@@ -41,7 +29,7 @@ fn order_reply(alloc: Global, text: &[u8], day: Day, codes: &CodeList) -> Result
 
 fn judged_reply(alloc: Global, book: &Book, day: Day, codes: &[CodeName]) -> Result<Reply, Memory>
     ensures reply { IfOk result (λ reply. reply ≡ judged_reply book.now (outcome_of book.now day codes.now)) }
-    ensures status { IfOk result (λ reply. (reply.status ≤ 1) ⊎ (reply.status ≡ 3)) }
+    ensures status { IfOk result (λ reply. IsAnswerStatus reply.status) }
 {
     match outcome(alloc, book, day, codes) {
         Ok(judged) => outcome_reply(alloc, book, &judged),
@@ -52,7 +40,7 @@ fn judged_reply(alloc: Global, book: &Book, day: Day, codes: &[CodeName]) -> Res
 
 fn outcome_reply(alloc: Global, book: &Book, outcome: &Outcome) -> Result<Reply, Memory>
     ensures reply { IfOk result (λ reply. reply ≡ outcome_reply book.now outcome.now) }
-    ensures status { IfOk result (λ reply. (reply.status ≤ 1) ⊎ (reply.status ≡ 3)) }
+    ensures status { IfOk result (λ reply. IsAnswerStatus reply.status) }
 {
     let text = outcome_text(alloc, book, outcome)?;
     Ok(Reply::new(text, outcome_status(outcome), outcome_note(outcome)))
@@ -82,7 +70,8 @@ fn outcome_note(outcome: &Outcome) -> Option<Note>
     }
 }
 
-fn book_fault_reply(alloc: Global, fault: BookFault) -> Result<Reply, Memory>
+/// `book fault ..`, with the fault as a note.
+pub fn book_fault_reply(alloc: Global, fault: BookFault) -> Result<Reply, Memory>
     ensures { IfOk result (λ reply. reply ≡ book_fault_reply fault) }
 {
     let text = book_fault_text(alloc, &fault)?;

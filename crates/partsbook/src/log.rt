@@ -2,6 +2,7 @@
 ghost use Rattle.std.specs.Prelude.{◌≡◌, ◌++◌, [], ◌∷◌, OnOk, OnErr};
 
 use book_text::BookFault;
+use derivation::CertFault;
 use parts_usage::OrderFault;
 use pb_base::Memory;
 use std::alloc::Global;
@@ -18,7 +19,9 @@ pub enum Note {
     Refused(u32),
     /// The order selects so many variants of the position at this place, which may not be.
     Unfit { position: u32, count: u32 },
-    /// The count of faults of an object that was handed in rose: 1 for the source, 3 for the sink.
+    /// The certificate has this fault.
+    Cert(CertFault),
+    /// The count of faults of an object that was handed in rose: 1 for the source, 2 for the files, 3 for the sink.
     Count { which: u8, before: u64, after: u64 },
 }
 

@@ -1,10 +1,13 @@
 //! The program: it reads a book from standard input and does what its words ask.
 #![tactic(auto)]
 
+mod cert_text;
+mod certify;
 mod command;
 mod day;
 mod deliver;
 mod fault_text;
+mod file_name;
 mod judge;
 mod log;
 mod outcome_text;
@@ -18,7 +21,7 @@ mod words;
 use crate::deliver::{tell_usage, tell_want_of_memory};
 use crate::log::RunLog;
 use crate::run::run;
-use pb_outside::{StreamSink, StreamSource};
+use pb_outside::{StreamSink, StreamSource, SystemFiles};
 use std::process::ExitCode;
 use std::{env, io};
 
@@ -26,9 +29,10 @@ fn main(rt: HostRuntime) -> ExitCode {
     let alloc = rt.alloc();
     let mut source = StreamSource::new(rt.reader());
     let mut sink = StreamSink::new(io::writer(&rt));
+    let mut files = SystemFiles::new(&rt);
     let mut log = RunLog::new(alloc);
     ExitCode::from(match given_words(&rt) {
-        Ok(words) => run(alloc, &words, &mut source, &mut sink, &mut log),
+        Ok(words) => run(alloc, &words, &mut source, &mut sink, &mut files, &mut log),
         Err(error) if error.kind() == io::ErrorKind::OutOfMemory => {
             tell_want_of_memory(&mut sink, &mut log)
         }

@@ -1,12 +1,13 @@
 //! The answers of `run` to orders against small books, as a person would check them by hand.
 
+mod certificates;
 mod checks;
 mod unplaced;
 
 use crate::log::{Note, RunLog};
 use crate::run::run;
 use parts_usage::OrderFault;
-use pb_outside::{MemorySink, MemorySource};
+use pb_outside::{MemoryFiles, MemorySink, MemorySource, NamedFile};
 use std::alloc::Global;
 use std::process::Abort;
 use std::test::Fail;
@@ -47,6 +48,18 @@ fn answers(
     words: &str,
     want: (u8, &str),
 ) -> Result<(), Fail> {
+    answers_with(rt, alloc, input, Vec::new(alloc), words, want)
+}
+
+/// The same, where these files are there.
+fn answers_with(
+    rt: &impl Abort,
+    alloc: Global,
+    input: Vec<u8>,
+    files: Vec<NamedFile>,
+    words: &str,
+    want: (u8, &str),
+) -> Result<(), Fail> {
     let mut all = Vec::new(alloc);
     for word in words.split(' ') {
         all.push(String::from_str(alloc, word)?)?;
@@ -54,12 +67,15 @@ fn answers(
     let pieces = [7, 0, 100].to_vec(alloc)?;
     let mut source = MemorySource::new(input, pieces, Vec::new(alloc));
     let mut sink = MemorySink::new(alloc, 1000, Vec::new(alloc))?;
+    let mut files = MemoryFiles::new(files, Vec::new(alloc));
     let mut log = RunLog::new(alloc);
-    let status = run(alloc, &all, &mut source, &mut sink, &mut log);
+    let status = run(alloc, &all, &mut source, &mut sink, &mut files, &mut log);
     assert_eq!(rt; sink.taken(), want.1.as_bytes(), "text of {words}");
     assert_eq!(rt; status, want.0, "status of {words}");
     Ok(())
 }
+
+const USAGE: &str = "usage: order DAY CODE.. | verify CERTFILE\n";
 
 const ACCEPTED: &str = "accepted\ncodes M1 G5\nMOT,P1,A100,1\n";
 
@@ -76,12 +92,15 @@ fn orders_against_the_engine_book(rt: HostRuntime) -> Result<(), Fail> {
         ("order 1001 M1", 3, "order fault 1\n"),
         ("order 1 M1 XX", 3, "order fault 2 2\n"),
         ("order 1 M1 M1", 3, "order fault 3 2\n"),
-        ("order", 2, "usage: order DAY CODE..\n"),
-        ("order x M1", 2, "usage: order DAY CODE..\n"),
-        ("order 000001 M1", 2, "usage: order DAY CODE..\n"),
-        ("order 1 TRUE", 2, "usage: order DAY CODE..\n"),
-        ("order 1 -- M1", 2, "usage: order DAY CODE..\n"),
-        ("offer 1 M1", 2, "usage: order DAY CODE..\n"),
+        ("order", 2, USAGE),
+        ("order x M1", 2, USAGE),
+        ("order 000001 M1", 2, USAGE),
+        ("order 1 TRUE", 2, USAGE),
+        ("order 1 -- M1", 2, USAGE),
+        ("offer 1 M1", 2, USAGE),
+        ("verify", 2, USAGE),
+        ("verify -C", 2, USAGE),
+        ("verify C D", 2, USAGE),
     ] {
         let input = joined(rt.alloc(), &ENGINE, "\n")?;
         answers(&rt, rt.alloc(), input, words, (status, text))?;
@@ -210,6 +229,19 @@ fn faults_of_the_outside_and_the_log(rt: HostRuntime) -> Result<(), Fail> {
             .as_slice(),
         ),
         (
+            "verify C",
+            [].as_slice(),
+            [].as_slice(),
+            4,
+            "read fault\n",
+            [Note::Count {
+                which: 2,
+                before: 0,
+                after: 1,
+            }]
+            .as_slice(),
+        ),
+        (
             "order 1",
             [].as_slice(),
             [].as_slice(),
@@ -233,8 +265,12 @@ fn faults_of_the_outside_and_the_log(rt: HostRuntime) -> Result<(), Fail> {
         let input = joined(alloc, &ENGINE, "\n")?;
         let mut source = MemorySource::new(input, Vec::new(alloc), read_fails.to_vec(alloc)?);
         let mut sink = MemorySink::new(alloc, 1000, write_fails.to_vec(alloc)?)?;
+        let mut files = MemoryFiles::new(Vec::new(alloc), Vec::new(alloc));
         let mut log = RunLog::new(alloc);
-        assert_eq!(rt; run(alloc, &all, &mut source, &mut sink, &mut log), status);
+        assert_eq!(rt;
+            run(alloc, &all, &mut source, &mut sink, &mut files, &mut log),
+            status
+        );
         assert_eq!(rt; sink.taken(), text.as_bytes());
         assert_eq!(rt; log.notes(), notes);
     }

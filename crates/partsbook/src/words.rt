@@ -1,9 +1,10 @@
 //! Reads the words of a command line.
 ghost use Rattle.std.specs.Prelude.{◌≡◌, IfOk};
-ghost use Rattle.partsbook.specs.Words.{texts_of, codes_in, order_in, command_in};
+ghost use Rattle.partsbook.specs.Words.{texts_of, codes_in, order_in, is_file_name, verify_in, command_in};
 
 use crate::command::Command;
 use crate::day::day_in;
+use crate::file_name::FileName;
 use pb_base::{CodeList, CodeName, Memory};
 use std::alloc::Global;
 
@@ -17,6 +18,8 @@ pub fn command_in(alloc: Global, words: &[String]) -> Result<Option<Command>, Me
     };
     if name.as_str() == "order" {
         order_in(alloc, rest)
+    } else if name.as_str() == "verify" {
+        verify_in(alloc, rest)
     } else {
         Ok(None)
     }
@@ -48,4 +51,27 @@ fn codes_in(alloc: Global, words: &[String]) -> Result<Option<CodeList>, Memory>
         }
     }
     Ok(Some(codes))
+}
+
+fn verify_in(alloc: Global, words: &[String]) -> Result<Option<Command>, Memory>
+    ensures { IfOk result (λ command. command ≡ verify_in (texts_of words.now)) }
+{
+    let Some((name, further)) = words.split_first() else {
+        return Ok(None);
+    };
+    if !further.is_empty() || !is_file_name(name.as_bytes()) {
+        return Ok(None);
+    }
+    let file = FileName::of(alloc, name.as_str())?;
+    Ok(Some(Command::Verify { file }))
+}
+
+// A word that begins with `-` is an option, and there is none.
+fn is_file_name(text: &[u8]) -> bool
+    ensures { result ≡ is_file_name text.now }
+{
+    match text.split_first() {
+        Some((first, _)) => *first != b'-',
+        None => true,
+    }
 }

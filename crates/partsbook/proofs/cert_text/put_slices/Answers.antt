@@ -1,0 +1,10 @@
+use Rattle.std.proofs.Common.{◌≡◌, ◌∙◌, ◌++◌, ℕ, ap}
+use Rattle.std.specs.Prelude.{codes}
+use Rattle.partsbook.specs.Lines.{number_behind}
+use Rattle.partsbook.proofs.Texts.{two_pieces}
+use Rattle.partsbook.proofs.cert_text.put_slices.Goals as goal
+
+pub returns : goal.returns
+returns c =
+    let number : c.put_number.new.self ≡ c.put.new.self ++ number_behind c.args.count = c.in_ok-put_number.ensures ∙ ap (λ (n : ℕ). c.put.new.self ++ number_behind n) c.from.ensures in
+    two_pieces c.args.text.now c.put.new.self c.put_number.new.self (codes " limit slices") (number_behind c.args.count) c.in_ok-put.ensures number

@@ -1,0 +1,90 @@
+//! The lines that tell what a certificate is answered.
+ghost use Rattle.std.specs.Prelude.{◌≡◌, ◌++◌, IfOk, OnOk};
+ghost use Rattle.partsbook.specs.CertText.{cert_number, limit_text, cert_detail, cert_fault_text, verified_text};
+
+use crate::text::Text;
+use book_model::{Book, LimitFault};
+use derivation::{CertFault, CertKind, Certified};
+use pb_base::Memory;
+use std::alloc::Global;
+
+/// `verified NAME slices S steps N`.
+pub fn verified_text(alloc: Global, book: &Book, certified: Certified) -> Result<Text, Memory>
+    ensures { IfOk result (λ text. text ≡ verified_text book.now certified) }
+{
+    let mut text = Text::new(alloc);
+    text.put(b"verified ")?;
+    text.put(book.name().bytes())?;
+    text.put(b" slices")?;
+    text.put_number(u64::from(certified.slices))?;
+    text.put(b" steps")?;
+    text.put_number(certified.steps)?;
+    text.put(b"\n")?;
+    Ok(text)
+}
+
+/// `certificate fault LINE KIND`, and behind it what the kind has to add.
+pub fn cert_fault_text(alloc: Global, fault: &CertFault) -> Result<Text, Memory>
+    ensures { IfOk result (λ text. text ≡ cert_fault_text fault.now) }
+{
+    let mut text = Text::new(alloc);
+    text.put(b"certificate fault")?;
+    text.put_number(fault.line)?;
+    text.put_number(cert_number(&fault.kind))?;
+    put_cert_detail(&mut text, &fault.kind)?;
+    text.put(b"\n")?;
+    Ok(text)
+}
+
+fn cert_number(kind: &CertKind) -> u64
+    ensures { result ≡ cert_number kind.now }
+{
+    match kind {
+        CertKind::Syntax => 1,
+        CertKind::WrongBook => 2,
+        CertKind::NoSuchStep => 3,
+        CertKind::NoPivot => 4,
+        CertKind::NotClosed(_) => 5,
+        CertKind::BadSet(_) => 6,
+        CertKind::Trailing => 7,
+        CertKind::TooLarge => 8,
+        CertKind::Limit(_) => 9,
+    }
+}
+
+fn put_cert_detail(text: &mut Text, kind: &CertKind) -> Result<(), Memory>
+    ensures { OnOk result (text.new ≡ text.old ++ cert_detail kind.now) }
+{
+    match kind {
+        CertKind::NotClosed(question) => text.put_number(u64::from(*question)),
+        CertKind::BadSet(slice) => text.put_number(u64::from(*slice)),
+        CertKind::Limit(fault) => put_limit(text, fault),
+        _ => Ok(()),
+    }
+}
+
+fn put_limit(text: &mut Text, fault: &LimitFault) -> Result<(), Memory>
+    ensures { OnOk result (text.new ≡ text.old ++ limit_text fault.now) }
+{
+    match fault {
+        LimitFault::Slices(count) => put_slices(text, *count),
+        LimitFault::Questions { slice, count } => put_questions(text, *slice, *count),
+    }
+}
+
+fn put_slices(text: &mut Text, count: u32) -> Result<(), Memory>
+    ensures { OnOk result (text.new ≡ text.old ++ limit_text (LimitFault.Slices count)) }
+{
+    text.put(b" limit slices")?;
+    text.put_number(u64::from(count))?;
+    Ok(())
+}
+
+fn put_questions(text: &mut Text, slice: u32, count: u64) -> Result<(), Memory>
+    ensures { OnOk result (text.new ≡ text.old ++ limit_text (LimitFault.Questions slice count)) }
+{
+    text.put(b" limit questions")?;
+    text.put_number(u64::from(slice))?;
+    text.put_number(count)?;
+    Ok(())
+}
