@@ -18,6 +18,19 @@ const CERTIFICATE: [&str; 9] = [
     "end",
 ];
 
+/// So many lines of the certificate, and what stands behind them.
+fn certificate_to(alloc: Global, front: usize, rest: &str) -> Result<Vec<u8>, Fail> {
+    let mut text = Vec::new(alloc);
+    for (place, line) in CERTIFICATE.iter().enumerate() {
+        if place < front {
+            text.extend_from_slice(line.as_bytes())?;
+            text.push(b'\n')?;
+        }
+    }
+    text.extend_from_slice(rest.as_bytes())?;
+    Ok(text)
+}
+
 /// A file C of this content.
 fn file_c(alloc: Global, content: Vec<u8>) -> Result<Vec<NamedFile>, Fail> {
     let mut files = Vec::new(alloc);
@@ -48,9 +61,7 @@ fn certificates_near_to_the_right_one(rt: HostRuntime) -> Result<(), Fail> {
         (8, "", 8, "certificate fault 9 1\n"),
     ] {
         let input = joined(alloc, &ENGINE, "\n")?;
-        let mut content = joined(alloc, &CERTIFICATE[..front], "\n")?;
-        content.extend_from_slice(rest.as_bytes())?;
-        let files = file_c(alloc, content)?;
+        let files = file_c(alloc, certificate_to(alloc, front, rest)?)?;
         answers_with(&rt, alloc, input, files, "verify C", (status, text))?;
     }
     Ok(())
