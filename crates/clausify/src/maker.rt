@@ -75,14 +75,14 @@ impl Maker {
         match rule.node() {
             Node::Code(place) => Ok(Lit::new(*place, true)),
             Node::Not(of) => Ok(self.literal(of)?.not()),
-            Node::And(left, right) => {
-                let left = self.literal(left)?;
-                let right = self.literal(right)?;
+            Node::And(sides) => {
+                let left = self.literal(&sides.left)?;
+                let right = self.literal(&sides.right)?;
                 self.both(left, right)
             }
-            Node::Or(left, right) => {
-                let left = self.literal(left)?;
-                let right = self.literal(right)?;
+            Node::Or(sides) => {
+                let left = self.literal(&sides.left)?;
+                let right = self.literal(&sides.right)?;
                 self.either(left, right)
             }
             Node::Yes => Ok(Lit::new(self.truth, true)),

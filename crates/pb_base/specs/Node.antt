@@ -6,7 +6,7 @@ use Rattle.pb_base.specs.declared.formula.Node.TheVariants.{Code, Not, And, Or, 
 abbrev pub rule_of_node : Node → Rule
 rule_of_node (Code place) = code place
 rule_of_node (Not f) = negation f.value
-rule_of_node (And f g) = both f.value g.value
-rule_of_node (Or f g) = either f.value g.value
+rule_of_node (And sides) = both sides.value.left sides.value.right
+rule_of_node (Or sides) = either sides.value.left sides.value.right
 rule_of_node Yes = always
 rule_of_node No = never

@@ -11,7 +11,7 @@ use Rattle.pb_base.specs.declared.formula.Formula.TheDeep.{deep-Node}
 pub depth_le-nodes : (n : Node) → max (deep-Node n) 0 ≤ nodes (rule_of_node n)
 depth_le-nodes (Code place) = omega arith
 depth_le-nodes (Not f) = omega arith
-depth_le-nodes (And f g) = omega arith
-depth_le-nodes (Or f g) = omega arith
+depth_le-nodes (And sides) = omega arith
+depth_le-nodes (Or sides) = omega arith
 depth_le-nodes Yes = omega arith
 depth_le-nodes No = omega arith

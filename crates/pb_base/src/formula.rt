@@ -22,12 +22,20 @@ pub enum Node {
     /// The code at this place is in the set.
     Code(u32),
     Not(Box<Formula>),
-    And(Box<Formula>, Box<Formula>),
-    Or(Box<Formula>, Box<Formula>),
+    And(Box<Sides>),
+    Or(Box<Sides>),
     /// Always true.
     Yes,
     /// Never true.
     No,
+}
+
+/// The two sides of a connective.
+#[cycle(formula)]
+#[derive(Drop)]
+pub struct Sides {
+    pub left: Formula,
+    pub right: Formula,
 }
 
 impl Model for Formula {
@@ -86,10 +94,9 @@ impl Formula {
     pub fn and(alloc: Global, left: Formula, right: Formula) -> Result<Formula, Memory>
         ensures { IfOk result (λ f. f ≡ both left right) }
     {
-        let left = Box::new(alloc, left)?;
-        let right = Box::new(alloc, right)?;
+        let sides = Box::new(alloc, Sides { left, right })?;
         Ok(Formula {
-            node: Node::And(left, right),
+            node: Node::And(sides),
         })
     }
 
@@ -97,10 +104,9 @@ impl Formula {
     pub fn or(alloc: Global, left: Formula, right: Formula) -> Result<Formula, Memory>
         ensures { IfOk result (λ f. f ≡ either left right) }
     {
-        let left = Box::new(alloc, left)?;
-        let right = Box::new(alloc, right)?;
+        let sides = Box::new(alloc, Sides { left, right })?;
         Ok(Formula {
-            node: Node::Or(left, right),
+            node: Node::Or(sides),
         })
     }
 
@@ -119,8 +125,8 @@ impl Formula {
         match &self.node {
             Node::Code(place) => set.has(*place),
             Node::Not(of) => !of.holds(set),
-            Node::And(left, right) => left.holds(set) && right.holds(set),
-            Node::Or(left, right) => left.holds(set) || right.holds(set),
+            Node::And(sides) => sides.left.holds(set) && sides.right.holds(set),
+            Node::Or(sides) => sides.left.holds(set) || sides.right.holds(set),
             Node::Yes => true,
             Node::No => false,
         }

@@ -27,15 +27,15 @@ fn write_rule(text: &mut Vec<u8>, rule: &Formula, codes: &CodeTable) -> Result<(
             text.push(b'-')?;
             write_bracketed(text, is_pair(of), of, codes)?;
         }
-        Node::And(left, right) => {
-            write_bracketed(text, is_either(left), left, codes)?;
+        Node::And(sides) => {
+            write_bracketed(text, is_either(&sides.left), &sides.left, codes)?;
             text.push(b'+')?;
-            write_bracketed(text, is_pair(right), right, codes)?;
+            write_bracketed(text, is_pair(&sides.right), &sides.right, codes)?;
         }
-        Node::Or(left, right) => {
-            write_rule(text, left, codes)?;
+        Node::Or(sides) => {
+            write_rule(text, &sides.left, codes)?;
             text.push(b'/')?;
-            write_bracketed(text, is_either(right), right, codes)?;
+            write_bracketed(text, is_either(&sides.right), &sides.right, codes)?;
         }
         Node::Yes => text.extend_from_slice(b"TRUE")?,
         Node::No => text.extend_from_slice(b"FALSE")?,
@@ -68,7 +68,7 @@ fn is_either(rule: &Formula) -> bool
     ensures { result ≡ is_either rule.now }
 {
     match rule.node() {
-        Node::Or(_, _) => true,
+        Node::Or(_) => true,
         _ => false,
     }
 }
@@ -77,8 +77,8 @@ fn is_pair(rule: &Formula) -> bool
     ensures { result ≡ is_pair rule.now }
 {
     match rule.node() {
-        Node::Or(_, _) => true,
-        Node::And(_, _) => true,
+        Node::Or(_) => true,
+        Node::And(_) => true,
         _ => false,
     }
 }

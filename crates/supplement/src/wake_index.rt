@@ -84,13 +84,13 @@ impl WakeIndex {
         match formula.node() {
             Node::Code(code) => self.note(*code, rule),
             Node::Not(of) => self.note_codes(of, rule),
-            Node::And(left, right) => {
-                self.note_codes(left, rule)?;
-                self.note_codes(right, rule)
+            Node::And(sides) => {
+                self.note_codes(&sides.left, rule)?;
+                self.note_codes(&sides.right, rule)
             }
-            Node::Or(left, right) => {
-                self.note_codes(left, rule)?;
-                self.note_codes(right, rule)
+            Node::Or(sides) => {
+                self.note_codes(&sides.left, rule)?;
+                self.note_codes(&sides.right, rule)
             }
             Node::Yes => Ok(()),
             Node::No => Ok(()),
