@@ -1,10 +1,10 @@
 //! The names of a book's things, and the names of parts.
-ghost use Rattle.std.specs.Prelude.{◌≡◌, IfSome, IfNone, true, false, nat_eq, refl, [], ◌∷◌};
+ghost use Rattle.std.specs.Prelude.{◌≡◌, ◌||◌, IfSome, IfNone, true, false, nat_eq, refl, [], ◌∷◌};
 ghost use Rattle.std.specs.Cmp.Lexicographic.{pointwise, on_texts_equal, nat_list_eq_equiv};
 ghost use Rattle.std.specs.Cmp.{partial_equiv_from_equiv};
 ghost use Rattle.std.specs.Cmp.Rules.{hashing};
 ghost use Rattle.std.proofs.Common.{rules};
-ghost use Rattle.pb_base.specs.Names.{is_name, is_part, is_code_name, is_word, is_name_byte};
+ghost use Rattle.pb_base.specs.Names.{is_name, is_part, is_code_name, is_word, is_name_byte, same_name, true_word, false_word};
 ghost use Rattle.std.specs.List.{list_all};
 
 use crate::padded::Padded;
@@ -99,7 +99,7 @@ impl CodeName {
         ensures name { IfSome result (λ name. (name ≡ bytes.now) × (is_code_name bytes.now ≡ true)) }
         ensures none { IfNone result (is_code_name bytes.now ≡ false) }
     {
-        if is_word(bytes, 8) && bytes != b"TRUE".as_slice() && bytes != b"FALSE".as_slice() {
+        if is_word(bytes, 8) && !is_constant(bytes) {
             Some(CodeName(Padded::of(bytes)))
         } else {
             None
@@ -203,6 +203,17 @@ impl Hash for Part {
     #[inline]
     fn hash<H: Hasher>(&self, state: &mut H) {
         state.write(self.bytes());
+    }
+}
+
+// Whether the bytes are a constant of rules.
+fn is_constant(bytes: &[u8]) -> bool
+    ensures { result ≡ (same_name bytes.now true_word || same_name bytes.now false_word) }
+{
+    match bytes {
+        [b'T', b'R', b'U', b'E'] => true,
+        [b'F', b'A', b'L', b'S', b'E'] => true,
+        _ => false,
     }
 }
 

@@ -186,10 +186,7 @@ name_place names place apart inside =
     rw (len, test) refl
 
 code_word : (names : List (List ℕ)) (place : ℕ) (name : List ℕ) → is_code_name name ≡ true → place_in names name ≡ Some place → word_rule names name ≡ Some (code place)
-code_word names place name is_code found =
-    let parts = and_parts (is_name name && not (same_name name true_word)) (not (same_name name false_word)) is_code in
-    let first = and_parts (is_name name) (not (same_name name true_word)) parts.0 in
-    rw (not_false (same_name name true_word) first.1, not_false (same_name name false_word) parts.1, first.0, found) refl
+code_word names place name is_code found = rw (is_code, found) refl
 
 -- a name is a byte or more, each of them a name's
 name_bytes : (name : List ℕ) → is_code_name name ≡ true → (leb 1 (length name) ≡ true) × (list_all is_name_byte name ≡ true)

@@ -62,10 +62,10 @@ code_below names None rule below found = cc
 code_below names (Some place) rule below found = let same : code place ≡ rule = cc in ap (codes_below (length names)) (sym same) ∙ below place refl
 
 word_below-by : (names : List (List ℕ)) (w : List ℕ) (rule : Rule) (a b c : Bool)
-    → cond a (Some always) (cond b (Some never) (cond c (option_map code (place_in names w)) None)) ≡ Some rule → codes_below (length names) rule ≡ true
-word_below-by names w rule true b c found = let same : always ≡ rule = cc in ap (codes_below (length names)) (sym same)
-word_below-by names w rule false true c found = let same : never ≡ rule = cc in ap (codes_below (length names)) (sym same)
-word_below-by names w rule false false true found = code_below names (place_in names w) rule (place_in-below names w) found
+    → cond c (option_map code (place_in names w)) (cond a (Some always) (cond b (Some never) None)) ≡ Some rule → codes_below (length names) rule ≡ true
+word_below-by names w rule a b true found = code_below names (place_in names w) rule (place_in-below names w) found
+word_below-by names w rule true b false found = let same : always ≡ rule = cc in ap (codes_below (length names)) (sym same)
+word_below-by names w rule false true false found = let same : never ≡ rule = cc in ap (codes_below (length names)) (sym same)
 word_below-by names w rule false false false found = cc
 
 word_below : (names : List (List ℕ)) (w : List ℕ) (rule : Rule) → word_rule names w ≡ Some rule → codes_below (length names) rule ≡ true

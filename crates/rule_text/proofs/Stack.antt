@@ -5,7 +5,7 @@ use Rattle.pb_base.specs.Rule.{Rule}
 use Rattle.rule_text.specs.Reading.{nesting, in_bracket, with_factor, whole, Frame, Expression, before, after, step, finish}
 use Rattle.rule_text.specs.Token.{semicolon, opening, closing}
 use Rattle.rule_text.specs.Views.{frame_of, stack_on}
-use Rattle.rule_text.specs.declared.expression.Frame.{Frame as CodeFrame}
+use Rattle.rule_text.specs.declared.frame.Frame.{Frame as CodeFrame}
 use Rattle.rule_text.specs.declared.fault.RuleFault.TheVariants.{Expected}
 
 pub stack_on-push : (below : List Frame) (frames : List CodeFrame) (f : CodeFrame) → stack_on below (frames ++ f ∷ []) ≡ frame_of f ∷ stack_on below frames

@@ -42,12 +42,12 @@ reads_on names end text at len s u t inside no_blank is_t is_len is_ok =
     ap (read_from names end s) (from_here text at len t inside no_blank is_t is_len) ∙ read_from-step names end s u (at, t) _ is_ok
 
 -- what is refused for its token is refused for the text; want of memory is passed on
-pub refuses : (names : List (List ℕ)) (end : ℕ) (text : List ℕ) (at : ℕ) (s : State) (t : Token) (whole : Result Rule RuleFault) (error : Fail RuleFault)
+pub refuses : (names : List (List ℕ)) (end : ℕ) (text : List ℕ) (at : ℕ) (s : State) (t : Token) (whole : Result Rule RuleFault) (error : Fail RuleFault) (left : State)
     → at < length text → is_blank (get_or text at 0) ≡ false → t ≡ token_at (drop at text) → read_from names end s (tokens_from false at (drop at text)) ≡ whole
-    → Steps (Err error) (step names s (at, t)) → Answers (Err error) whole
-refuses names end text at s t whole (Refused fault) inside no_blank is_t same is_err =
+    → Steps {A = Unit {0}} (Err error) left (step names s (at, t)) → Answers (Err error) whole
+refuses names end text at s t whole (Refused fault) left inside no_blank is_t same is_err =
     sym same ∙ ap (read_from names end s) (from_here text at (token_len t) t inside no_blank is_t refl) ∙ read_from-fault names end s (at, t) _ fault is_err
-refuses names end text at s t whole Memory inside no_blank is_t same is_err = tt
+refuses names end text at s t whole Memory left inside no_blank is_t same is_err = tt
 
 -- a text that isn't all blanks is read from its start
 pub rule_of-read : (names : List (List ℕ)) (text : List ℕ) → list_all is_blank text ≡ false → read_from names (length text) start (tokens text) ≡ rule_of names text

@@ -63,10 +63,10 @@ code_node None rule found = cc
 code_node (Some place) rule found = let same : code place ≡ rule = cc in ap nodes (sym same)
 
 word_node-by : (names : List (List ℕ)) (w : List ℕ) (rule : Rule) (a b c : Bool)
-    → cond a (Some always) (cond b (Some never) (cond c (option_map code (place_in names w)) None)) ≡ Some rule → nodes rule ≡ 1
-word_node-by names w rule true b c found = let same : always ≡ rule = cc in ap nodes (sym same)
-word_node-by names w rule false true c found = let same : never ≡ rule = cc in ap nodes (sym same)
-word_node-by names w rule false false true found = code_node (place_in names w) rule found
+    → cond c (option_map code (place_in names w)) (cond a (Some always) (cond b (Some never) None)) ≡ Some rule → nodes rule ≡ 1
+word_node-by names w rule a b true found = code_node (place_in names w) rule found
+word_node-by names w rule true b false found = let same : always ≡ rule = cc in ap nodes (sym same)
+word_node-by names w rule false true false found = let same : never ≡ rule = cc in ap nodes (sym same)
 word_node-by names w rule false false false found = cc
 
 pub word_node : (names : List (List ℕ)) (w : List ℕ) (rule : Rule) → word_rule names w ≡ Some rule → nodes rule ≡ 1

@@ -1,8 +1,8 @@
 //! The text of a rule: read as the grammar says, or refused with its first fault; and printed with fewest brackets.
 #![tactic(auto)]
 
-mod expression;
 mod fault;
+mod frame;
 mod laws;
 mod print;
 mod read;

@@ -29,7 +29,7 @@ pub fn read_rule(alloc: Global, text: &[u8], codes: &CodeTable) -> Result<Formul
             at += 1;
         } else {
             let token = token_at(text, at);
-            reader = reader.take(alloc, at as u32, token, codes)?;
+            reader.take(alloc, at as u32, token, codes)?;
             at += token.len();
         }
     }

@@ -3,30 +3,34 @@ ghost use Rattle.std.specs.Prelude.{◌≡◌, ◌<◌, ◌≤◌, IfOk, zero, L
 ghost use Rattle.pb_base.specs.Answers.{Answers};
 ghost use Rattle.pb_base.specs.declared.answer.Fail.TheVariants.{Refused, Memory};
 ghost use Rattle.rule_text.specs.Token.{word, plus, slash, minus, opening, closing, semicolon};
-ghost use Rattle.rule_text.specs.Grammar.{word_rule};
+ghost use Rattle.rule_text.specs.Grammar.{word_rule, constant_rule};
 ghost use Rattle.rule_text.specs.Reading.{step, finish, start};
 
 use crate::RuleFault;
-use crate::expression::{Expression, Frame, MAX_NESTING};
+use crate::frame::{Frame, MAX_NESTING};
 use crate::token::Token;
 use pb_base::{CodeName, CodeTable, Fail, Formula};
 use std::alloc::Global;
+use std::mem;
 
 /// How many words, minus signs, pluses and slashes a text may have.
 const MAX_NODES: u32 = 512;
 
-/// What was read so far.
-#[derive(Drop)]
-pub(crate) enum Reader {
-    Before(Awaiting),
-    After(Complete),
+/// What may come next.
+#[derive(Clone, Copy)]
+pub(crate) enum Stage {
+    /// A factor has to come.
+    Awaiting,
+    /// The expression may end here or go on.
+    Complete,
     /// A semicolon ended the text.
-    Ended(Formula),
+    Ended,
 }
 
-/// A factor has to come.
+/// What was read so far.
 #[derive(Drop)]
-pub(crate) struct Awaiting {
+pub(crate) struct Reader {
+    pub(crate) stage: Stage,
     pub(crate) frame: Frame,
     /// The open brackets, the innermost last.
     pub(crate) under: Vec<Frame>,
@@ -34,77 +38,69 @@ pub(crate) struct Awaiting {
     ghost within: { nodes ≤ 512 },
 }
 
-/// The expression may end here or go on.
-#[derive(Drop)]
-pub(crate) struct Complete {
-    pub(crate) expression: Expression,
-    /// The open brackets, the innermost last.
-    pub(crate) under: Vec<Frame>,
-    pub(crate) nodes: u32,
-    ghost within: { nodes ≤ 512 },
-}
-
-fn refused(fault: RuleFault) -> Result<Reader, Fail<RuleFault>>
+fn refused(fault: RuleFault) -> Result<(), Fail<RuleFault>>
     ensures { result ≡ Err (Refused fault) }
 {
     Err(Fail::Refused(fault))
 }
 
 impl Reader {
-    ghost use Rattle.rule_text.specs.Views.{state_of, token_of, Steps};
+    ghost use Rattle.rule_text.specs.Views.{state_of, awaiting_of, complete_of, token_of, Steps};
 
     pub(crate) fn new(alloc: Global) -> Reader
         ensures { state_of result ≡ start }
     {
-        Reader::Before(Awaiting {
+        Reader {
+            stage: Stage::Awaiting,
             frame: Frame::new(0),
             under: Vec::new(alloc),
             nodes: 0,
-        })
+        }
     }
 
     // Takes the token at this place.
     #[inline(always)]
     pub(crate) fn take(
-        self,
+        &mut self,
         alloc: Global,
         at: u32,
         token: Token<'_>,
         codes: &CodeTable,
-    ) -> Result<Reader, Fail<RuleFault>>
-        ensures { Steps result (step codes.now (state_of self) (at, token_of token.entry)) }
+    ) -> Result<(), Fail<RuleFault>>
+        ensures { Steps result (state_of self.new) (step codes.now (state_of self.old) (at, token_of token.entry)) }
     {
-        match self {
-            Reader::Before(awaiting) => awaiting.take(alloc, at, token, codes),
-            Reader::After(complete) => complete.take(alloc, at, token),
-            Reader::Ended(_) => refused(token.misplaced(at)),
+        match self.stage {
+            Stage::Awaiting => self.take_factor(alloc, at, token, codes),
+            Stage::Complete => self.take_connective(alloc, at, token),
+            Stage::Ended => refused(token.misplaced(at)),
         }
     }
 
     // The formula, if the text may end here.
-    pub(crate) fn finish(self, alloc: Global, end: u32) -> Result<Formula, Fail<RuleFault>>
+    pub(crate) fn finish(mut self, alloc: Global, end: u32) -> Result<Formula, Fail<RuleFault>>
         ensures { Answers result (finish end (state_of self)) }
     {
-        match self {
-            Reader::Before(_) => Err(Fail::Refused(RuleFault::Expected(end))),
-            Reader::After(complete) => complete.finish(alloc, end),
-            Reader::Ended(rule) => Ok(rule),
+        match self.stage {
+            Stage::Awaiting => return Err(Fail::Refused(RuleFault::Expected(end))),
+            Stage::Complete => {
+                if !self.under.is_empty() {
+                    return Err(Fail::Refused(RuleFault::Expected(end)));
+                }
+            }
+            Stage::Ended => {}
         }
+        Ok(self.frame.take_whole(alloc)?)
     }
-}
-
-impl Awaiting {
-    ghost use Rattle.rule_text.specs.Views.{awaiting_of, token_of, Steps};
 
     #[inline(always)]
-    fn take(
-        self,
+    fn take_factor(
+        &mut self,
         alloc: Global,
         at: u32,
         token: Token<'_>,
         codes: &CodeTable,
-    ) -> Result<Reader, Fail<RuleFault>>
-        ensures { Steps result (step codes.now (awaiting_of self) (at, token_of token.entry)) }
+    ) -> Result<(), Fail<RuleFault>>
+        ensures { Steps result (state_of self.new) (step codes.now (awaiting_of self.old) (at, token_of token.entry)) }
     {
         match token {
             Token::Word(name) => self.word(alloc, at, name, codes),
@@ -116,173 +112,123 @@ impl Awaiting {
 
     #[inline(always)]
     fn word(
-        self,
+        &mut self,
         alloc: Global,
         at: u32,
         name: &[u8],
         codes: &CodeTable,
-    ) -> Result<Reader, Fail<RuleFault>>
-        ensures { Steps result (step codes.now (awaiting_of self) (at, word name.now)) }
+    ) -> Result<(), Fail<RuleFault>>
+        ensures { Steps result (state_of self.new) (step codes.now (awaiting_of self.old) (at, word name.now)) }
     {
-        let Awaiting {
-            frame,
-            under,
-            nodes,
-        } = self;
         let Some(factor) = word_rule(name, codes) else {
             return refused(RuleFault::UnknownCode(at));
         };
-        if nodes >= MAX_NODES {
+        if self.nodes >= MAX_NODES {
             return refused(RuleFault::TooLong(at));
         }
-        let expression = frame.with_factor(alloc, factor)?;
-        Ok(Reader::After(Complete {
-            expression,
-            under,
-            nodes: nodes + 1,
-        }))
+        self.nodes += 1;
+        self.frame.add_factor(alloc, factor)?;
+        self.stage = Stage::Complete;
+        Ok(())
     }
 
     #[inline(always)]
-    fn minus(self, at: u32) -> Result<Reader, Fail<RuleFault>>
-        ensures { (names : List (List ℕ)) → Steps result (step names (awaiting_of self) (at, minus)) }
+    fn minus(&mut self, at: u32) -> Result<(), Fail<RuleFault>>
+        ensures { (names : List (List ℕ)) → Steps result (state_of self.new) (step names (awaiting_of self.old) (at, minus)) }
     {
-        let Awaiting {
-            frame,
-            under,
-            nodes,
-        } = self;
-        if frame.nesting() >= MAX_NESTING {
+        if self.frame.nesting() >= MAX_NESTING {
             return refused(RuleFault::TooDeep(at));
         }
-        if nodes >= MAX_NODES {
+        if self.nodes >= MAX_NODES {
             return refused(RuleFault::TooLong(at));
         }
-        Ok(Reader::Before(Awaiting {
-            frame: frame.with_sign(),
-            under,
-            nodes: nodes + 1,
-        }))
+        self.nodes += 1;
+        self.frame.add_sign();
+        self.stage = Stage::Awaiting;
+        Ok(())
     }
 
     #[inline(always)]
-    fn opening(self, at: u32) -> Result<Reader, Fail<RuleFault>>
-        ensures { (names : List (List ℕ)) → Steps result (step names (awaiting_of self) (at, opening)) }
+    fn opening(&mut self, at: u32) -> Result<(), Fail<RuleFault>>
+        ensures { (names : List (List ℕ)) → Steps result (state_of self.new) (step names (awaiting_of self.old) (at, opening)) }
     {
-        let Awaiting {
-            frame,
-            mut under,
-            nodes,
-        } = self;
-        let depth = frame.nesting();
+        let depth = self.frame.nesting();
         if depth >= MAX_NESTING {
             return refused(RuleFault::TooDeep(at));
         }
-        under.push(frame)?;
-        Ok(Reader::Before(Awaiting {
-            frame: Frame::new(depth + 1),
-            under,
-            nodes,
-        }))
+        let frame = mem::replace(&mut self.frame, Frame::new(depth + 1));
+        self.under.push(frame)?;
+        self.stage = Stage::Awaiting;
+        Ok(())
     }
-}
-
-impl Complete {
-    ghost use Rattle.rule_text.specs.Views.{complete_of, token_of, Steps};
 
     #[inline(always)]
-    fn take(self, alloc: Global, at: u32, token: Token<'_>) -> Result<Reader, Fail<RuleFault>>
-        ensures { (names : List (List ℕ)) → Steps result (step names (complete_of self) (at, token_of token.entry)) }
+    fn take_connective(
+        &mut self,
+        alloc: Global,
+        at: u32,
+        token: Token<'_>,
+    ) -> Result<(), Fail<RuleFault>>
+        ensures { (names : List (List ℕ)) → Steps result (state_of self.new) (step names (complete_of self.old) (at, token_of token.entry)) }
     {
         match token {
             Token::Plus => self.plus(at),
             Token::Slash => self.slash(alloc, at),
             Token::Closing => self.closing(alloc, at),
-            Token::Semicolon => self.semicolon(alloc, at),
+            Token::Semicolon => self.semicolon(at),
             _ => refused(token.misplaced(at)),
         }
     }
 
     #[inline(always)]
-    fn plus(self, at: u32) -> Result<Reader, Fail<RuleFault>>
-        ensures { (names : List (List ℕ)) → Steps result (step names (complete_of self) (at, plus)) }
+    fn plus(&mut self, at: u32) -> Result<(), Fail<RuleFault>>
+        ensures { (names : List (List ℕ)) → Steps result (state_of self.new) (step names (complete_of self.old) (at, plus)) }
     {
-        let Complete {
-            expression,
-            under,
-            nodes,
-        } = self;
-        if nodes >= MAX_NODES {
+        if self.nodes >= MAX_NODES {
             return refused(RuleFault::TooLong(at));
         }
-        Ok(Reader::Before(Awaiting {
-            frame: expression.with_plus(),
-            under,
-            nodes: nodes + 1,
-        }))
+        self.nodes += 1;
+        self.frame.add_plus();
+        self.stage = Stage::Awaiting;
+        Ok(())
     }
 
     #[inline(always)]
-    fn slash(self, alloc: Global, at: u32) -> Result<Reader, Fail<RuleFault>>
-        ensures { (names : List (List ℕ)) → Steps result (step names (complete_of self) (at, slash)) }
+    fn slash(&mut self, alloc: Global, at: u32) -> Result<(), Fail<RuleFault>>
+        ensures { (names : List (List ℕ)) → Steps result (state_of self.new) (step names (complete_of self.old) (at, slash)) }
     {
-        let Complete {
-            expression,
-            under,
-            nodes,
-        } = self;
-        if nodes >= MAX_NODES {
+        if self.nodes >= MAX_NODES {
             return refused(RuleFault::TooLong(at));
         }
-        let frame = expression.with_slash(alloc)?;
-        Ok(Reader::Before(Awaiting {
-            frame,
-            under,
-            nodes: nodes + 1,
-        }))
+        self.nodes += 1;
+        self.frame.add_slash(alloc)?;
+        self.stage = Stage::Awaiting;
+        Ok(())
     }
 
     #[inline(always)]
-    fn closing(self, alloc: Global, at: u32) -> Result<Reader, Fail<RuleFault>>
-        ensures { (names : List (List ℕ)) → Steps result (step names (complete_of self) (at, closing)) }
+    fn closing(&mut self, alloc: Global, at: u32) -> Result<(), Fail<RuleFault>>
+        ensures { (names : List (List ℕ)) → Steps result (state_of self.new) (step names (complete_of self.old) (at, closing)) }
     {
-        let Complete {
-            expression,
-            mut under,
-            nodes,
-        } = self;
-        let Some(frame) = under.pop() else {
+        let Some(frame) = self.under.pop() else {
             return refused(RuleFault::Expected(at));
         };
-        let factor = expression.whole(alloc)?;
-        let expression = frame.with_factor(alloc, factor)?;
-        Ok(Reader::After(Complete {
-            expression,
-            under,
-            nodes,
-        }))
+        let factor = self.frame.take_whole(alloc)?;
+        self.frame = frame;
+        self.frame.add_factor(alloc, factor)?;
+        self.stage = Stage::Complete;
+        Ok(())
     }
 
     #[inline(always)]
-    fn semicolon(self, alloc: Global, at: u32) -> Result<Reader, Fail<RuleFault>>
-        ensures { (names : List (List ℕ)) → Steps result (step names (complete_of self) (at, semicolon)) }
+    fn semicolon(&mut self, at: u32) -> Result<(), Fail<RuleFault>>
+        ensures { (names : List (List ℕ)) → Steps result (state_of self.new) (step names (complete_of self.old) (at, semicolon)) }
     {
         if !self.under.is_empty() {
             return refused(RuleFault::Expected(at));
         }
-        let Complete { expression, .. } = self;
-        Ok(Reader::Ended(expression.whole(alloc)?))
-    }
-
-    // The formula, if the text may end here.
-    fn finish(self, alloc: Global, end: u32) -> Result<Formula, Fail<RuleFault>>
-        ensures { Answers result (finish end (complete_of self)) }
-    {
-        if !self.under.is_empty() {
-            return Err(Fail::Refused(RuleFault::Expected(end)));
-        }
-        let Complete { expression, .. } = self;
-        Ok(expression.whole(alloc)?)
+        self.stage = Stage::Ended;
+        Ok(())
     }
 }
 
@@ -290,13 +236,19 @@ impl Complete {
 fn word_rule(word: &[u8], codes: &CodeTable) -> Option<Formula>
     ensures { result ≡ word_rule codes.now word.now }
 {
-    if word == b"TRUE".as_slice() {
-        return Some(Formula::yes());
+    match CodeName::of(word) {
+        Some(name) => Some(Formula::code(codes.place_of(&name)?)),
+        None => constant(word),
     }
-    if word == b"FALSE".as_slice() {
-        return Some(Formula::no());
+}
+
+// What a word that is no name of a code means, or None where it is no constant.
+fn constant(word: &[u8]) -> Option<Formula>
+    ensures { result ≡ constant_rule word.now }
+{
+    match word {
+        [b'T', b'R', b'U', b'E'] => Some(Formula::yes()),
+        [b'F', b'A', b'L', b'S', b'E'] => Some(Formula::no()),
+        _ => None,
     }
-    let name = CodeName::of(word)?;
-    let place = codes.place_of(&name)?;
-    Some(Formula::code(place))
 }

@@ -13,14 +13,14 @@ use Rattle.rule_text.proofs.read.read_rule.Goals as goal
 pub returns-then-is_all_blank-clause-answer : goal.returns-then-is_all_blank-clause-answer
 returns-then-is_all_blank-clause-answer c = rule_of-empty c.args.codes.now c.args.text.now (sym c.is_all_blank.ensures ∙ c.if-is_all_blank.true)
 
-pub returns-in_err-reader-clause-answer : goal.returns-in_err-reader-clause-answer
-returns-in_err-reader-clause-answer c =
+pub returns-in_err-take-clause-answer : goal.returns-in_err-take-clause-answer
+returns-in_err-take-clause-answer c =
     let text = c.args.text.now in
     let p = err_from_is_err_and c.from_residual.result c.from_residual.ensures.1 in
     let whole = rule_of-read c.args.codes.now text (sym c.is_all_blank.ensures ∙ c.if-is_all_blank.false) in
     rw (p.1, p.2)
-    (refuses c.args.codes.now (length text) text c.loop-at.at (state_of c.loop-at.reader) (token_of c.token_at-token.result) _ _
-    c.loop-at-test.true (sym c.is_blank.ensures ∙ c.if-is_blank.false) c.token_at-token.ensures (c.loop-at.invariant.same ∙ whole) c.in_err-reader.ensures)
+    (refuses c.args.codes.now (length text) text c.loop-at.at (state_of c.loop-at.reader) (token_of c.token_at-token.result) _ _ (state_of c.take.new.self)
+    c.loop-at-test.true (sym c.is_blank.ensures ∙ c.if-is_blank.false) c.token_at-token.ensures (c.loop-at.invariant.same ∙ whole) c.in_err-take.ensures)
 
 pub loop-at-preserved : goal.loop-at-preserved
 loop-at-preserved c =
@@ -28,8 +28,8 @@ loop-at-preserved c =
     let at = c.loop-at.at in
     let len : c.len-at.result ≡ token_len (token_at (drop at text)) = c.len-at.ensures ∙ ap token_len c.token_at-token.ensures in
     let within = token_len-within text at c.loop-at-test.true in
-    let on = reads_on c.args.codes.now (length text) text at c.len-at.result (state_of c.loop-at.reader) (state_of c.in_ok-reader.reader) (token_of c.token_at-token.result)
-    c.loop-at-test.true (sym c.is_blank.ensures ∙ c.if-is_blank.false) c.token_at-token.ensures c.len-at.ensures c.in_ok-reader.ensures in
+    let on = reads_on c.args.codes.now (length text) text at c.len-at.result (state_of c.loop-at.reader) (state_of c.take.new.self) (token_of c.token_at-token.result)
+    c.loop-at-test.true (sym c.is_blank.ensures ∙ c.if-is_blank.false) c.token_at-token.ensures c.len-at.ensures c.in_ok-take.ensures in
     record { within = omega (arith, within.1, len); same = sym on ∙ c.loop-at.invariant.same }
 
 pub returns-clause-answer : goal.returns-clause-answer

@@ -9,26 +9,26 @@ use Rattle.supplement.proofs.wake_index.WakeIndex.+note_codes.Goals as goal
 
 pub returns-in_ok-note_codes-in-And : goal.returns-in_ok-note_codes-in-And
 returns-in_ok-note_codes-in-And t c =
-    let l = c.deref-in-And.result.now in
-    let r = c.deref-in-And-2.result.now in
+    let l = c.deref-in-And.result.now.left in
+    let r = c.deref-in-And-2.result.now.right in
     let old = c.args.self.now in
     let mid = c.note_codes-in-And.new.self in
     let new = c.note_codes-in-And-2.new.self in
     let whole : both l r ≡ c.args.formula.now =
-    ap (λ f. both f r) c.deref-in-And.ensures ∙ ap (both c.in-And.left.value) c.deref-in-And-2.ensures ∙ ap rule_of_node (sym c.in-And.is) ∙ c.node.ensures in
+    ap (λ s. both s.left r) c.deref-in-And.ensures ∙ ap (λ s. both c.in-And.sides.value.left s.right) c.deref-in-And-2.ensures ∙ ap rule_of_node (sym c.in-And.is) ∙ c.node.ensures in
     IfOk-weaker _ (λ _. Notes mid new c.args.rule (λ k. occurs k r)) (λ _. Notes old new c.args.rule (λ k. occurs k c.args.formula.now))
     (λ _ two. subst (λ (f : Rule). Notes old new c.args.rule (λ k. occurs k f)) whole (notes_both old mid new c.args.rule (λ k. occurs k l) (λ k. occurs k r) c.in_ok-note_codes-in-And.ensures two))
     c.note_codes-in-And-2.ensures
 
 pub returns-in_ok-note_codes-in-Or : goal.returns-in_ok-note_codes-in-Or
 returns-in_ok-note_codes-in-Or t c =
-    let l = c.deref-in-Or.result.now in
-    let r = c.deref-in-Or-2.result.now in
+    let l = c.deref-in-Or.result.now.left in
+    let r = c.deref-in-Or-2.result.now.right in
     let old = c.args.self.now in
     let mid = c.note_codes-in-Or.new.self in
     let new = c.note_codes-in-Or-2.new.self in
     let whole : either l r ≡ c.args.formula.now =
-    ap (λ f. either f r) c.deref-in-Or.ensures ∙ ap (either c.in-Or.left.value) c.deref-in-Or-2.ensures ∙ ap rule_of_node (sym c.in-Or.is) ∙ c.node.ensures in
+    ap (λ s. either s.left r) c.deref-in-Or.ensures ∙ ap (λ s. either c.in-Or.sides.value.left s.right) c.deref-in-Or-2.ensures ∙ ap rule_of_node (sym c.in-Or.is) ∙ c.node.ensures in
     IfOk-weaker _ (λ _. Notes mid new c.args.rule (λ k. occurs k r)) (λ _. Notes old new c.args.rule (λ k. occurs k c.args.formula.now))
     (λ _ two. subst (λ (f : Rule). Notes old new c.args.rule (λ k. occurs k f)) whole (notes_both old mid new c.args.rule (λ k. occurs k l) (λ k. occurs k r) c.in_ok-note_codes-in-Or.ensures two))
     c.note_codes-in-Or-2.ensures

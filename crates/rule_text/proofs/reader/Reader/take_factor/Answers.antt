@@ -1,4 +1,4 @@
-use Rattle.rule_text.proofs.reader.Awaiting.take.Goals as goal
+use Rattle.rule_text.proofs.reader.Reader.take_factor.Goals as goal
 
 pub returns-in-Minus : goal.returns-in-Minus
 returns-in-Minus c = rw c.in-Minus.is (c.minus.ensures c.args.codes.now)

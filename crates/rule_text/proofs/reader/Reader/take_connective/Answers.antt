@@ -1,4 +1,4 @@
-use Rattle.rule_text.proofs.reader.Complete.take.Goals as goal
+use Rattle.rule_text.proofs.reader.Reader.take_connective.Goals as goal
 
 pub returns-in-Plus : goal.returns-in-Plus
 returns-in-Plus c = λ names. rw c.in-Plus.is (c.plus.ensures names)
