@@ -1,20 +1,23 @@
 -- Where the passes find no fault, the heading, the names and the records make a book that meets its condition.
-use Rattle.std.proofs.Common.{◌≡◌, ◌≤◌, ◌++◌, ℕ, Bool, true, false, List, length, map, Option, Some, None, Result, Ok, Err, refl, sym, ap, ◌∙◌, subst, arith, if◌then◌else◌}
-use Rattle.std.specs.Prelude.{nat_lt, All}
+use Rattle.std.proofs.Common.{◌≡◌, ◌≤◌, ◌++◌, ℕ, Bool, true, false, List, [], ◌∷◌, length, map, Option, Some, None, Result, Ok, Err, refl, sym, ap, ◌∙◌, subst, arith, if◌then◌else◌}
+use Rattle.std.specs.Prelude.{nat_lt, not, All}
+use Rattle.std.specs.Str.{is_utf8}
 use Rattle.std.specs.List.{IsDistinct}
 use Rattle.std.proofs.lemmas.List.{length-map}
 use Rattle.pb_base.specs.Names.{same_name}
+use Rattle.book_model.specs.Contents.{Contents}
 use Rattle.book_model.specs.Book.{IsBook, PositionFits, VariantFits}
 use Rattle.book_model.specs.declared.record.Supplement.{Supplement}
 use Rattle.book_model.specs.declared.record.Construct.{Construct}
 use Rattle.book_model.specs.declared.record.Module.{Module}
 use Rattle.book_model.specs.declared.record.Position.{Position}
 use Rattle.book_model.specs.declared.record.Variant.{Variant}
-use Rattle.book_text.specs.Rows.{Row}
-use Rattle.book_text.specs.Fault.{and_then}
+use Rattle.book_text.specs.Rows.{Row, rows_of}
+use Rattle.book_text.specs.Fault.{and_then, at_row}
 use Rattle.book_text.specs.Fields.{field, is_width, name_in, day_in, term_in}
 use Rattle.book_text.specs.Kind.{kind_of}
 use Rattle.book_text.specs.Entry.{book_in, heading_of_kind, heading_of}
+use Rattle.book_text.specs.BookText.{book_of, book_of_rows, book_behind, book_named}
 use Rattle.book_text.specs.FirstPass.{first_pass}
 use Rattle.book_text.specs.Records.{Records, book_with}
 use Rattle.book_text.specs.SecondPass.{second_pass}
@@ -24,8 +27,8 @@ use Rattle.book_text.specs.declared.fields.Days.{Days}
 use Rattle.book_text.specs.declared.names.Names.{Names}
 use Rattle.book_text.specs.declared.entry.Heading.{Heading}
 use Rattle.book_text.specs.declared.fault.BookKind.{BookKind}
-use Rattle.book_text.specs.declared.fault.BookKind.TheVariants.{FieldCount, BadDays}
-use Rattle.book_text.proofs.Faultless.{and_then-Ok}
+use Rattle.book_text.specs.declared.fault.BookKind.TheVariants.{FieldCount, BadDays, TooLarge, NotUtf8}
+use Rattle.book_text.proofs.Faultless.{and_then-Ok, at_row-Ok}
 use Rattle.book_text.proofs.NamesLaw.{NamesFit, first_pass-fits}
 use Rattle.book_text.proofs.RecordsLaw.{RecordsFit, AreNamed, second_pass-fits, passes-named}
 
@@ -111,3 +114,24 @@ pub passes-book : (heading : Heading) (rows : List Row) (names : Names) (records
 passes-book heading rows names records ordered first second =
     whole-book heading names records ordered (first_pass-fits heading.term rows names first)
     (second_pass-fits heading.term names rows records second) (passes-named heading.term names rows records first second)
+
+-- what the rows of a text read as, if they have no fault, is a book
+pub rows-book : (rows : List Row) (b : Contents) → book_of_rows rows ≡ Ok b → IsBook b
+rows-book [] b h = cc
+rows-book (row ∷ rows) b h =
+    let (heading, headed, read) = and_then-Ok (at_row 1 (heading_of row)) (λ heading. book_behind heading rows) b h in
+    let (names, first, named) = and_then-Ok (first_pass heading.term rows) (λ names. book_named heading names rows) b read in
+    let (records, second, same) = and_then-Ok (second_pass heading.term names rows) (λ records. Ok (book_with heading names records)) b named in
+    let is : book_with heading names records ≡ b = cc in
+    subst IsBook is (passes-book heading rows names records (heading_of-ordered row heading (at_row-Ok 1 (heading_of row) heading headed)) first second)
+
+-- and so is what the text reads as
+whole-by : (large utf8 : Bool) (rows : List Row) (b : Contents)
+    → (if large then at_row 0 (Err TooLarge) else if not utf8 then at_row 0 (Err NotUtf8) else book_of_rows rows) ≡ Ok b → IsBook b
+whole-by true utf8 rows b h = cc
+whole-by false false rows b h = cc
+whole-by false true rows b h = rows-book rows b h
+
+pub book_of-book : (text : List ℕ) (b : Contents) → book_of text ≡ Ok b → IsBook b
+unfolding book_of
+book_of-book text b h = whole-by (nat_lt 1048576 (length text)) (is_utf8 text) (rows_of text) b h

@@ -7,6 +7,7 @@
 use Rattle.std.specs.Prelude.{ℕ, ◌+◌, ◌*◌, ◌-◌, Bool, true, false, not, ◌&&◌, ◌==◌, List, [], ◌∷◌, length, drop, Option, Some, None, Result, Ok, Err, nat_le, nat_lt, slice_index_or, if◌then◌else◌, codes}
 use Rattle.std.specs.List.{list_all}
 use Rattle.pb_base.specs.Names.{is_name, is_code_name, is_part, same_name}
+use Rattle.pb_base.specs.Digits.{is_number, value_of}
 use Rattle.book_text.specs.Rows.{Row}
 use Rattle.book_text.specs.Fault.{and_then}
 use Rattle.book_text.specs.declared.fields.Days.{Days}
@@ -46,20 +47,6 @@ is_mandatory_in text =
     if same_name text (codes "mandatory") then Ok true
     else if same_name text (codes "optional") then Ok false
     else Err BadName
-
-abbrev pub is_digit : ℕ → Bool
-is_digit b = nat_le 48 b && nat_le b 57
-
-abbrev pub is_number : List ℕ → Bool
-is_number text = nat_le 1 (length text) && nat_le (length text) 5 && list_all is_digit text
-
--- the value of the digits behind those whose value is `front`
-abbrev pub value_from : ℕ → List ℕ → ℕ
-value_from front [] = front
-value_from front (digit ∷ digits) = value_from (10 * front + (digit - 48)) digits
-
-abbrev pub value_of : List ℕ → ℕ
-value_of text = value_from 0 text
 
 abbrev pub number_in : ℕ → ℕ → List ℕ → Result ℕ BookKind
 number_in low high text =

@@ -1,12 +1,11 @@
 //! The fields of a row, each read by its form.
-ghost use Rattle.std.specs.Prelude.{◌≡◌, ◌≤◌, length, true};
-ghost use Rattle.std.specs.List.{list_all};
+ghost use Rattle.std.specs.Prelude.{◌≡◌};
 ghost use Rattle.csv.specs.Records.{fields_of};
-ghost use Rattle.book_text.specs.Fields.{name_in, code_name_in, code_or_star_in, part_in, module_in, is_mandatory_in, is_digit, is_number, value_of, number_in, day_in, day_or, term_in, days_in, field, is_width};
+ghost use Rattle.book_text.specs.Fields.{name_in, code_name_in, code_or_star_in, part_in, module_in, is_mandatory_in, number_in, day_in, day_or, term_in, days_in, field, is_width};
 
 use crate::fault::BookKind;
 use csv::ByteRecord;
-use pb_base::{CodeName, Id, Part};
+use pb_base::{CodeName, Id, Part, number_of};
 
 /// A span of days: the term of a book, or the days on which a record is active. Both ends belong to it.
 #[derive(Clone, Copy)]
@@ -107,14 +106,10 @@ pub fn is_mandatory_in(text: &[u8]) -> Result<bool, BookKind>
 pub fn number_in(low: u32, high: u32, text: &[u8]) -> Result<u32, BookKind>
     ensures { result ≡ number_in low high text.now }
 {
-    if !is_number(text) {
-        return Err(BookKind::BadNumber);
+    match number_of(text) {
+        Some(value) if low <= value && value <= high => Ok(value),
+        _ => Err(BookKind::BadNumber),
     }
-    let value = value_of(text);
-    if value < low || value > high {
-        return Err(BookKind::BadNumber);
-    }
-    Ok(value)
 }
 
 pub fn day_in(text: &[u8]) -> Result<u32, BookKind>
@@ -155,33 +150,4 @@ pub fn days_in(term: Days, first: &[u8], last: &[u8]) -> Result<Days, BookKind>
         return Err(BookKind::BadDays);
     }
     Ok(Days { from, until })
-}
-
-// Whether the text has 1 to 5 digits and nothing else.
-fn is_number(text: &[u8]) -> bool
-    ensures { result ≡ is_number text.now }
-{
-    if text.is_empty() || text.len() > 5 {
-        return false;
-    }
-    are_digits(text)
-}
-
-fn are_digits(text: &[u8]) -> bool
-    ensures { result ≡ list_all is_digit text.now }
-{
-    text.iter().all(|b| b.is_ascii_digit())
-}
-
-// The value of 1 to 5 digits.
-fn value_of(text: &[u8]) -> u32
-    requires short { length text.now ≤ 5 }
-    requires digits { list_all is_digit text.now ≡ true }
-    ensures { result ≡ value_of text.now }
-{
-    let mut value = 0;
-    for b in text {
-        value = 10 * value + u32::from(*b - b'0');
-    }
-    value
 }

@@ -3,3 +3,4 @@ pub mod Texts
 pub mod Sinks
 pub mod Replies
 pub mod Answered
+pub mod Verified

@@ -1,6 +1,7 @@
 -- What a run does to the outside.
-use Rattle.std.specs.Prelude.{◌≡◌, ◌⊎◌, ℕ, ◌≤◌, List, [], ◌∷◌, ◌++◌, Option, Some, IfSome, IfOk, take, drop, codes}
+use Rattle.std.specs.Prelude.{◌≡◌, ◌⊎◌, ℕ, ◌≤◌, List, [], ◌∷◌, ◌++◌, Option, Some, IfSome, IfOk, IsOkAnd, take, drop, codes}
 use Rattle.book_model.specs.Contents.{Contents}
+use Rattle.book_model.specs.Sound.{IsReleasable}
 use Rattle.book_text.specs.BookText.{book_of}
 use Rattle.pb_outside.specs.Faults.{Rose}
 use Rattle.pb_outside.specs.Files.{NamedBytes, ReadsFile}
@@ -37,6 +38,11 @@ RepliesTo command files input r = (content : Option (List ℕ)) × CameFrom file
 -- a reply to the content of this file
 abbrev pub RepliesToFile : Contents → List ℕ → Option (List NamedBytes) → Reply → Type 0
 RepliesToFile b file files r = (content : Option (List ℕ)) × ReadsFile file cert_limit files content × (r ≡ content_reply b content)
+
+-- where the words ask for the check of a certificate, the input is a book that can be released: on every day of its term
+-- some set of codes is good, and every good set selects one variant at each mandatory position and nowhere two
+abbrev pub ShowsRelease : List (List ℕ) → Option (List ℕ) → Type 0
+ShowsRelease words left = (file : List ℕ) → command_in words ≡ Some (Verify file) → IfSome left (λ all. IsOkAnd (book_of (take input_limit all)) IsReleasable)
 
 -- the text was written whole, the status is the reply's, and the log has the notes on which it rests
 pub record Gives (r : Reply) (status : ℕ) (taken taken' : Option (List ℕ)) (log log' : List Note) : Type 0 where

@@ -6,7 +6,7 @@ use Rattle.std.specs.Option.{option_map, option_and_then}
 use Rattle.std.specs.List.{list_all}
 use Rattle.std.specs.declared.alloc.Global.{Global}
 use Rattle.pb_base.specs.Names.{same_name, is_code_name}
-use Rattle.book_text.specs.Fields.{is_number, value_of}
+use Rattle.pb_base.specs.Digits.{number_of}
 use Rattle.partsbook.specs.declared.command.Command.{Command}
 use Rattle.partsbook.specs.declared.command.Command.TheVariants.{Order, Verify}
 
@@ -14,16 +14,13 @@ use Rattle.partsbook.specs.declared.command.Command.TheVariants.{Order, Verify}
 abbrev pub texts_of : List (String Global) → List (List ℕ)
 texts_of words = map string_bytes words
 
--- a day is 1 to 5 digits
-abbrev pub day_in : List ℕ → Option ℕ
-day_in text = if is_number text then Some (value_of text) else None
-
 abbrev pub codes_in : List (List ℕ) → Option (List (List ℕ))
 codes_in texts = if list_all is_code_name texts then Some texts else None
 
+-- a day is 1 to 5 digits
 abbrev pub order_in : List (List ℕ) → Option Command
 order_in [] = None
-order_in (day ∷ names) = option_and_then (λ on. option_map (λ ordered. Order on ordered) (codes_in names)) (day_in day)
+order_in (day ∷ names) = option_and_then (λ on. option_map (λ ordered. Order on ordered) (codes_in names)) (number_of day)
 
 -- a word that begins with `-` names no file
 abbrev pub is_file_name : List ℕ → Bool

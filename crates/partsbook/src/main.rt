@@ -4,7 +4,6 @@
 mod cert_text;
 mod certify;
 mod command;
-mod day;
 mod deliver;
 mod fault_text;
 mod file_name;

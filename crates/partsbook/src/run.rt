@@ -2,7 +2,7 @@
 ghost use Rattle.std.specs.Prelude.{◌≡◌, ◌≢◌, ◌⊎◌, ◌≤◌, IfOk, IfSome, IsNone, take};
 ghost use Rattle.pb_outside.specs.Faults.{Rose};
 ghost use Rattle.partsbook.specs.Reply.{IsAnswerStatus, IsValid};
-ghost use Rattle.partsbook.specs.Run.{input_limit, GivesFor, GivesReply, GivesReplyTo, LeavesRest, RepliesTo, TellsReadFault, TellsSink};
+ghost use Rattle.partsbook.specs.Run.{input_limit, GivesFor, GivesReply, GivesReplyTo, LeavesRest, RepliesTo, ShowsRelease, TellsReadFault, TellsSink};
 ghost use Rattle.partsbook.specs.Words.{texts_of, command_in};
 
 use crate::certify::verify_reply;
@@ -36,6 +36,8 @@ pub fn run<S: Source, K: Sink, F: Files>(
     ensures reply { result ≢ 4 → result ≢ 5 → result ≢ 9 → GivesReply (texts_of words.now) (S.left source.old) (F.files files.old) result (K.taken sink.old) (K.taken sink.new) log.old log.new }
     ensures input_read { result ≢ 2 → result ≢ 4 → result ≢ 5 → result ≢ 9 → LeavesRest (S.left source.old) (S.left source.new) }
     ensures files_kept { F.files files.new ≡ F.files files.old }
+    // What was verified can be released.
+    ensures verified { result ≡ 0 → ShowsRelease (texts_of words.now) (S.left source.old) }
 
     ensures usage { IsNone (command_in (texts_of words.now)) → (result ≡ 2) ⊎ (result ≡ 5) ⊎ (result ≡ 9) }
     ensures usage_only { result ≡ 2 → IsNone (command_in (texts_of words.now)) }

@@ -3,9 +3,8 @@ ghost use Rattle.std.specs.Prelude.{◌≡◌, IfOk};
 ghost use Rattle.partsbook.specs.Words.{texts_of, codes_in, order_in, is_file_name, verify_in, command_in};
 
 use crate::command::Command;
-use crate::day::day_in;
 use crate::file_name::FileName;
-use pb_base::{CodeList, CodeName, Memory};
+use pb_base::{CodeList, CodeName, Memory, number_of};
 use std::alloc::Global;
 
 /// The command that the words ask for, or None where they are of no form.
@@ -31,7 +30,7 @@ fn order_in(alloc: Global, words: &[String]) -> Result<Option<Command>, Memory>
     let Some((day, names)) = words.split_first() else {
         return Ok(None);
     };
-    let Some(day) = day_in(day.as_bytes()) else {
+    let Some(day) = number_of(day.as_bytes()) else {
         return Ok(None);
     };
     match codes_in(alloc, names)? {

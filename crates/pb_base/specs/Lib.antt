@@ -6,3 +6,4 @@ pub mod Node
 pub mod NodeDepth
 pub mod Padding
 pub mod Table
+pub mod Digits

@@ -7,6 +7,7 @@ mod code_list;
 mod code_set;
 mod code_table;
 mod day;
+mod digits;
 mod formula;
 mod names;
 mod padded;
@@ -17,6 +18,7 @@ pub use code_list::CodeList;
 pub use code_set::CodeSet;
 pub use code_table::CodeTable;
 pub use day::Day;
+pub use digits::number_of;
 pub use formula::{Formula, Node};
 pub use names::{CodeName, Id, Part};
 

@@ -1,14 +1,11 @@
-//! Days in a command line.
-ghost use Rattle.std.specs.Prelude.{◌≡◌, ◌≤◌, length, true};
+//! Numbers of a few digits.
+ghost use Rattle.std.specs.Prelude.{◌≡◌, length, true};
 ghost use Rattle.std.specs.List.{list_all};
-ghost use Rattle.book_text.specs.Fields.{is_digit, is_number, value_of};
-ghost use Rattle.partsbook.specs.Words.{day_in};
+ghost use Rattle.pb_base.specs.Digits.{is_digit, is_number, value_of, number_of};
 
-use pb_base::Day;
-
-/// The day that 1 to 5 digits name, or None for any other text.
-pub fn day_in(text: &[u8]) -> Option<Day>
-    ensures { result ≡ day_in text.now }
+/// The number that 1 to 5 digits write, with or without leading zeros, or None for any other text.
+pub fn number_of(text: &[u8]) -> Option<u32>
+    ensures { result ≡ number_of text.now }
 {
     if is_number(text) {
         Some(value_of(text))
@@ -29,7 +26,6 @@ fn are_digits(text: &[u8]) -> bool
     text.iter().all(|b| b.is_ascii_digit())
 }
 
-// The value of 1 to 5 digits.
 fn value_of(text: &[u8]) -> u32
     requires { is_number text.now ≡ true }
     ensures { result ≡ value_of text.now }
