@@ -1,29 +1,55 @@
 //! The rows of a book's text, as `csv` reads them.
-ghost use Rattle.std.specs.Prelude.{◌≡◌, ◌≤◌, IfOk, length, map};
+ghost use Rattle.std.specs.Prelude.{◌≡◌, ◌≤◌, IfOk, length};
 ghost use Rattle.csv.specs.Records.{fields_of};
-ghost use Rattle.book_text.specs.Rows.{rows_of, AreWithin};
+ghost use Rattle.book_text.specs.Rows.{rows_of, IsNext, IsShort};
 
-use csv::{ByteRecord, ReaderBuilder};
-use std::alloc::{AllocError, Global};
+use csv::{ByteRecord, Reader, ReaderBuilder};
+use pb_base::Memory;
+use std::alloc::Global;
+use std::marker::Model;
 
-/// The rows of a text, in order: no header row, and rows of any length. The only error is want of
-/// memory.
-pub fn read_rows(alloc: Global, text: &[u8]) -> Result<Vec<ByteRecord>, AllocError>
-    ensures rows { IfOk result (λ rows. map fields_of rows.items ≡ rows_of text.now) }
-    ensures count { IfOk result (λ rows. length rows.items ≤ length text.now) }
-    ensures short { IfOk result (λ rows. AreWithin (length text.now) (map fields_of rows.items)) }
-{
-    let reader = ReaderBuilder::new()
-        .has_headers(false)
-        .flexible(true)
-        .from_reader(alloc, text);
-    let mut rows = Vec::new(alloc);
-    for row in reader.into_byte_records() {
-        match row {
-            Ok(row) => rows.push(row)?,
+/// The rows of a text that are left to be read, in order: no header row, and rows of any length. A contract sees the list of them.
+#[derive(Drop)]
+pub struct Rows<'t> {
+    reader: Reader<&'t [u8]>,
+}
+
+impl<'t> Model for Rows<'t> {
+    ghost use Rattle.book_text.specs.Rows.{Row};
+    ghost use Rattle.std.specs.Prelude.{List};
+
+    ghost Value = { List Row };
+
+    ghost use Rattle.book_text.specs.Unread.{unread_rows, IsReading};
+
+    ghost view = { λ r. unread_rows r.reader };
+
+    ghost invariant = { λ r. IsReading r.reader };
+}
+
+impl<'t> Rows<'t> {
+    /// All rows of a text.
+    pub fn of(alloc: Global, text: &'t [u8]) -> Rows<'t>
+        requires { length text.now ≤ 1048576 }
+        ensures rows { result ≡ rows_of text.now }
+        ensures count { length result ≤ length text.now }
+    {
+        let reader = ReaderBuilder::new()
+            .has_headers(false)
+            .flexible(true)
+            .from_reader(alloc, text);
+        Rows { reader }
+    }
+
+    /// Reads the next row in place of the one that `row` holds, and says whether there was one.
+    pub fn read(&mut self, row: &mut ByteRecord) -> Result<bool, Memory>
+        ensures next { IfOk result (λ found. IsNext found (fields_of row.new) self.old self.new) }
+        ensures short { IfOk result (λ _. IsShort (fields_of row.new)) }
+    {
+        match self.reader.read_byte_record(row) {
+            Ok(found) => Ok(found),
             // No error but want of memory comes from a slice.
-            Err(_) => return Err(AllocError),
+            Err(_) => Err(Memory),
         }
     }
-    Ok(rows)
 }
