@@ -1,5 +1,5 @@
 -- What the rows say: the record of each, and the text of its rule. The second pass needs no more of them.
-use Rattle.std.specs.Prelude.{◌≡◌, ⊥, ℕ, List, [], ◌∷◌, Result, Ok}
+use Rattle.std.specs.Prelude.{◌≡◌, ℕ, List, [], ◌∷◌, Result, Ok}
 use Rattle.std.specs.List.{zip}
 use Rattle.book_text.specs.Rows.{Row}
 use Rattle.book_text.specs.Entry.{entry_of, rule_text_of}

@@ -1,12 +1,11 @@
 //! The first pass over the rows: what each says by itself, and its name beside those before it.
-ghost use Rattle.std.specs.Prelude.{◌≡◌, ◌≤◌, ◌++◌, [], ◌∷◌, IfOk, OnOk, length};
-ghost use Rattle.csv.specs.Records.{fields_of, partial_of};
+ghost use Rattle.std.specs.Prelude.{◌≡◌, ◌≤◌, Ok, IfOk, length};
+ghost use Rattle.csv.specs.Records.{fields_of};
+ghost use Rattle.book_text.specs.Entry.{entry_of};
 ghost use Rattle.book_text.specs.Fault.{Gives};
 ghost use Rattle.book_text.specs.FirstPass.{entered_row, first_pass};
-ghost use Rattle.book_text.specs.Names.{no_names};
 ghost use Rattle.book_text.specs.Rows.{IsShort};
 ghost use Rattle.book_text.specs.Said.{AreSaid};
-ghost use Rattle.book_text.specs.Surveyed.{Adds};
 
 use crate::entry::{Entry, entry_of, rule_text_of};
 use crate::fault::{BookFault, BookKind};
@@ -39,49 +38,39 @@ pub fn first_pass(
     ensures said { IfOk result (λ s. AreSaid term rows.old s.entries.items (fields_of s.texts)) }
     ensures short { IfOk result (λ s. IsShort (fields_of s.texts)) }
 {
-    let mut survey = Survey::new(alloc);
-    while rows.read(row)? {
-        let number = survey.entries.len() as u32 + 2;
-        match survey.enter(term, row) {
-            Ok(()) => {}
+    let mut names = Names::new(alloc);
+    let mut entries = Vec::new(alloc);
+    let mut texts = ByteRecord::new(alloc);
+    'rows: while rows.read(row)? {
+        match enter_row(&mut names, term, row) {
+            Ok(entry) => {
+                texts.push_field(rule_text_of(&entry, row))?;
+                entries.push(entry)?;
+            }
             Err(Fail::Refused(kind)) => {
+                let number = entries.len() as u32 + 2;
                 return Err(Fail::Refused(BookFault { row: number, kind }));
             }
             Err(Fail::Memory) => return Err(Fail::Memory),
         }
     }
-    Ok(survey)
+    Ok(Survey {
+        names,
+        entries,
+        texts,
+    })
 }
 
-impl Survey {
-    // The survey of no rows.
-    fn new(alloc: Global) -> Survey
-        ensures names { result.names ≡ no_names }
-        ensures entries { result.entries.items ≡ [] }
-        ensures texts { fields_of result.texts ≡ [] }
-        ensures whole { partial_of result.texts ≡ [] }
-    {
-        Survey {
-            names: Names::new(alloc),
-            entries: Vec::new(alloc),
-            texts: ByteRecord::new(alloc),
+// The record of a row, whose name joins the others.
+fn enter_row(names: &mut Names, term: Days, row: &ByteRecord) -> Result<Entry, Fail<BookKind>>
+    ensures names { Gives result (λ _. names.new) (entered_row term names.old (fields_of row.now)) }
+    ensures entry { IfOk result (λ entry. entry_of term (fields_of row.now) ≡ Ok entry) }
+{
+    match entry_of(term, row) {
+        Ok(entry) => {
+            names.enter(&entry)?;
+            Ok(entry)
         }
-    }
-
-    // Adds what a row says.
-    fn enter(&mut self, term: Days, row: &ByteRecord) -> Result<(), Fail<BookKind>>
-        requires whole { partial_of self.old.texts ≡ [] }
-        ensures names { Gives result (λ _. self.new.names) (entered_row term self.old.names (fields_of row.now)) }
-        ensures said { OnOk result (Adds term (fields_of row.now) self.old self.new) }
-    {
-        match entry_of(term, row) {
-            Ok(entry) => {
-                self.names.enter(&entry)?;
-                self.texts.push_field(rule_text_of(&entry, row))?;
-                self.entries.push(entry)?;
-                Ok(())
-            }
-            Err(kind) => Err(Fail::Refused(kind)),
-        }
+        Err(kind) => Err(Fail::Refused(kind)),
     }
 }
