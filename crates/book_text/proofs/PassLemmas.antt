@@ -2,7 +2,7 @@
 use Rattle.std.proofs.Common.{◌≡◌, ◌+◌, ◌<◌, ◌≤◌, ℕ, List, [], ◌∷◌, Result, Ok, Err, refl, sym, ◌∙◌, ap, length, get_or, drop, ◌++◌, arith}
 use Rattle.std.specs.List.{zip}
 use Rattle.std.proofs.lemmas.List.{drop_more, drop_all}
-use Rattle.book_text.specs.Rows.{Row}
+use Rattle.book_text.specs.Rows.{Row, IsShort}
 use Rattle.book_text.specs.Fault.{and_then, at_row}
 use Rattle.book_text.specs.Pass.{pass}
 use Rattle.book_text.specs.Entry.{entry_of, rule_text_of}
@@ -12,6 +12,7 @@ use Rattle.book_text.specs.SecondPass.{resolved, resolved_row}
 use Rattle.book_text.specs.declared.fields.Days.{Days}
 use Rattle.book_text.specs.declared.names.Names.{Names}
 use Rattle.book_text.specs.declared.entry.Entry.{Entry}
+use Rattle.book_text.specs.declared.entry.Entry.TheVariants as e
 use Rattle.book_text.specs.declared.fault.BookFault.{BookFault}
 use Rattle.book_text.specs.declared.fault.BookKind.{BookKind}
 
@@ -68,10 +69,10 @@ pub said-push : (term : Days) (rows : List Row) (entries : List Entry) (texts : 
 unfolding AreSaid
 said-push term [] [] [] row entry h is = (is, refl, tt)
 said-push term [] [] (t ∷ texts) row entry h is = absurd h
-said-push term [] (e ∷ entries) texts row entry h is = absurd h
+said-push term [] (x ∷ entries) texts row entry h is = absurd h
 said-push term (r ∷ rows) [] texts row entry h is = absurd h
-said-push term (r ∷ rows) (e ∷ entries) [] row entry h is = absurd h
-said-push term (r ∷ rows) (e ∷ entries) (t ∷ texts) row entry (said, text, more) is = (said, text, said-push term rows entries texts row entry more is)
+said-push term (r ∷ rows) (x ∷ entries) [] row entry h is = absurd h
+said-push term (r ∷ rows) (x ∷ entries) (t ∷ texts) row entry (said, text, more) is = (said, text, said-push term rows entries texts row entry more is)
 
 -- what is left of two lists, side by side, from a place in both on
 zip-drop : {X Y : Type 0} (xs : List X) (ys : List Y) (k : ℕ) (x : X) (y : Y) → k < length xs → k < length ys
@@ -108,3 +109,12 @@ module _ (names : Names) (k : ℕ) (r : Records) (entries : List Entry) (texts :
       let none : zip (drop k entries) (drop k texts) ≡ [] = rw (drop_all k entries past) refl in
       ap (λ (said : List (Entry × List ℕ)). pass (λ state said. resolved names state said.0 said.1) (k + 2) r said) none
       ∙ pass-end (λ state (said : Entry × List ℕ). resolved names state said.0 said.1) (k + 2) r
+
+-- the text of a rule is as short as the fields of its row
+pub rule_text-short : (entry : Entry) (row : Row) → IsShort row → length (rule_text_of entry row) ≤ 1048576
+rule_text-short (e.Code name) row h = omega arith
+rule_text-short (e.Supplement id rank code days) row h = h 4
+rule_text-short (e.Construct id on days) row h = h 3
+rule_text-short (e.Module id) row h = omega arith
+rule_text-short (e.Position id group mandatory days) row h = omega arith
+rule_text-short (e.Variant id position part quantity days) row h = h 5

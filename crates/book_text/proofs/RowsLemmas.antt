@@ -74,7 +74,7 @@ enough (suc n) (suc m) s xs b h g =
 abbrev pub Short : ℕ → List (List ℕ) → Type 0
 Short n fields = (place : ℕ) → length (get_or fields place []) ≤ n
 
-short-push : (n : ℕ) (fields : List (List ℕ)) (field : List ℕ) → Short n fields → length field ≤ n → Short n (fields ++ field ∷ [])
+pub short-push : (n : ℕ) (fields : List (List ℕ)) (field : List ℕ) → Short n fields → length field ≤ n → Short n (fields ++ field ∷ [])
 short-push n [] field h l zero = l
 short-push n [] field h l (suc place) = omega arith
 short-push n (f ∷ fields) field h l zero = h 0

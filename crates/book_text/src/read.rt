@@ -36,7 +36,8 @@ pub fn read_book(alloc: Global, text: &[u8]) -> Result<Book, Fail<BookFault>>
     if !is_text(text) {
         return Err(fault(0, BookKind::NotUtf8));
     }
-    book_of_rows(alloc, &mut Rows::of(alloc, text))
+    let mut rows = Rows::of(alloc, text);
+    book_of_rows(alloc, &mut rows)
 }
 
 // Whether the bytes are UTF-8.

@@ -1,9 +1,10 @@
 //! The first pass over the rows: what each says by itself, and its name beside those before it.
-ghost use Rattle.std.specs.Prelude.{◌≡◌, ◌≤◌, Ok, IfOk, length};
-ghost use Rattle.csv.specs.Records.{fields_of};
+ghost use Rattle.std.specs.Prelude.{◌≡◌, ◌≤◌, [], Ok, IfOk, OnOk, length};
+ghost use Rattle.csv.specs.Records.{fields_of, partial_of};
 ghost use Rattle.book_text.specs.Entry.{entry_of};
 ghost use Rattle.book_text.specs.Fault.{Gives};
 ghost use Rattle.book_text.specs.FirstPass.{entered_row, first_pass};
+ghost use Rattle.book_text.specs.Pass.{pass};
 ghost use Rattle.book_text.specs.Rows.{IsShort};
 ghost use Rattle.book_text.specs.Said.{AreSaid};
 
@@ -41,8 +42,30 @@ pub fn first_pass(
     let mut names = Names::new(alloc);
     let mut entries = Vec::new(alloc);
     let mut texts = ByteRecord::new(alloc);
+    enter_rows(&mut names, &mut entries, &mut texts, term, rows, row)?;
+    Ok(Survey {
+        names,
+        entries,
+        texts,
+    })
+}
+
+fn enter_rows(
+    names: &mut Names,
+    entries: &mut Vec<Entry>,
+    texts: &mut ByteRecord,
+    term: Days,
+    rows: &mut Rows<'_>,
+    row: &mut ByteRecord,
+) -> Result<(), Fail<BookFault>>
+    requires count { length rows.old ≤ 1048576 }
+    requires none { (entries.old.items ≡ []) × (fields_of texts.old ≡ []) × (partial_of texts.old ≡ []) }
+    ensures names { Gives result (λ _. names.new) (pass (entered_row term) 2 names.old rows.old) }
+    ensures said { OnOk result (AreSaid term rows.old entries.new.items (fields_of texts.new)) }
+    ensures short { OnOk result (IsShort (fields_of texts.new)) }
+{
     'rows: while rows.read(row)? {
-        match enter_row(&mut names, term, row) {
+        match enter_row(names, term, row) {
             Ok(entry) => {
                 texts.push_field(rule_text_of(&entry, row))?;
                 entries.push(entry)?;
@@ -54,11 +77,7 @@ pub fn first_pass(
             Err(Fail::Memory) => return Err(Fail::Memory),
         }
     }
-    Ok(Survey {
-        names,
-        entries,
-        texts,
-    })
+    Ok(())
 }
 
 // The record of a row, whose name joins the others.

@@ -1,15 +1,15 @@
 use Rattle.std.proofs.Common.{◌≡◌, ◌≤◌, ◌+◌, ◌++◌, List, [], length}
 use Rattle.csv.specs.Records.{fields_of, partial_of}
-use Rattle.book_text.specs.FirstPass.{entered_row, first_pass}
+use Rattle.book_text.specs.FirstPass.{entered_row}
 use Rattle.book_text.specs.Pass.{pass}
 use Rattle.book_text.specs.Rows.{Row, IsShort}
 use Rattle.book_text.specs.Said.{AreSaid}
-use Rattle.book_text.proofs.survey.first_pass.Given as goal
+use Rattle.book_text.proofs.survey.enter_rows.Given as goal
 
 -- the rows are those that were read and those that are left; the pass over the latter gives what the whole pass does
 abbrev pub invariant-rows : goal.invariant-rows
 invariant-rows l = record {
-  rest : pass (entered_row l.term) (length l.entries.items + 2) l.names l.rows ≡ first_pass l.term l.fn.rows;
+  rest : pass (entered_row l.term) (length l.entries.items + 2) l.names l.rows ≡ pass (entered_row l.term) 2 l.fn.names l.fn.rows;
   said : (read : List Row) × (l.fn.rows ≡ read ++ l.rows) × AreSaid l.term read l.entries.items (fields_of l.texts);
   few : length l.entries.items + length l.rows ≤ 1048576;
   short : IsShort (fields_of l.texts);
