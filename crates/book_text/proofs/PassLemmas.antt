@@ -1,5 +1,5 @@
 -- One step of a pass, and the second pass over what the rows say.
-use Rattle.std.proofs.Common.{◌≡◌, ◌+◌, ◌<◌, ◌≤◌, ℕ, List, [], ◌∷◌, Result, Ok, Err, refl, sym, ◌∙◌, ap, length, get_or, drop, ◌++◌, arith}
+use Rattle.std.proofs.Common.{◌≡◌, ◌+◌, ◌<◌, ◌≤◌, ℕ, List, [], ◌∷◌, Result, Ok, Err, refl, ◌∙◌, ap, length, get_or, drop, ◌++◌, arith}
 use Rattle.std.specs.List.{zip}
 use Rattle.std.proofs.lemmas.List.{drop_more, drop_all}
 use Rattle.book_text.specs.Rows.{Row, IsShort}

@@ -1,5 +1,5 @@
 -- The steps of reading a book's text, from its bytes to the passes.
-use Rattle.std.proofs.Common.{◌≡◌, ◌≤◌, ◌<◌, ℕ, Bool, true, false, List, length, Result, Ok, Err, refl, arith, nat_lt}
+use Rattle.std.proofs.Common.{◌≡◌, ◌≤◌, ◌<◌, ℕ, Bool, true, false, List, length, Result, Err, refl, arith, nat_lt}
 use Rattle.std.specs.Str.{is_utf8}
 use Rattle.pb_base.specs.Answers.{Answers}
 use Rattle.pb_base.specs.declared.answer.Fail.{Fail}
