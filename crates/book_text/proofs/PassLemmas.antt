@@ -1,71 +1,120 @@
--- One step of a pass over the rows that a reader gave.
-use Rattle.std.proofs.Common.{◌≡◌, ◌+◌, ◌<◌, ◌≤◌, ℕ, List, [], ◌∷◌, Result, Ok, Err, refl, sym, ◌∙◌, ap, length, get_or, drop, map, take, ◌++◌, append_assoc, arith}
-use Rattle.std.proofs.lemmas.List.{at_drop_more, at_drop_all, get_or-map, map_more, map_push}
-use Rattle.csv.specs.Records.{fields_of, Row as Read}
-use Rattle.book_text.specs.Rows.{Row, AreWithin}
+-- One step of a pass, and the second pass over what the rows say.
+use Rattle.std.proofs.Common.{◌≡◌, ◌+◌, ◌<◌, ◌≤◌, ℕ, List, [], ◌∷◌, Result, Ok, Err, refl, ◌∙◌, ap, length, get_or, drop, ◌++◌, arith}
+use Rattle.std.specs.List.{zip}
+use Rattle.std.proofs.lemmas.List.{drop_more, drop_all}
+use Rattle.book_text.specs.Rows.{Row, IsShort}
+use Rattle.book_text.specs.Fault.{and_then, at_row}
 use Rattle.book_text.specs.Pass.{pass}
-use Rattle.book_text.specs.Entry.{entry_of}
+use Rattle.book_text.specs.Entry.{entry_of, rule_text_of}
 use Rattle.book_text.specs.Records.{Records}
+use Rattle.book_text.specs.Said.{AreSaid, said_pass}
 use Rattle.book_text.specs.SecondPass.{resolved, resolved_row}
 use Rattle.book_text.specs.declared.fields.Days.{Days}
 use Rattle.book_text.specs.declared.names.Names.{Names}
 use Rattle.book_text.specs.declared.entry.Entry.{Entry}
+use Rattle.book_text.specs.declared.entry.Entry.TheVariants as e
 use Rattle.book_text.specs.declared.fault.BookFault.{BookFault}
 use Rattle.book_text.specs.declared.fault.BookKind.{BookKind}
 
-module _ {S : Type 0} (step : S → Row → Result S BookKind) where
-  -- a pass over the rows from a place on
-  abbrev pub pass_rest : ℕ → S → List Read → Result S BookFault
-  pass_rest k state rows = pass step (k + 2) state (map fields_of (drop k rows))
-
-  rest-at : (k : ℕ) (state : S) (rows : List Read) (row : Read) → k < length rows → row ≡ get_or rows k row
-      → pass_rest k state rows ≡ pass step (k + 2) state (fields_of row ∷ map fields_of (drop (k + 1) rows))
-  rest-at k state rows row h is =
-      let whole : pass_rest k state rows ≡ pass step (k + 2) state (fields_of (get_or rows k row) ∷ map fields_of (drop (k + 1) rows)) =
-      at_drop_more (λ rs. pass step (k + 2) state (map fields_of rs)) rows k row h in
-      rw (← is) at whole
-
-  pub pass-more : (k : ℕ) (state next : S) (rows : List Read) (row : Read) → k < length rows → row ≡ get_or rows k row
-      → step state (fields_of row) ≡ Ok next → pass_rest k state rows ≡ pass_rest (k + 1) next rows
+module _ {S X : Type 0} (step : S → X → Result S BookKind) where
+  pub pass-more : (n : ℕ) (state next : S) (x : X) (rest : List X) → step state x ≡ Ok next → pass step n state (x ∷ rest) ≡ pass step (n + 1) next rest
   unfolding pass
-  pass-more k state next rows row h is e =
+  pass-more n state next x rest e = rw e refl
+
+  pub pass-fault : (n : ℕ) (state : S) (x : X) (rest : List X) (kind : BookKind) → step state x ≡ Err kind → pass step n state (x ∷ rest) ≡ Err (record { row = n; kind = kind })
+  unfolding pass
+  pass-fault n state x rest kind e = rw e refl
+
+  pub pass-end : (n : ℕ) (state : S) → pass step n state [] ≡ Ok state
+  unfolding pass
+  pass-end n state = refl
+
+-- what follows a step is the same where it is for each state
+same-after : {S T : Type 0} (n : ℕ) (r : Result S BookKind) (f g : S → Result T BookFault) → ((state : S) → f state ≡ g state)
+    → and_then (at_row n r) f ≡ and_then (at_row n r) g
+same-after n (Ok state) f g h = h state
+same-after n (Err kind) f g h = refl
+
+-- the second pass over the rows is that over what they say
+pub rows-said : (term : Days) (names : Names) (n : ℕ) (r : Records) (rows : List Row) (entries : List Entry) (texts : List (List ℕ)) → AreSaid term rows entries texts
+    → pass (resolved_row term names) n r rows ≡ said_pass names n r entries texts
+unfolding pass AreSaid
+rows-said term names n r [] [] [] h = refl
+rows-said term names n r [] [] (text ∷ texts) h = absurd h
+rows-said term names n r [] (entry ∷ entries) texts h = absurd h
+rows-said term names n r (row ∷ rows) [] texts h = absurd h
+rows-said term names n r (row ∷ rows) (entry ∷ entries) [] h = absurd h
+rows-said term names n r (row ∷ rows) (entry ∷ entries) (text ∷ texts) (said, is, more) =
+    rw (said, is) (
+    same-after n (resolved names r entry (rule_text_of entry row))
+    (λ next. pass (resolved_row term names) (n + 1) next rows)
+    (λ next. said_pass names (n + 1) next entries texts)
+    (λ next. rows-said term names (n + 1) next rows entries texts more))
+
+-- the rows say as many records, with as many texts
+pub said-counts : (term : Days) (rows : List Row) (entries : List Entry) (texts : List (List ℕ)) → AreSaid term rows entries texts
+    → (length entries ≡ length rows) × (length texts ≡ length rows)
+unfolding AreSaid
+said-counts term [] [] [] h = (refl, refl)
+said-counts term [] [] (text ∷ texts) h = absurd h
+said-counts term [] (entry ∷ entries) texts h = absurd h
+said-counts term (row ∷ rows) [] texts h = absurd h
+said-counts term (row ∷ rows) (entry ∷ entries) [] h = absurd h
+said-counts term (row ∷ rows) (entry ∷ entries) (text ∷ texts) (said, is, more) =
+    let rest = said-counts term rows entries texts more in (omega (arith, rest.0), omega (arith, rest.1))
+
+-- one row more, and what it says
+pub said-push : (term : Days) (rows : List Row) (entries : List Entry) (texts : List (List ℕ)) (row : Row) (entry : Entry)
+    → AreSaid term rows entries texts → entry_of term row ≡ Ok entry → AreSaid term (rows ++ row ∷ []) (entries ++ entry ∷ []) (texts ++ rule_text_of entry row ∷ [])
+unfolding AreSaid
+said-push term [] [] [] row entry h is = (is, refl, tt)
+said-push term [] [] (t ∷ texts) row entry h is = absurd h
+said-push term [] (x ∷ entries) texts row entry h is = absurd h
+said-push term (r ∷ rows) [] texts row entry h is = absurd h
+said-push term (r ∷ rows) (x ∷ entries) [] row entry h is = absurd h
+said-push term (r ∷ rows) (x ∷ entries) (t ∷ texts) row entry (said, text, more) is = (said, text, said-push term rows entries texts row entry more is)
+
+-- what is left of two lists, side by side, from a place in both on
+zip-drop : {X Y : Type 0} (xs : List X) (ys : List Y) (k : ℕ) (x : X) (y : Y) → k < length xs → k < length ys
+    → zip (drop k xs) (drop k ys) ≡ (get_or xs k x, get_or ys k y) ∷ zip (drop (k + 1) xs) (drop (k + 1) ys)
+zip-drop xs ys k x y in_xs in_ys = rw (drop_more xs k x in_xs, drop_more ys k y in_ys) refl
+
+-- the pass over what the rows from a place on say
+module _ (names : Names) (k : ℕ) (r : Records) (entries : List Entry) (texts : List (List ℕ)) where
+  abbrev pub said_rest : Result Records BookFault
+  said_rest = said_pass names (k + 2) r (drop k entries) (drop k texts)
+
+  rest-at : (entry : Entry) → k < length entries → k < length texts → entry ≡ get_or entries k entry
+      → said_rest ≡ pass (λ state said. resolved names state said.0 said.1) (k + 2) r ((entry, get_or texts k []) ∷ zip (drop (k + 1) entries) (drop (k + 1) texts))
+  rest-at entry in_entries in_texts is =
+      ap (λ (said : List (Entry × List ℕ)). pass (λ state said. resolved names state said.0 said.1) (k + 2) r said)
+      (rw (← is) at (zip-drop entries texts k entry [] in_entries in_texts))
+
+  pub said-more : (next : Records) (entry : Entry) → k < length entries → k < length texts → entry ≡ get_or entries k entry
+      → resolved names r entry (get_or texts k []) ≡ Ok next → said_rest ≡ said_pass names (k + 1 + 2) next (drop (k + 1) entries) (drop (k + 1) texts)
+  said-more next entry in_entries in_texts is here =
       let number : k + 2 + 1 ≡ k + 1 + 2 = omega arith in
-      rest-at k state rows row h is ∙ rw e (ap (λ n. pass step n next (map fields_of (drop (k + 1) rows))) number)
+      rest-at entry in_entries in_texts is
+      ∙ pass-more (λ state said. resolved names state said.0 said.1) (k + 2) r next (entry, get_or texts k []) (zip (drop (k + 1) entries) (drop (k + 1) texts)) here
+      ∙ ap (λ n. said_pass names n next (drop (k + 1) entries) (drop (k + 1) texts)) number
 
-  pub pass-fault : (k : ℕ) (state : S) (rows : List Read) (row : Read) (kind : BookKind) → k < length rows → row ≡ get_or rows k row
-      → step state (fields_of row) ≡ Err kind → pass_rest k state rows ≡ Err (record { row = k + 2; kind = kind })
-  unfolding pass
-  pass-fault k state rows row kind h is e = rest-at k state rows row h is ∙ rw e refl
+  pub said-fault : (entry : Entry) (kind : BookKind) → k < length entries → k < length texts → entry ≡ get_or entries k entry
+      → resolved names r entry (get_or texts k []) ≡ Err kind → said_rest ≡ Err (record { row = k + 2; kind = kind })
+  said-fault entry kind in_entries in_texts is here =
+      rest-at entry in_entries in_texts is
+      ∙ pass-fault (λ state said. resolved names state said.0 said.1) (k + 2) r (entry, get_or texts k []) (zip (drop (k + 1) entries) (drop (k + 1) texts)) kind here
 
-  pub pass-end : (k : ℕ) (state : S) (rows : List Read) → length rows ≤ k → pass_rest k state rows ≡ Ok state
-  unfolding pass
-  pass-end k state rows h = at_drop_all (λ rs. pass step (k + 2) state (map fields_of rs)) rows k h
+  pub said-end : length entries ≤ k → said_rest ≡ Ok r
+  said-end past =
+      let none : zip (drop k entries) (drop k texts) ≡ [] = rw (drop_all k entries past) refl in
+      ap (λ (said : List (Entry × List ℕ)). pass (λ state said. resolved names state said.0 said.1) (k + 2) r said) none
+      ∙ pass-end (λ state (said : Entry × List ℕ). resolved names state said.0 said.1) (k + 2) r
 
--- a result kept of each row so far, with that of the row at hand
-pub kept-more : {X Y E : Type 0} (f : X → Result Y E) (before : List (Result Y E)) (kept : List Y) (rows : List X) (k : ℕ) (row : X) (value : Y)
-    → map Ok kept ≡ before ++ map f (take k rows) → k < length rows → row ≡ get_or rows k row → f row ≡ Ok value
-    → map Ok (kept ++ value ∷ []) ≡ before ++ map f (take (k + 1) rows)
-kept-more f before kept rows k row value inv h is e =
-    map_push Ok kept value ∙ ap (λ l. l ++ Ok value ∷ []) inv ∙ append_assoc before (map f (take k rows)) (Ok value ∷ [])
-    ∙ ap (λ l. before ++ l) (sym (map_more f rows k row h ∙ rw (← is, e) refl))
-
--- a result kept of each row is that of the row at hand
-pub kept-at : {X Y E : Type 0} (f : X → Result Y E) (kept : List Y) (rows : List X) (k : ℕ) (row : X) (value : Y)
-    → map Ok kept ≡ map f rows → k < length kept → k < length rows → value ≡ get_or kept k value → row ≡ get_or rows k row → f row ≡ Ok value
-kept-at {X} {Y} {E} f kept rows k row value same in_kept in_rows at_kept at_rows =
-    let there : get_or (map f rows) k (Ok value) ≡ f (get_or rows k row) = get_or-map f rows k row (Ok value) in_rows in
-    let as_ok : Y → Result Y E = λ y. Ok y in
-    let kept_there : get_or (map as_ok kept) k (Ok value) ≡ Ok (get_or kept k value) = get_or-map as_ok kept k value (Ok value) in_kept in
-    ap f at_rows ∙ sym there ∙ ap (λ (l : List (Result Y E)). get_or l k (Ok value)) (sym same) ∙ kept_there ∙ ap as_ok (sym at_kept)
-
--- the fields of a row at hand are as short as those of all
-pub short-at : (n : ℕ) (rows : List Read) (k : ℕ) (row : Read) → AreWithin n (map fields_of rows) → k < length rows → row ≡ get_or rows k row
-    → (place : ℕ) → length (get_or (fields_of row) place []) ≤ n
-short-at n rows k row within in_rows at place =
-    let there : get_or (map fields_of rows) k [] ≡ fields_of (get_or rows k row) = get_or-map fields_of rows k row [] in_rows in
-    rw (ap fields_of at, ← there) (within k place)
-
--- the second pass at a row whose record is known
-pub resolved_row-at : (term : Days) (names : Names) (r : Records) (row : Row) (entry : Entry) (answer : Result Records BookKind)
-    → entry_of term row ≡ Ok entry → resolved names r entry row ≡ answer → resolved_row term names r row ≡ answer
-resolved_row-at term names r row entry answer is h = rw is h
+-- the text of a rule is as short as the fields of its row
+pub rule_text-short : (entry : Entry) (row : Row) → IsShort row → length (rule_text_of entry row) ≤ 1048576
+rule_text-short (e.Code name) row h = omega arith
+rule_text-short (e.Supplement id rank code days) row h = h 4
+rule_text-short (e.Construct id on days) row h = h 3
+rule_text-short (e.Module id) row h = omega arith
+rule_text-short (e.Position id group mandatory days) row h = omega arith
+rule_text-short (e.Variant id position part quantity days) row h = h 5

@@ -1,12 +1,10 @@
 -- The steps of reading a book's text, from its bytes to the passes.
-use Rattle.std.proofs.Common.{◌≡◌, ◌≤◌, ◌<◌, ℕ, suc, Bool, true, false, List, ◌∷◌, length, map, Result, Ok, Err, refl, sym, ap, ◌∙◌, arith, nat_lt}
+use Rattle.std.proofs.Common.{◌≡◌, ◌≤◌, ◌<◌, ℕ, Bool, true, false, List, length, Result, Err, refl, arith, nat_lt}
 use Rattle.std.specs.Str.{is_utf8}
-use Rattle.std.proofs.lemmas.List.{length-map}
-use Rattle.csv.specs.Records.{fields_of, Row as Read}
 use Rattle.pb_base.specs.Answers.{Answers}
 use Rattle.pb_base.specs.declared.answer.Fail.{Fail}
 use Rattle.pb_base.specs.declared.answer.Fail.TheVariants.{Refused, Memory}
-use Rattle.book_text.specs.Rows.{rows_of, AreWithin}
+use Rattle.book_text.specs.Rows.{rows_of}
 use Rattle.book_text.specs.Fault.{Gives, and_then}
 use Rattle.book_text.specs.BookText.{book_of, book_of_rows}
 use Rattle.book_text.specs.declared.fault.BookFault.{BookFault}
@@ -33,12 +31,3 @@ pub refused-through : {U A B : Type 0} (error : Fail BookFault) (view : U → A)
     → Gives (Err error) view answer → Answers (Err error) (and_then answer f)
 refused-through (Refused fault) view answer f h = rw h refl
 refused-through Memory view answer f h = tt
-
--- as many results are kept as there are rows
-pub kept-count : {X Y E : Type 0} (f : X → Result Y E) (kept : List Y) (rows : List X) → map Ok kept ≡ map f rows → length kept ≡ length rows
-kept-count {X} {Y} {E} f kept rows h =
-    let as_ok : Y → Result Y E = λ y. Ok y in
-    sym (length-map kept as_ok) ∙ ap length h ∙ length-map rows f
-
-pub short-rest : (n : ℕ) (rows rest : List Read) (first : Read) → rows ≡ first ∷ rest → AreWithin n (map fields_of rows) → AreWithin n (map fields_of rest)
-short-rest n rows rest first is within k place = rw is at (within (suc k) place)

@@ -18,8 +18,7 @@ use Rattle.book_model.specs.declared.record.Position.{Position}
 use Rattle.book_model.specs.declared.record.Variant.{Variant}
 use Rattle.book_text.specs.Rows.{Row}
 use Rattle.book_text.specs.Fault.{and_then}
-use Rattle.book_text.specs.Fields.{field}
-use Rattle.book_text.specs.Entry.{entry_of}
+use Rattle.book_text.specs.Entry.{entry_of, rule_text_of}
 use Rattle.book_text.specs.Names.{no_names, added, added_beside, entered}
 use Rattle.book_text.specs.FirstPass.{entered_row, first_pass}
 use Rattle.book_text.specs.Records.{Records, no_records}
@@ -131,31 +130,31 @@ pub record RecordsFit (all : Names) (r : Records) : Type 0 where
   pub variants : All (VariantFits (length all.codes) (length all.positions)) r.variants
   pub choices : HasFewChoices r.variants
 
-RecordsFit-resolved : (all : Names) (r new : Records) (entry : Entry) (row : Row) → RecordsFit all r → resolved all r entry row ≡ Ok new → RecordsFit all new
-RecordsFit-resolved all r new (e.Code name) row fits h = let same : r ≡ new = cc in subst (RecordsFit all) same fits
-RecordsFit-resolved all r new (e.Supplement id rank code days) row fits h =
-    let (s, is, whole) = and_then-Ok (supplement_of all.codes id rank code days (field row 4)) (λ s. Ok (record r { supplements = r.supplements ++ s ∷ [] })) new h in
+RecordsFit-resolved : (all : Names) (r new : Records) (entry : Entry) (text : List ℕ) → RecordsFit all r → resolved all r entry text ≡ Ok new → RecordsFit all new
+RecordsFit-resolved all r new (e.Code name) text fits h = let same : r ≡ new = cc in subst (RecordsFit all) same fits
+RecordsFit-resolved all r new (e.Supplement id rank code days) text fits h =
+    let (s, is, whole) = and_then-Ok (supplement_of all.codes id rank code days text) (λ s. Ok (record r { supplements = r.supplements ++ s ∷ [] })) new h in
     let same : record r { supplements = r.supplements ++ s ∷ [] } ≡ new = cc in
-    let fit = supplement_of-Ok all.codes id rank code days (field row 4) s is in
+    let fit = supplement_of-Ok all.codes id rank code days text s is in
     subst (RecordsFit all) same (record { supplements = All-push (SupplementFits (length all.codes)) r.supplements s fits.supplements fit.1; constructs = fits.constructs; positions = fits.positions; variants = fits.variants; choices = fits.choices })
-RecordsFit-resolved all r new (e.Construct id on days) row fits h =
-    let (c, is, whole) = and_then-Ok (construct_of all.codes id on days (field row 3)) (λ c. Ok (record r { constructs = r.constructs ++ c ∷ [] })) new h in
+RecordsFit-resolved all r new (e.Construct id on days) text fits h =
+    let (c, is, whole) = and_then-Ok (construct_of all.codes id on days text) (λ c. Ok (record r { constructs = r.constructs ++ c ∷ [] })) new h in
     let same : record r { constructs = r.constructs ++ c ∷ [] } ≡ new = cc in
-    let fit = construct_of-Ok all.codes id on days (field row 3) c is in
+    let fit = construct_of-Ok all.codes id on days text c is in
     subst (RecordsFit all) same (record { supplements = fits.supplements; constructs = All-push (ConstructFits (length all.codes)) r.constructs c fits.constructs fit.1; positions = fits.positions; variants = fits.variants; choices = fits.choices })
-RecordsFit-resolved all r new (e.Module id) row fits h =
+RecordsFit-resolved all r new (e.Module id) text fits h =
     let same : record r { modules = r.modules ++ record { id = id } ∷ [] } ≡ new = cc in
     subst (RecordsFit all) same (record { supplements = fits.supplements; constructs = fits.constructs; positions = fits.positions; variants = fits.variants; choices = fits.choices })
-RecordsFit-resolved all r new (e.Position id group mandatory days) row fits h =
+RecordsFit-resolved all r new (e.Position id group mandatory days) text fits h =
     let (p, is, whole) = and_then-Ok (position_of all.modules id group mandatory days) (λ p. Ok (record r { positions = r.positions ++ p ∷ [] })) new h in
     let same : record r { positions = r.positions ++ p ∷ [] } ≡ new = cc in
     let fit = position_of-Ok all.modules id group mandatory days p is in
     subst (RecordsFit all) same (record { supplements = fits.supplements; constructs = fits.constructs; positions = All-push (PositionFits (length all.modules)) r.positions p fits.positions fit.1; variants = fits.variants; choices = fits.choices })
-RecordsFit-resolved all r new (e.Variant id position part quantity days) row fits h =
-    let (v, is, rest) = and_then-Ok (variant_of all id position part quantity days (field row 5)) (λ v. and_then (with_variant r.variants v) (λ variants. Ok (record r { variants = variants }))) new h in
+RecordsFit-resolved all r new (e.Variant id position part quantity days) text fits h =
+    let (v, is, rest) = and_then-Ok (variant_of all id position part quantity days text) (λ v. and_then (with_variant r.variants v) (λ variants. Ok (record r { variants = variants }))) new h in
     let (variants, joined, whole) = and_then-Ok (with_variant r.variants v) (λ variants. Ok (record r { variants = variants })) new rest in
     let same : record r { variants = variants } ≡ new = cc in
-    let fit = variant_of-Ok all id position part quantity days (field row 5) v is in
+    let fit = variant_of-Ok all id position part quantity days text v is in
     let (room, more) = with_variant-Ok r.variants v variants joined in
     subst (RecordsFit all) same (record {
       supplements = fits.supplements;
@@ -177,7 +176,7 @@ no_records-fit all = record {
 pub second_pass-fits : (term : Days) (names : Names) (rows : List Row) (records : Records) → second_pass term names rows ≡ Ok records → RecordsFit names records
 second_pass-fits term names rows records h =
     pass-keeps (resolved_row term names) (RecordsFit names)
-    (λ r new row fits is. let (entry, read, resolving) = and_then-Ok (entry_of term row) (λ entry. resolved names r entry row) new is in RecordsFit-resolved names r new entry row fits resolving)
+    (λ r new row fits is. let (entry, read, resolving) = and_then-Ok (entry_of term row) (λ entry. resolved names r entry (rule_text_of entry row)) new is in RecordsFit-resolved names r new entry (rule_text_of entry row) fits resolving)
     2 no_records records rows (no_records-fit names) h
 
 -- ---- both passes
@@ -195,44 +194,44 @@ named-push : {X : Type 0} (id_of : X → List ℕ) (records : List X) (x : X) (n
 named-push id_of records x names new id same at is =
     map_push id_of records x ∙ ap (λ (l : List (List ℕ)). l ++ id_of x ∷ []) same ∙ ap (λ (i : List ℕ). names ++ i ∷ []) at ∙ sym is
 
-AreNamed-row : (all n n' : Names) (r r' : Records) (entry : Entry) (row : Row) → AreNamed n r → entered n entry ≡ Ok n' → resolved all r entry row ≡ Ok r' → AreNamed n' r'
-AreNamed-row all n n' r r' (e.Code name) row named h g =
+AreNamed-row : (all n n' : Names) (r r' : Records) (entry : Entry) (text : List ℕ) → AreNamed n r → entered n entry ≡ Ok n' → resolved all r entry text ≡ Ok r' → AreNamed n' r'
+AreNamed-row all n n' r r' (e.Code name) text named h g =
     let (l, is, whole) = and_then-Ok (added 2000 Codes n.codes name) (λ l. Ok (record n { codes = l })) n' h in
     let one : record n { codes = l } ≡ n' = cc in
     let other : r ≡ r' = cc in
     let start : AreNamed (record n { codes = l }) r = record { supplements = named.supplements; constructs = named.constructs; modules = named.modules; positions = named.positions; variants = named.variants } in
     subst (AreNamed n') other (subst (λ (m : Names). AreNamed m r) one start)
-AreNamed-row all n n' r r' (e.Supplement id rank code days) row named h g =
+AreNamed-row all n n' r r' (e.Supplement id rank code days) text named h g =
     let (l, is, whole) = and_then-Ok (added_beside n.constructs 5000 Supplements n.supplements id) (λ l. Ok (record n { supplements = l })) n' h in
-    let (s, made, rest) = and_then-Ok (supplement_of all.codes id rank code days (field row 4)) (λ s. Ok (record r { supplements = r.supplements ++ s ∷ [] })) r' g in
+    let (s, made, rest) = and_then-Ok (supplement_of all.codes id rank code days text) (λ s. Ok (record r { supplements = r.supplements ++ s ∷ [] })) r' g in
     let one : record n { supplements = l } ≡ n' = cc in
     let other : record r { supplements = r.supplements ++ s ∷ [] } ≡ r' = cc in
     let more = (added_beside-Ok n.constructs 5000 Supplements n.supplements id l is).1 in
     let id_of : Supplement → List ℕ = λ s. s.id in
     let start : AreNamed (record n { supplements = l }) (record r { supplements = r.supplements ++ s ∷ [] }) = record {
-      supplements = named-push id_of r.supplements s n.supplements l id named.supplements (supplement_of-Ok all.codes id rank code days (field row 4) s made).0 more.is;
+      supplements = named-push id_of r.supplements s n.supplements l id named.supplements (supplement_of-Ok all.codes id rank code days text s made).0 more.is;
       constructs = named.constructs;
       modules = named.modules;
       positions = named.positions;
       variants = named.variants;
     } in
     subst (AreNamed n') other (subst (λ (m : Names). AreNamed m (record r { supplements = r.supplements ++ s ∷ [] })) one start)
-AreNamed-row all n n' r r' (e.Construct id on days) row named h g =
+AreNamed-row all n n' r r' (e.Construct id on days) text named h g =
     let (l, is, whole) = and_then-Ok (added_beside n.supplements 10000 Constructs n.constructs id) (λ l. Ok (record n { constructs = l })) n' h in
-    let (c, made, rest) = and_then-Ok (construct_of all.codes id on days (field row 3)) (λ c. Ok (record r { constructs = r.constructs ++ c ∷ [] })) r' g in
+    let (c, made, rest) = and_then-Ok (construct_of all.codes id on days text) (λ c. Ok (record r { constructs = r.constructs ++ c ∷ [] })) r' g in
     let one : record n { constructs = l } ≡ n' = cc in
     let other : record r { constructs = r.constructs ++ c ∷ [] } ≡ r' = cc in
     let more = (added_beside-Ok n.supplements 10000 Constructs n.constructs id l is).1 in
     let id_of : Construct → List ℕ = λ c. c.id in
     let start : AreNamed (record n { constructs = l }) (record r { constructs = r.constructs ++ c ∷ [] }) = record {
       supplements = named.supplements;
-      constructs = named-push id_of r.constructs c n.constructs l id named.constructs (construct_of-Ok all.codes id on days (field row 3) c made).0 more.is;
+      constructs = named-push id_of r.constructs c n.constructs l id named.constructs (construct_of-Ok all.codes id on days text c made).0 more.is;
       modules = named.modules;
       positions = named.positions;
       variants = named.variants;
     } in
     subst (AreNamed n') other (subst (λ (m : Names). AreNamed m (record r { constructs = r.constructs ++ c ∷ [] })) one start)
-AreNamed-row all n n' r r' (e.Module id) row named h g =
+AreNamed-row all n n' r r' (e.Module id) text named h g =
     let (l, is, whole) = and_then-Ok (added 1000 Modules n.modules id) (λ l. Ok (record n { modules = l })) n' h in
     let one : record n { modules = l } ≡ n' = cc in
     let m : Module = record { id = id } in
@@ -246,7 +245,7 @@ AreNamed-row all n n' r r' (e.Module id) row named h g =
       variants = named.variants;
     } in
     subst (AreNamed n') other (subst (λ (k : Names). AreNamed k (record r { modules = r.modules ++ m ∷ [] })) one start)
-AreNamed-row all n n' r r' (e.Position id group mandatory days) row named h g =
+AreNamed-row all n n' r r' (e.Position id group mandatory days) text named h g =
     let (l, is, whole) = and_then-Ok (added 5000 Positions n.positions id) (λ l. Ok (record n { positions = l })) n' h in
     let (p, made, rest) = and_then-Ok (position_of all.modules id group mandatory days) (λ p. Ok (record r { positions = r.positions ++ p ∷ [] })) r' g in
     let one : record n { positions = l } ≡ n' = cc in
@@ -260,14 +259,14 @@ AreNamed-row all n n' r r' (e.Position id group mandatory days) row named h g =
       variants = named.variants;
     } in
     subst (AreNamed n') other (subst (λ (m : Names). AreNamed m (record r { positions = r.positions ++ p ∷ [] })) one start)
-AreNamed-row all n n' r r' (e.Variant id position part quantity days) row named h g =
+AreNamed-row all n n' r r' (e.Variant id position part quantity days) text named h g =
     let (l, is, whole) = and_then-Ok (added 20000 Variants n.variants id) (λ l. Ok (record n { variants = l })) n' h in
-    let (v, made, rest) = and_then-Ok (variant_of all id position part quantity days (field row 5)) (λ v. and_then (with_variant r.variants v) (λ variants. Ok (record r { variants = variants }))) r' g in
+    let (v, made, rest) = and_then-Ok (variant_of all id position part quantity days text) (λ v. and_then (with_variant r.variants v) (λ variants. Ok (record r { variants = variants }))) r' g in
     let (variants, joined, last) = and_then-Ok (with_variant r.variants v) (λ variants. Ok (record r { variants = variants })) r' rest in
     let one : record n { variants = l } ≡ n' = cc in
     let other : record r { variants = variants } ≡ r' = cc in
     let id_of : Variant → List ℕ = λ v. v.id in
-    let pushed = named-push id_of r.variants v n.variants l id named.variants (variant_of-Ok all id position part quantity days (field row 5) v made).0 (added-Ok 20000 Variants n.variants id l is).is in
+    let pushed = named-push id_of r.variants v n.variants l id named.variants (variant_of-Ok all id position part quantity days text v made).0 (added-Ok 20000 Variants n.variants id l is).is in
     let start : AreNamed (record n { variants = l }) (record r { variants = variants }) = record {
       supplements = named.supplements;
       constructs = named.constructs;
@@ -285,8 +284,8 @@ passes-named term names rows records h g =
     passes-keep (entered_row term) (resolved_row term names) AreNamed
     (λ n n' r r' row named entering resolving.
     let (entry, read, here) = and_then-Ok (entry_of term row) (λ entry. entered n entry) n' entering in
-    let (again, read_again, there) = and_then-Ok (entry_of term row) (λ entry. resolved names r entry row) r' resolving in
+    let (again, read_again, there) = and_then-Ok (entry_of term row) (λ entry. resolved names r entry (rule_text_of entry row)) r' resolving in
     let same = same-entry again entry (entry_of term row) read_again read in
-    AreNamed-row names n n' r r' entry row named here (subst (λ (x : Entry). resolved names r x row ≡ Ok r') same there))
+    AreNamed-row names n n' r r' entry (rule_text_of entry row) named here (subst (λ (x : Entry). resolved names r x (rule_text_of x row) ≡ Ok r') same there))
     2 no_names names no_records records rows
     (record { supplements = refl; constructs = refl; modules = refl; positions = refl; variants = refl }) h g

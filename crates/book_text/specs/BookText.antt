@@ -13,19 +13,15 @@ use Rattle.book_text.specs.FirstPass.{first_pass}
 use Rattle.book_text.specs.SecondPass.{second_pass}
 use Rattle.book_text.specs.Records.{book_with}
 use Rattle.book_text.specs.declared.entry.Heading.{Heading}
-use Rattle.book_text.specs.declared.names.Names.{Names}
 use Rattle.book_text.specs.declared.fault.BookFault.{BookFault}
 use Rattle.book_text.specs.declared.fault.BookKind.TheVariants.{TooLarge, NotUtf8, NoBookRecord}
 
 -- the book of a heading and the rows behind it
--- the book of a heading, the names of the first pass, and the rows behind the heading
-abbrev pub book_named : Heading → Names → List Row → Result Contents BookFault
-book_named heading names rows =
-    and_then (second_pass heading.term names rows) (λ records. Ok (book_with heading names records))
-
 abbrev pub book_behind : Heading → List Row → Result Contents BookFault
 book_behind heading rows =
-    and_then (first_pass heading.term rows) (λ names. book_named heading names rows)
+    and_then (first_pass heading.term rows) (λ names.
+    and_then (second_pass heading.term names rows) (λ records.
+    Ok (book_with heading names records)))
 
 abbrev pub book_of_rows : List Row → Result Contents BookFault
 book_of_rows [] = at_row 1 (Err NoBookRecord)

@@ -1,9 +1,7 @@
 -- What the draft of a book holds.
-use Rattle.std.specs.Prelude.{◌≡◌, ℕ, ◌<◌, ◌^◌, List, length, slice_index_or}
+use Rattle.std.specs.Prelude.{◌≡◌, ℕ, ◌<◌, List, length, slice_index_or}
 use Rattle.book_model.specs.Parts.{variants_of}
 use Rattle.book_model.specs.declared.record.Variant.{Variant}
-use Rattle.book_text.specs.Rows.{Row}
-use Rattle.book_text.specs.Fields.{field}
 use Rattle.book_text.specs.Records.{Records}
 use Rattle.book_text.specs.declared.draft.Draft.{Draft}
 
@@ -23,7 +21,3 @@ AreCounted choices variants = (place : ℕ) → place < length choices → slice
 pub record IsCounted (positions : ℕ) (d : Draft) : Type 0 where
   pub places : length d.choices.items ≡ positions
   pub counts : AreCounted d.choices.items d.variants.items
-
--- the length of each field has a `u32`
-abbrev pub HasShortFields : Row → Type 0
-HasShortFields row = (place : ℕ) → length (field row place) < 2 ^ 32

@@ -8,7 +8,7 @@
 --     module       ID, TEXT
 --     position     ID, MODULE or nothing, mandatory or optional, FROM, UNTIL
 --     variant      ID, POSITION, PART, QUANTITY, RULE, FROM, UNTIL
-use Rattle.std.specs.Prelude.{ℕ, Option, Some, None, Result, Ok, Err, if◌then◌else◌}
+use Rattle.std.specs.Prelude.{ℕ, List, [], Option, Some, None, Result, Ok, Err, if◌then◌else◌}
 use Rattle.book_text.specs.Rows.{Row}
 use Rattle.book_text.specs.Fault.{and_then}
 use Rattle.book_text.specs.Fields.{field, is_width, name_in, code_name_in, code_or_star_in, part_in, module_in, is_mandatory_in, number_in, term_in, days_in}
@@ -95,3 +95,12 @@ entry_of_kind (Some kind.Variant) term row = variant_in term row
 
 abbrev pub entry_of : Days → Row → Result Entry BookKind
 entry_of term row = entry_of_kind (kind_of (field row 0)) term row
+
+-- the text of the rule that stands in a row beside its record, or none where a record of the kind has no rule
+abbrev pub rule_text_of : Entry → Row → List ℕ
+rule_text_of (Supplement id rank code days) row = field row 4
+rule_text_of (Construct id on days) row = field row 3
+rule_text_of (Variant id position part quantity days) row = field row 5
+rule_text_of (Code name) row = []
+rule_text_of (Module id) row = []
+rule_text_of (Position id group mandatory days) row = []

@@ -1,5 +1,5 @@
 -- The rows of a book's text.
-use Rattle.std.specs.Prelude.{ℕ, ◌≤◌, List, [], length, slice_index_or}
+use Rattle.std.specs.Prelude.{◌≡◌, ℕ, ◌≤◌, Bool, true, false, List, [], ◌∷◌, length, slice_index_or}
 use Rattle.csv.specs.Reading.{default_config, records, strip_bom}
 
 -- a row: its fields, from the left
@@ -10,6 +10,11 @@ Row = List (List ℕ)
 abbrev pub rows_of : List ℕ → List Row
 rows_of text = records default_config (strip_bom text)
 
--- no field of these rows is longer than n
-abbrev pub AreWithin : ℕ → List Row → Type 0
-AreWithin n rows = (k place : ℕ) → length (slice_index_or (slice_index_or rows k []) place []) ≤ n
+-- where one was found, this row is the first of those that were left, and else none was left
+abbrev pub IsNext : Bool → Row → List Row → List Row → Type 0
+IsNext true row left rest = left ≡ row ∷ rest
+IsNext false row left rest = left ≡ []
+
+-- no field is longer than the longest text
+abbrev pub IsShort : Row → Type 0
+IsShort row = (place : ℕ) → length (slice_index_or row place []) ≤ 1048576

@@ -11,8 +11,7 @@ use Rattle.book_model.specs.declared.record.Position.{Position}
 use Rattle.book_model.specs.declared.record.Variant.{Variant}
 use Rattle.book_text.specs.Rows.{Row}
 use Rattle.book_text.specs.Fault.{and_then}
-use Rattle.book_text.specs.Fields.{field}
-use Rattle.book_text.specs.Entry.{entry_of}
+use Rattle.book_text.specs.Entry.{entry_of, rule_text_of}
 use Rattle.book_text.specs.Pass.{pass}
 use Rattle.book_text.specs.Records.{Records, no_records}
 use Rattle.book_text.specs.declared.fields.Days.{Days}
@@ -77,23 +76,23 @@ abbrev pub with_variant : List Variant → Variant → Result (List Variant) Boo
 with_variant variants v =
     if nat_le 200 (length (variants_of v.position variants)) then Err (Limit Choices) else Ok (variants ++ v ∷ [])
 
--- the records with that of a row; the codes stand among the names already
-abbrev pub resolved : Names → Records → Entry → Row → Result Records BookKind
-resolved names r (e.Code name) row = Ok r
-resolved names r (e.Supplement id rank code days) row =
-    and_then (supplement_of names.codes id rank code days (field row 4)) (λ s. Ok (record r { supplements = r.supplements ++ s ∷ [] }))
-resolved names r (e.Construct id on days) row =
-    and_then (construct_of names.codes id on days (field row 3)) (λ c. Ok (record r { constructs = r.constructs ++ c ∷ [] }))
-resolved names r (e.Module id) row =
+-- the records with that of a row, whose rule has this text; the codes stand among the names already
+abbrev pub resolved : Names → Records → Entry → List ℕ → Result Records BookKind
+resolved names r (e.Code name) text = Ok r
+resolved names r (e.Supplement id rank code days) text =
+    and_then (supplement_of names.codes id rank code days text) (λ s. Ok (record r { supplements = r.supplements ++ s ∷ [] }))
+resolved names r (e.Construct id on days) text =
+    and_then (construct_of names.codes id on days text) (λ c. Ok (record r { constructs = r.constructs ++ c ∷ [] }))
+resolved names r (e.Module id) text =
     Ok (record r { modules = r.modules ++ record { id = id } ∷ [] })
-resolved names r (e.Position id group mandatory days) row =
+resolved names r (e.Position id group mandatory days) text =
     and_then (position_of names.modules id group mandatory days) (λ p. Ok (record r { positions = r.positions ++ p ∷ [] }))
-resolved names r (e.Variant id position part quantity days) row =
-    and_then (variant_of names id position part quantity days (field row 5)) (λ v.
+resolved names r (e.Variant id position part quantity days) text =
+    and_then (variant_of names id position part quantity days text) (λ v.
     and_then (with_variant r.variants v) (λ variants. Ok (record r { variants = variants })))
 
 abbrev pub resolved_row : Days → Names → Records → Row → Result Records BookKind
-resolved_row term names r row = and_then (entry_of term row) (λ entry. resolved names r entry row)
+resolved_row term names r row = and_then (entry_of term row) (λ entry. resolved names r entry (rule_text_of entry row))
 
 -- the records of the rows behind the heading, which is row 1
 abbrev pub second_pass : Days → Names → List Row → Result Records BookFault

@@ -1,15 +1,13 @@
-//! The second pass over the rows: names become places, and rules are read.
-ghost use Rattle.std.specs.Prelude.{◌≡◌, ◌+◌, ◌<◌, ◌^◌, Ok, IfOk, OnOk, length, map};
+//! The second pass, over what the rows say: names become places, and rules are read.
+ghost use Rattle.std.specs.Prelude.{◌≡◌, ◌+◌, ◌<◌, ◌^◌, IfOk, OnOk, length};
 ghost use Rattle.pb_base.specs.Answers.{Answers};
 ghost use Rattle.csv.specs.Records.{fields_of};
-ghost use Rattle.book_text.specs.Draft.{records_of, AreCounted, IsCounted, HasShortFields};
+ghost use Rattle.book_text.specs.Draft.{records_of, AreCounted, IsCounted};
 ghost use Rattle.book_text.specs.Fault.{Gives};
-ghost use Rattle.book_text.specs.SecondPass.{place_of, place_if_named, rule_in, supplement_of, construct_of, position_of, variant_of, with_variant, resolved, resolved_row};
-ghost use Rattle.book_text.specs.Entry.{entry_of};
-ghost use Rattle.book_text.specs.Pass.{pass};
+ghost use Rattle.book_text.specs.SecondPass.{place_of, place_if_named, rule_in, supplement_of, construct_of, position_of, variant_of, with_variant, resolved};
+ghost use Rattle.book_text.specs.Said.{said_pass};
 ghost use Rattle.book_text.specs.Records.{no_records};
-ghost use Rattle.book_text.specs.Rows.{AreWithin};
-ghost use Rattle.book_text.specs.declared.fields.Days.{Days};
+ghost use Rattle.book_text.specs.Rows.{IsShort};
 
 use crate::entry::Entry;
 use crate::fault::{BookFault, BookKind, Which};
@@ -52,17 +50,17 @@ impl Draft {
     }
 }
 
-/// Adds the record of a row.
+/// Adds the record that a row says, whose rule has this text.
 pub fn resolve(
     alloc: Global,
     draft: &mut Draft,
     names: &Names,
     entry: &Entry,
-    row: &ByteRecord,
+    text: &[u8],
 ) -> Result<(), Fail<BookKind>>
-    requires short { HasShortFields (fields_of row.now) }
+    requires short { length text.now < 2 ^ 32 }
     requires counted { IsCounted (length names.now.positions) draft.old }
-    ensures value { Gives result (λ _. records_of draft.new) (resolved names.now (records_of draft.old) entry.now (fields_of row.now)) }
+    ensures value { Gives result (λ _. records_of draft.new) (resolved names.now (records_of draft.old) entry.now text.now) }
     ensures counted { OnOk result (IsCounted (length names.now.positions) draft.new) }
 {
     match entry {
@@ -73,13 +71,11 @@ pub fn resolve(
             code,
             days,
         } => {
-            let text = field(row, 4);
             let record = supplement_of(alloc, &names.codes, *id, *rank, code, *days, text)?;
             draft.supplements.push(record)?;
             Ok(())
         }
         Entry::Construct { id, on, days } => {
-            let text = field(row, 3);
             let record = construct_of(alloc, &names.codes, *id, on, *days, text)?;
             draft.constructs.push(record)?;
             Ok(())
@@ -105,7 +101,6 @@ pub fn resolve(
             quantity,
             days,
         } => {
-            let text = field(row, 5);
             let record = variant_of(alloc, names, *id, position, *part, *quantity, *days, text)?;
             add_variant(&mut draft.variants, &mut draft.choices, record)
         }
@@ -276,24 +271,22 @@ fn add_variant(
     Ok(())
 }
 
-/// Adds the records of rows, the first of which is row 2. `entries` are what the rows say by themselves.
-pub fn resolve_rows(
+/// Adds the records that the rows behind the heading say, with the texts of their rules.
+pub fn resolve_all(
     alloc: Global,
     draft: &mut Draft,
     names: &Names,
     entries: &[Entry],
-    rows: &[ByteRecord],
+    texts: &ByteRecord,
 ) -> Result<(), Fail<BookFault>>
-    requires count { length entries.now ≡ length rows.now }
-    requires few { length rows.now + 2 < 2 ^ 32 }
-    requires short { AreWithin 1048576 (map fields_of rows.now) }
+    requires count { length entries.now ≡ length (fields_of texts.now) }
+    requires few { length entries.now + 2 < 2 ^ 32 }
+    requires short { IsShort (fields_of texts.now) }
     requires counted { IsCounted (length names.now.positions) draft.old }
-    ensures { (term : Days) → map Ok entries.now ≡ map (λ row. entry_of term (fields_of row)) rows.now
-        → Gives result (λ _. records_of draft.new) (pass (resolved_row term names.now) 2 (records_of draft.old) (map fields_of rows.now)) }
+    ensures { Gives result (λ _. records_of draft.new) (said_pass names.now 2 (records_of draft.old) entries.now (fields_of texts.now)) }
 {
     for (k, entry) in entries.iter().enumerate() {
-        let row = &rows[k];
-        match resolve(alloc, draft, names, entry, row) {
+        match resolve(alloc, draft, names, entry, field(texts, k)) {
             Ok(()) => {}
             Err(Fail::Refused(kind)) => {
                 let row = k as u32 + 2;

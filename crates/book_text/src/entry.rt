@@ -1,7 +1,7 @@
-//! What a row says by itself: the record of its kind, with names in place of what they stand for. A rule's text stays in the row.
+//! What a row says by itself: the record of its kind, with names in place of what they stand for. A rule's text stands beside it.
 ghost use Rattle.std.specs.Prelude.{◌≡◌};
 ghost use Rattle.csv.specs.Records.{fields_of};
-ghost use Rattle.book_text.specs.Entry.{heading_of, entry_of, code_in, supplement_in, construct_in, module_record_in, position_in, variant_in};
+ghost use Rattle.book_text.specs.Entry.{heading_of, entry_of, rule_text_of, code_in, supplement_in, construct_in, module_record_in, position_in, variant_in};
 
 use crate::fault::BookKind;
 use crate::fields::{
@@ -83,6 +83,18 @@ pub fn entry_of(term: Days, row: &ByteRecord) -> Result<Entry, BookKind>
         Some(Kind::Module) => module_record_in(row),
         Some(Kind::Position) => position_in(term, row),
         Some(Kind::Variant) => variant_in(term, row),
+    }
+}
+
+/// The text of the rule that stands in a row beside its record; an empty one where a record of the kind has no rule.
+pub fn rule_text_of<'r>(entry: &Entry, row: &'r ByteRecord) -> &'r [u8]
+    ensures { result.now ≡ rule_text_of entry.now (fields_of row.now) }
+{
+    match entry {
+        Entry::Supplement { .. } => field(row, 4),
+        Entry::Construct { .. } => field(row, 3),
+        Entry::Variant { .. } => field(row, 5),
+        Entry::Code { .. } | Entry::Module { .. } | Entry::Position { .. } => &[],
     }
 }
 

@@ -1,5 +1,5 @@
 //! The ids of one kind of record, by name and by place.
-ghost use Rattle.std.specs.Prelude.{◌≡◌, ◌+◌, ◌<◌, ◌^◌, ◌++◌, [], ◌∷◌, None, OnOk, OnErr, length};
+ghost use Rattle.std.specs.Prelude.{◌≡◌, ◌+◌, ◌<◌, ◌^◌, ◌++◌, [], ◌∷◌, IfOk, OnErr, is_none, length, if◌then◌else◌};
 ghost use Rattle.pb_base.specs.Names.{place_in};
 
 use indexmap::IndexSet;
@@ -33,15 +33,15 @@ impl IdTable {
         }
     }
 
-    /// Puts an id that the table doesn't have behind the others.
-    pub fn push(&mut self, id: Id) -> Result<(), Memory>
-        requires absent { place_in self.old id ≡ None }
+    /// Puts an id behind the others where the table doesn't have it, and says whether it did.
+    pub fn push(&mut self, id: Id) -> Result<bool, Memory>
         requires room { length self.old + 1 < 2 ^ 32 }
-        ensures ok { OnOk result (self.new ≡ self.old ++ id ∷ []) }
+        ensures new { IfOk result (λ is_new. is_new ≡ is_none (place_in self.old id)) }
+        ensures ids { IfOk result (λ is_new. self.new ≡ (if is_new then self.old ++ id ∷ [] else self.old)) }
         ensures err { OnErr result (self.new ≡ self.old) }
     {
-        self.ids.insert_full(id)?;
-        Ok(())
+        let (_, is_new) = self.ids.insert_full(id)?;
+        Ok(is_new)
     }
 
     /// The place of an id, or None where the table doesn't have it.

@@ -1,5 +1,5 @@
 //! The names that the rows of a text give, each told apart from those before it.
-ghost use Rattle.std.specs.Prelude.{◌≡◌, ◌+◌, ◌<◌, ◌^◌};
+ghost use Rattle.std.specs.Prelude.{◌≡◌, ◌+◌, ◌<◌, ◌^◌, if◌then◌else◌};
 ghost use Rattle.book_text.specs.Fault.{Becomes};
 ghost use Rattle.book_text.specs.Names.{no_names, added, entered};
 
@@ -61,14 +61,13 @@ impl Names {
     }
 }
 
+// A name that is there already is refused as such, even where there is no room for another.
 fn add_code(codes: &mut CodeTable, name: CodeName) -> Result<(), Fail<BookKind>>
     ensures { Becomes result codes.new (added 2000 Which.Codes codes.old name) }
 {
-    if codes.place_of(&name).is_some() {
-        return Err(Fail::Refused(BookKind::Duplicate));
-    }
     if codes.len() >= 2_000 {
-        return Err(Fail::Refused(BookKind::Limit(Which::Codes)));
+        let has = codes.place_of(&name).is_some();
+        return Err(Fail::Refused(full(has, Which::Codes)));
     }
     match codes.add(name) {
         Ok(_) => Ok(()),
@@ -81,12 +80,23 @@ fn add_id(ids: &mut IdTable, id: Id, limit: u32, which: Which) -> Result<(), Fai
     requires { limit + 1 < 2 ^ 32 }
     ensures { Becomes result ids.new (added limit which ids.old id) }
 {
-    if ids.place_of(&id).is_some() {
+    if ids.len() >= limit {
+        let has = ids.place_of(&id).is_some();
+        return Err(Fail::Refused(full(has, which)));
+    }
+    if !ids.push(id)? {
         return Err(Fail::Refused(BookKind::Duplicate));
     }
-    if ids.len() >= limit {
-        return Err(Fail::Refused(BookKind::Limit(which)));
-    }
-    ids.push(id)?;
     Ok(())
+}
+
+// The fault of a name where there is no room for another, by whether it is there already.
+fn full(has: bool, which: Which) -> BookKind
+    ensures { result ≡ (if has then BookKind.Duplicate else BookKind.Limit which) }
+{
+    if has {
+        BookKind::Duplicate
+    } else {
+        BookKind::Limit(which)
+    }
 }

@@ -1,25 +1,22 @@
 //! The book of a text.
-ghost use Rattle.std.specs.Prelude.{◌≡◌, ◌≤◌, Ok, IfOk, length, map};
+ghost use Rattle.std.specs.Prelude.{◌≡◌, ◌≤◌, IfOk, length};
 ghost use Rattle.std.specs.Str.{is_utf8};
 ghost use Rattle.pb_base.specs.Answers.{Answers};
 ghost use Rattle.csv.specs.Records.{fields_of};
 ghost use Rattle.book_model.specs.Book.{IsBook};
-ghost use Rattle.book_text.specs.BookText.{book_of, book_of_rows, book_behind, book_named};
+ghost use Rattle.book_text.specs.BookText.{book_of, book_of_rows, book_behind};
 ghost use Rattle.book_text.specs.Draft.{records_of};
-ghost use Rattle.book_text.specs.Entry.{entry_of};
 ghost use Rattle.book_text.specs.Fault.{Gives};
-ghost use Rattle.book_text.specs.FirstPass.{first_pass};
 ghost use Rattle.pb_base.specs.declared.answer.Fail.{Fail};
-ghost use Rattle.book_text.specs.Records.{book_with};
-ghost use Rattle.book_text.specs.Rows.{AreWithin};
-ghost use Rattle.book_text.specs.SecondPass.{second_pass};
-ghost use Rattle.book_text.specs.declared.fields.Days.{Days};
+ghost use Rattle.book_text.specs.Records.{book_with, no_records};
+ghost use Rattle.book_text.specs.Rows.{IsShort};
+ghost use Rattle.book_text.specs.Said.{said_pass};
 
-use crate::draft::{Draft, resolve_rows};
-use crate::entry::{Entry, Heading, heading_of};
+use crate::draft::{Draft, resolve_all};
+use crate::entry::{Heading, heading_of};
 use crate::fault::{BookFault, BookKind};
 use crate::names::Names;
-use crate::rows::read_rows;
+use crate::rows::Rows;
 use crate::survey::{Survey, first_pass};
 use book_model::{Book, BookParts, VariantGroups};
 use csv::ByteRecord;
@@ -39,8 +36,8 @@ pub fn read_book(alloc: Global, text: &[u8]) -> Result<Book, Fail<BookFault>>
     if !is_text(text) {
         return Err(fault(0, BookKind::NotUtf8));
     }
-    let rows = read_rows(alloc, text)?;
-    book_of_rows(alloc, &rows)
+    let mut rows = Rows::of(alloc, text);
+    book_of_rows(alloc, &mut rows)
 }
 
 // Whether the bytes are UTF-8.
@@ -60,68 +57,51 @@ fn fault(row: u32, kind: BookKind) -> Fail<BookFault>
 }
 
 // The book of its rows: the heading, and the two passes over the rows behind it.
-fn book_of_rows(alloc: Global, rows: &[ByteRecord]) -> Result<Book, Fail<BookFault>>
-    requires count { length rows.now ≤ 1048576 }
-    requires short { AreWithin 1048576 (map fields_of rows.now) }
-    ensures { Answers result (book_of_rows (map fields_of rows.now)) }
+fn book_of_rows(alloc: Global, rows: &mut Rows<'_>) -> Result<Book, Fail<BookFault>>
+    requires { length rows.old ≤ 1048576 }
+    ensures { Answers result (book_of_rows rows.old) }
 {
-    match rows.split_first() {
-        None => Err(fault(1, BookKind::NoBookRecord)),
-        Some((first, rest)) => match heading_of(first) {
-            Ok(heading) => book_behind(alloc, heading, rest),
-            Err(kind) => Err(fault(1, kind)),
-        },
+    let mut row = ByteRecord::new(alloc);
+    if !rows.read(&mut row)? {
+        return Err(fault(1, BookKind::NoBookRecord));
+    }
+    match heading_of(&row) {
+        Ok(heading) => book_behind(alloc, heading, rows, &mut row),
+        Err(kind) => Err(fault(1, kind)),
     }
 }
 
-// The book of a heading and the rows behind it.
+// The book of a heading and the rows behind it, each read in place of the one that `row` holds.
 fn book_behind(
     alloc: Global,
     heading: Heading,
-    rows: &[ByteRecord],
+    rows: &mut Rows<'_>,
+    row: &mut ByteRecord,
 ) -> Result<Book, Fail<BookFault>>
-    requires count { length rows.now ≤ 1048576 }
-    requires short { AreWithin 1048576 (map fields_of rows.now) }
+    requires count { length rows.old ≤ 1048576 }
     requires term { heading.term.from ≤ heading.term.until }
-    ensures { Answers result (book_behind heading (map fields_of rows.now)) }
+    ensures { Answers result (book_behind heading rows.old) }
 {
-    let survey = first_pass(alloc, heading.term, rows)?;
-    book_surveyed(alloc, heading, survey, rows)
-}
-
-// The book of a heading and rows that the first pass found no fault in.
-fn book_surveyed(
-    alloc: Global,
-    heading: Heading,
-    survey: Survey,
-    rows: &[ByteRecord],
-) -> Result<Book, Fail<BookFault>>
-    requires count { length rows.now ≤ 1048576 }
-    requires short { AreWithin 1048576 (map fields_of rows.now) }
-    requires term { heading.term.from ≤ heading.term.until }
-    requires names { first_pass heading.term (map fields_of rows.now) ≡ Ok survey.names }
-    requires entries { map Ok survey.entries.items ≡ map (λ row. entry_of heading.term (fields_of row)) rows.now }
-    ensures { Answers result (book_named heading survey.names (map fields_of rows.now)) }
-{
-    let draft = second_pass(alloc, &survey.names, &survey.entries, rows)?;
+    let survey = first_pass(alloc, heading.term, rows, row)?;
+    let draft = second_pass(alloc, &survey)?;
     let book = whole_book(alloc, heading, survey.names, draft)?;
     Ok(book)
 }
 
-fn second_pass(
-    alloc: Global,
-    names: &Names,
-    entries: &[Entry],
-    rows: &[ByteRecord],
-) -> Result<Draft, Fail<BookFault>>
-    requires same { length entries.now ≡ length rows.now }
-    requires count { length rows.now ≤ 1048576 }
-    requires short { AreWithin 1048576 (map fields_of rows.now) }
-    ensures { (term : Days) → map Ok entries.now ≡ map (λ row. entry_of term (fields_of row)) rows.now
-        → Gives result records_of (second_pass term names.now (map fields_of rows.now)) }
+fn second_pass(alloc: Global, survey: &Survey) -> Result<Draft, Fail<BookFault>>
+    requires count { length survey.now.entries.items ≡ length (fields_of survey.now.texts) }
+    requires few { length survey.now.entries.items ≤ 1048576 }
+    requires short { IsShort (fields_of survey.now.texts) }
+    ensures { Gives result records_of (said_pass survey.now.names 2 no_records survey.now.entries.items (fields_of survey.now.texts)) }
 {
-    let mut draft = Draft::new(alloc, names.positions.len())?;
-    resolve_rows(alloc, &mut draft, names, entries, rows)?;
+    let mut draft = Draft::new(alloc, survey.names.positions.len())?;
+    resolve_all(
+        alloc,
+        &mut draft,
+        &survey.names,
+        &survey.entries,
+        &survey.texts,
+    )?;
     Ok(draft)
 }
 

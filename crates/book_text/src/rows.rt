@@ -1,29 +1,73 @@
 //! The rows of a book's text, as `csv` reads them.
-ghost use Rattle.std.specs.Prelude.{◌≡◌, ◌≤◌, IfOk, length, map};
+ghost use Rattle.std.specs.Prelude.{◌≡◌, ◌≤◌, true, Ok, IfOk, length};
 ghost use Rattle.csv.specs.Records.{fields_of};
-ghost use Rattle.book_text.specs.Rows.{rows_of, AreWithin};
+ghost use Rattle.book_text.specs.Rows.{rows_of, IsNext, IsShort};
 
-use csv::{ByteRecord, ReaderBuilder};
-use std::alloc::{AllocError, Global};
+use csv::{ByteRecord, Error, Reader, ReaderBuilder};
+use pb_base::Memory;
+use std::alloc::Global;
+use std::marker::Model;
 
-/// The rows of a text, in order: no header row, and rows of any length. The only error is want of
-/// memory.
-pub fn read_rows(alloc: Global, text: &[u8]) -> Result<Vec<ByteRecord>, AllocError>
-    ensures rows { IfOk result (λ rows. map fields_of rows.items ≡ rows_of text.now) }
-    ensures count { IfOk result (λ rows. length rows.items ≤ length text.now) }
-    ensures short { IfOk result (λ rows. AreWithin (length text.now) (map fields_of rows.items)) }
-{
-    let reader = ReaderBuilder::new()
-        .has_headers(false)
-        .flexible(true)
-        .from_reader(alloc, text);
-    let mut rows = Vec::new(alloc);
-    for row in reader.into_byte_records() {
-        match row {
-            Ok(row) => rows.push(row)?,
-            // No error but want of memory comes from a slice.
-            Err(_) => return Err(AllocError),
+/// The rows of a text that are left to be read, in order: no header row, and rows of any length. A contract sees the list of them.
+#[derive(Drop)]
+pub struct Rows<'t> {
+    reader: Reader<&'t [u8]>,
+    // Whether a read found no further row.
+    ended: bool,
+}
+
+impl<'t> Model for Rows<'t> {
+    ghost use Rattle.book_text.specs.Rows.{Row};
+    ghost use Rattle.std.specs.Prelude.{◌≡◌, List, [], false, if◌then◌else◌};
+
+    ghost Value = { List Row };
+
+    ghost use Rattle.book_text.specs.Unread.{unread_rows, IsReading};
+
+    ghost view = { λ r. if r.ended then [] else unread_rows r.reader };
+
+    ghost invariant = { λ r. r.ended ≡ false → IsReading r.reader };
+}
+
+impl<'t> Rows<'t> {
+    /// All rows of a text.
+    pub fn of(alloc: Global, text: &'t [u8]) -> Rows<'t>
+        requires { length text.now ≤ 1048576 }
+        ensures rows { result ≡ rows_of text.now }
+        ensures count { length result ≤ length text.now }
+    {
+        let reader = ReaderBuilder::new()
+            .has_headers(false)
+            .flexible(true)
+            .from_reader(alloc, text);
+        Rows {
+            reader,
+            ended: false,
         }
     }
-    Ok(rows)
+
+    /// Reads the next row in place of the one that `row` holds, and says whether there was one.
+    pub fn read(&mut self, row: &mut ByteRecord) -> Result<bool, Memory>
+        ensures next { IfOk result (λ found. IsNext found (fields_of row.new) self.old self.new) }
+        ensures short { IfOk result (λ found. found ≡ true → IsShort (fields_of row.new)) }
+    {
+        if self.ended {
+            return Ok(false);
+        }
+        // So that a reader that failed is not asked again.
+        self.ended = true;
+        let found = or_memory(self.reader.read_byte_record(row))?;
+        self.ended = !found;
+        Ok(found)
+    }
+}
+
+// What a read of a slice gives: no error but want of memory comes from one.
+fn or_memory(read: Result<bool, Error>) -> Result<bool, Memory>
+    ensures { IfOk result (λ found. read ≡ Ok found) }
+{
+    match read {
+        Ok(found) => Ok(found),
+        Err(_) => Err(Memory),
+    }
 }

@@ -1,55 +1,78 @@
 //! The first pass over the rows: what each says by itself, and its name beside those before it.
-ghost use Rattle.std.specs.Prelude.{◌≡◌, ◌+◌, ◌<◌, ◌^◌, ◌++◌, Ok, IfOk, OnOk, length, map};
-ghost use Rattle.csv.specs.Records.{fields_of};
+ghost use Rattle.std.specs.Prelude.{◌≡◌, ◌≤◌, [], Ok, IfOk, OnOk, length};
+ghost use Rattle.csv.specs.Records.{fields_of, partial_of};
 ghost use Rattle.book_text.specs.Entry.{entry_of};
 ghost use Rattle.book_text.specs.Fault.{Gives};
 ghost use Rattle.book_text.specs.FirstPass.{entered_row, first_pass};
-ghost use Rattle.book_text.specs.Names.{no_names};
 ghost use Rattle.book_text.specs.Pass.{pass};
+ghost use Rattle.book_text.specs.Rows.{IsShort};
+ghost use Rattle.book_text.specs.Said.{AreSaid};
 
-use crate::entry::{Entry, entry_of};
+use crate::entry::{Entry, entry_of, rule_text_of};
 use crate::fault::{BookFault, BookKind};
 use crate::fields::Days;
 use crate::names::Names;
+use crate::rows::Rows;
 use csv::ByteRecord;
 use pb_base::Fail;
 use std::alloc::Global;
 
-/// What the first pass gives: the names, by which the second pass finds places, and the record of each row.
+/// What the first pass keeps of the rows: the names, by which the second pass finds places, and what each row says.
 #[derive(Drop)]
 pub struct Survey {
     pub names: Names,
+    /// The record of each row.
     pub entries: Vec<Entry>,
+    /// The text of each row's rule. A `csv` record holds them one behind the other, in one buffer.
+    pub texts: ByteRecord,
 }
 
-/// Reads the rows behind the heading, the first of which is row 2.
-pub fn first_pass(alloc: Global, term: Days, rows: &[ByteRecord]) -> Result<Survey, Fail<BookFault>>
-    requires { length rows.now + 2 < 2 ^ 32 }
-    ensures names { Gives result (λ s. s.names) (first_pass term (map fields_of rows.now)) }
-    ensures entries { IfOk result (λ s. map Ok s.entries.items ≡ map (λ row. entry_of term (fields_of row)) rows.now) }
+/// Reads the rows behind the heading, the first of which is row 2, each in place of the one that `row` holds.
+pub fn first_pass(
+    alloc: Global,
+    term: Days,
+    rows: &mut Rows<'_>,
+    row: &mut ByteRecord,
+) -> Result<Survey, Fail<BookFault>>
+    requires { length rows.old ≤ 1048576 }
+    ensures names { Gives result (λ s. s.names) (first_pass term rows.old) }
+    ensures said { IfOk result (λ s. AreSaid term rows.old s.entries.items (fields_of s.texts)) }
+    ensures short { IfOk result (λ s. IsShort (fields_of s.texts)) }
 {
     let mut names = Names::new(alloc);
     let mut entries = Vec::new(alloc);
-    enter_rows(&mut names, &mut entries, term, rows)?;
-    Ok(Survey { names, entries })
+    let mut texts = ByteRecord::new(alloc);
+    enter_rows(&mut names, &mut entries, &mut texts, term, rows, row)?;
+    Ok(Survey {
+        names,
+        entries,
+        texts,
+    })
 }
 
 fn enter_rows(
     names: &mut Names,
     entries: &mut Vec<Entry>,
+    texts: &mut ByteRecord,
     term: Days,
-    rows: &[ByteRecord],
+    rows: &mut Rows<'_>,
+    row: &mut ByteRecord,
 ) -> Result<(), Fail<BookFault>>
-    requires { length rows.now + 2 < 2 ^ 32 }
-    ensures names { Gives result (λ _. names.new) (pass (entered_row term) 2 names.old (map fields_of rows.now)) }
-    ensures entries { OnOk result (map Ok entries.new.items ≡ map Ok entries.old.items ++ map (λ row. entry_of term (fields_of row)) rows.now) }
+    requires count { length rows.old ≤ 1048576 }
+    requires none { (entries.old.items ≡ []) × (fields_of texts.old ≡ []) × (partial_of texts.old ≡ []) }
+    ensures names { Gives result (λ _. names.new) (pass (entered_row term) 2 names.old rows.old) }
+    ensures said { OnOk result (AreSaid term rows.old entries.new.items (fields_of texts.new)) }
+    ensures short { OnOk result (IsShort (fields_of texts.new)) }
 {
-    for (k, row) in rows.iter().enumerate() {
+    'rows: while rows.read(row)? {
         match enter_row(names, term, row) {
-            Ok(entry) => entries.push(entry)?,
+            Ok(entry) => {
+                texts.push_field(rule_text_of(&entry, row))?;
+                entries.push(entry)?;
+            }
             Err(Fail::Refused(kind)) => {
-                let row = k as u32 + 2;
-                return Err(Fail::Refused(BookFault { row, kind }));
+                let number = entries.len() as u32 + 2;
+                return Err(Fail::Refused(BookFault { row: number, kind }));
             }
             Err(Fail::Memory) => return Err(Fail::Memory),
         }

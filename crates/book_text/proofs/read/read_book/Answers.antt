@@ -12,4 +12,4 @@ returns-then-not-is_text c =
 pub returns : goal.returns
 returns c =
     rw (book_of-rows c.args.text.now c.if-text-gt-LONGEST_TEXT.false (sym c.is_text.ensures ∙ c.if-not-is_text.false))
-    (rw (c.deref.ensures.value, c.in_ok-rows.ensures.rows) at c.book_of_rows.ensures)
+    (rw c.of-rows.ensures.rows at c.book_of_rows.ensures)

@@ -1,28 +1,80 @@
-use Rattle.std.proofs.Common.{sym, ◌∙◌}
+use Rattle.std.proofs.Common.{◌≡◌, ◌+◌, ◌<◌, ◌++◌, [], ◌∷◌, length, append_assoc, refl, sym, ap, ◌∙◌, arith}
+use Rattle.std.proofs.lemmas.List.{append-nil, length_push}
 use Rattle.csv.specs.Records.{fields_of}
-use Rattle.book_text.specs.Entry.{entry_of}
+use Rattle.book_text.specs.Entry.{rule_text_of}
 use Rattle.book_text.specs.FirstPass.{entered_row}
-use Rattle.book_text.proofs.PassLemmas.{pass-more, pass-fault, pass-end, kept-more}
+use Rattle.book_text.specs.Pass.{pass}
+use Rattle.book_text.specs.Said.{AreSaid}
+use Rattle.book_text.proofs.PassLemmas.{pass-more, pass-fault, pass-end, said-push, rule_text-short}
+use Rattle.book_text.proofs.RowsLemmas.{short-push}
 use Rattle.book_text.proofs.survey.enter_rows.Goals as goal
+
+pub rows-init : goal.rows-init
+unfolding AreSaid
+rows-init c =
+    let (no_entries, no_texts, whole) = c.requires.none in
+    record {
+      rest = rw no_entries refl;
+      said = ([], refl, rw (no_entries, no_texts) tt);
+      few = rw no_entries (omega (arith, c.requires.count));
+      short = λ place. rw no_texts (omega arith);
+      whole = whole;
+    }
+
+pub rows-preserved : goal.rows-preserved
+rows-preserved c =
+    let inv = c.rows.invariant in
+    let row = fields_of c.read.new.row in
+    let next : c.rows.rows ≡ row ∷ c.read.new.self = rw c.if-branch.true at c.in_ok-read.ensures.next in
+    let short = c.in_ok-read.ensures.short c.if-branch.true in
+    let texts : fields_of c.push_field.new.self ≡ fields_of c.rows.texts ++ rule_text_of c.in-Ok.entry row ∷ [] =
+    rw (inv.whole, c.rule_text_of.ensures) at c.in_ok-push_field-in-Ok.ensures.fields in
+    let step = entered_row c.args.term in
+    let n = length c.rows.entries.items + 2 in
+    let (read, whole, said) = inv.said in
+    rw (c.in_ok-push-in-Ok.ensures.items, texts) (record {
+      rest =
+          let number : length (c.rows.entries.items ++ c.in-Ok.entry ∷ []) + 2 ≡ n + 1 = omega (arith, length_push c.rows.entries.items c.in-Ok.entry) in
+          ap (λ m. pass step m c.enter_row.new.names c.read.new.self) number
+          ∙ sym (pass-more step n c.rows.names c.enter_row.new.names row c.read.new.self c.in-Ok.ensures.names)
+          ∙ ap (pass step n c.rows.names) (sym next) ∙ inv.rest;
+      said = (
+        read ++ row ∷ [],
+        whole ∙ ap (λ rows. read ++ rows) next ∙ sym (append_assoc read (row ∷ []) c.read.new.self),
+        said-push c.args.term read c.rows.entries.items (fields_of c.rows.texts) row c.in-Ok.entry said c.in-Ok.ensures.entry,
+      );
+      few = omega (arith, length_push c.rows.entries.items c.in-Ok.entry, ap length next, inv.few);
+      short = short-push 1048576 (fields_of c.rows.texts) (rule_text_of c.in-Ok.entry row) inv.short (rule_text-short c.in-Ok.entry row short);
+      whole = c.in_ok-push_field-in-Ok.ensures.partial;
+    })
+
+pub rows-smaller : goal.rows-smaller
+rows-smaller c =
+    let next : c.rows.rows ≡ fields_of c.read.new.row ∷ c.read.new.self = rw c.if-branch.true at c.in_ok-read.ensures.next in
+    let fewer : length c.read.new.self < length c.rows.rows = omega (arith, ap length next) in
+    fewer
 
 pub returns-in-Err-Refused-clause-names : goal.returns-in-Err-Refused-clause-names
 returns-in-Err-Refused-clause-names c =
+    let row = fields_of c.read.new.row in
+    let next : c.rows.rows ≡ row ∷ c.read.new.self = rw c.if-branch.true at c.in_ok-read.ensures.next in
+    let step = entered_row c.args.term in
+    let n = length c.rows.entries.items + 2 in
     let fault = rw c.in-Err-Refused.field-0-is at c.in-Err-Refused.ensures.names in
-    rw c.in-Err-Refused.field-0-is (
-    sym c.loop-k.invariant.rest
-    ∙ pass-fault (entered_row c.args.term) c.loop-k.k c.loop-k.names c.args.rows.now c.index-rows-k.result c.in-Err-Refused.kind c.loop-k-test.true c.index-rows-k.is fault)
-
-pub loop-k-preserved : goal.loop-k-preserved
-loop-k-preserved c = record {
-  rest =
-      sym (pass-more (entered_row c.args.term) c.loop-k.k c.loop-k.names c.enter_row.new.names c.args.rows.now c.index-rows-k.result c.loop-k-test.true c.index-rows-k.is c.in-Ok.ensures.names)
-      ∙ c.loop-k.invariant.rest;
-  entries =
-      rw c.in_ok-push-in-Ok.ensures.items (
-      kept-more (λ row. entry_of c.args.term (fields_of row)) _ c.loop-k.entries.items c.args.rows.now c.loop-k.k c.index-rows-k.result c.in-Ok.entry
-      c.loop-k.invariant.entries c.loop-k-test.true c.index-rows-k.is c.in-Ok.ensures.entry);
-}
+    let count : c.len.result ≡ length c.rows.entries.items = omega (arith, c.len.ensures, c.rows.entries.ok.0) in
+    rw (c.in-Err-Refused.field-0-is, count) (
+    sym c.rows.invariant.rest ∙ ap (pass step n c.rows.names) next
+    ∙ pass-fault step n c.rows.names row c.read.new.self c.in-Err-Refused.kind fault)
 
 pub returns-clause-names : goal.returns-clause-names
 returns-clause-names c =
-    sym c.loop-k.invariant.rest ∙ pass-end (entered_row c.args.term) c.loop-k.k c.loop-k.names c.args.rows.now c.loop-k-test.false
+    let none : c.rows.rows ≡ [] = rw c.if-branch.false at c.in_ok-read.ensures.next in
+    let step = entered_row c.args.term in
+    let n = length c.rows.entries.items + 2 in
+    sym c.rows.invariant.rest ∙ ap (pass step n c.rows.names) none ∙ pass-end step n c.rows.names
+
+pub returns-clause-said : goal.returns-clause-said
+returns-clause-said c =
+    let none : c.rows.rows ≡ [] = rw c.if-branch.false at c.in_ok-read.ensures.next in
+    let (read, whole, said) = c.rows.invariant.said in
+    rw (whole ∙ ap (λ rows. read ++ rows) none ∙ append-nil read) said

@@ -1,13 +1,21 @@
-use Rattle.std.proofs.Common.{◌≡◌, ◌+◌, ◌++◌, Ok, drop, map, take}
-use Rattle.csv.specs.Records.{fields_of}
-use Rattle.book_text.specs.Entry.{entry_of}
+use Rattle.std.proofs.Common.{◌≡◌, ◌≤◌, ◌+◌, ◌++◌, List, [], length}
+use Rattle.csv.specs.Records.{fields_of, partial_of}
 use Rattle.book_text.specs.FirstPass.{entered_row}
 use Rattle.book_text.specs.Pass.{pass}
+use Rattle.book_text.specs.Rows.{Row, IsShort}
+use Rattle.book_text.specs.Said.{AreSaid}
 use Rattle.book_text.proofs.survey.enter_rows.Given as goal
 
--- the pass over the rows that are left gives what the whole pass does, and each row before has its record
-abbrev pub invariant-loop-k : goal.invariant-loop-k
-invariant-loop-k l = record {
-  rest : pass (entered_row l.term) (l.k + 2) l.names (map fields_of (drop l.k l.rows)) ≡ pass (entered_row l.term) 2 l.fn.names (map fields_of l.rows);
-  entries : map Ok l.entries.items ≡ map Ok l.fn.entries.items ++ map (λ row. entry_of l.term (fields_of row)) (take l.k l.rows);
+-- the rows are those that were read and those that are left; the pass over the latter gives what the whole pass does
+abbrev pub invariant-rows : goal.invariant-rows
+invariant-rows l = record {
+  rest : pass (entered_row l.term) (length l.entries.items + 2) l.names l.rows ≡ pass (entered_row l.term) 2 l.fn.names l.fn.rows;
+  said : (read : List Row) × (l.fn.rows ≡ read ++ l.rows) × AreSaid l.term read l.entries.items (fields_of l.texts);
+  few : length l.entries.items + length l.rows ≤ 1048576;
+  short : IsShort (fields_of l.texts);
+  whole : partial_of l.texts ≡ [];
 }
+
+-- each row that is read is one fewer
+abbrev pub decreases-rows : goal.decreases-rows
+decreases-rows l = length l.rows
