@@ -17,7 +17,7 @@ use Rattle.book_text.specs.Fault.{and_then, at_row}
 use Rattle.book_text.specs.Fields.{field, is_width, name_in, day_in, term_in}
 use Rattle.book_text.specs.Kind.{kind_of}
 use Rattle.book_text.specs.Entry.{book_in, heading_of_kind, heading_of}
-use Rattle.book_text.specs.BookText.{book_of, book_of_rows, book_behind, book_named}
+use Rattle.book_text.specs.BookText.{book_of, book_of_rows, book_behind}
 use Rattle.book_text.specs.FirstPass.{first_pass}
 use Rattle.book_text.specs.Records.{Records, book_with}
 use Rattle.book_text.specs.SecondPass.{second_pass}
@@ -120,7 +120,8 @@ pub rows-book : (rows : List Row) (b : Contents) → book_of_rows rows ≡ Ok b 
 rows-book [] b h = cc
 rows-book (row ∷ rows) b h =
     let (heading, headed, read) = and_then-Ok (at_row 1 (heading_of row)) (λ heading. book_behind heading rows) b h in
-    let (names, first, named) = and_then-Ok (first_pass heading.term rows) (λ names. book_named heading names rows) b read in
+    let (names, first, named) =
+    and_then-Ok (first_pass heading.term rows) (λ names. and_then (second_pass heading.term names rows) (λ records. Ok (book_with heading names records))) b read in
     let (records, second, same) = and_then-Ok (second_pass heading.term names rows) (λ records. Ok (book_with heading names records)) b named in
     let is : book_with heading names records ≡ b = cc in
     subst IsBook is (passes-book heading rows names records (heading_of-ordered row heading (at_row-Ok 1 (heading_of row) heading headed)) first second)

@@ -116,6 +116,7 @@ fn disjunction(alloc: Global, left: Option<Formula>, right: Formula) -> Result<F
 }
 
 // The rule under this many minus signs.
+#[inline(always)]
 fn negated(alloc: Global, mut signs: u32, mut rule: Formula) -> Result<Formula, Memory>
     ensures { IfOk result (λ f. f ≡ negated signs rule) }
 {
