@@ -33,19 +33,18 @@ pub struct Draft {
 }
 
 impl Draft {
-    /// The draft without records, of a book with so many positions.
-    pub fn new(alloc: Global, positions: u32) -> Result<Draft, Memory>
+    /// The draft without records, of a book with these names: there is room for a record of each.
+    pub fn new(alloc: Global, names: &Names) -> Result<Draft, Memory>
         ensures empty { IfOk result (λ d. records_of d ≡ no_records) }
-        ensures counted { IfOk result (IsCounted positions) }
+        ensures counted { IfOk result (IsCounted (length names.now.positions)) }
     {
-        let choices = vec![in alloc; 0; positions as usize]?;
         Ok(Draft {
-            supplements: Vec::new(alloc),
-            constructs: Vec::new(alloc),
-            modules: Vec::new(alloc),
-            positions: Vec::new(alloc),
-            variants: Vec::new(alloc),
-            choices,
+            supplements: Vec::with_capacity(alloc, names.supplements.len() as usize)?,
+            constructs: Vec::with_capacity(alloc, names.constructs.len() as usize)?,
+            modules: Vec::with_capacity(alloc, names.modules.len() as usize)?,
+            positions: Vec::with_capacity(alloc, names.positions.len() as usize)?,
+            variants: Vec::with_capacity(alloc, names.variants.len() as usize)?,
+            choices: vec![in alloc; 0; names.positions.len() as usize]?,
         })
     }
 }

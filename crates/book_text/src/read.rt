@@ -94,7 +94,7 @@ fn second_pass(alloc: Global, survey: &Survey) -> Result<Draft, Fail<BookFault>>
     requires short { IsShort (fields_of survey.now.texts) }
     ensures { Gives result records_of (said_pass survey.now.names 2 no_records survey.now.entries.items (fields_of survey.now.texts)) }
 {
-    let mut draft = Draft::new(alloc, survey.names.positions.len())?;
+    let mut draft = Draft::new(alloc, &survey.names)?;
     resolve_all(
         alloc,
         &mut draft,

@@ -12,7 +12,7 @@ use std::marker::Model;
 #[derive(Drop)]
 pub struct Rows<'t> {
     reader: Reader<&'t [u8]>,
-    // Whether a read found no further row.
+    // Whether a read found no further row, or failed.
     ended: bool,
 }
 
@@ -54,7 +54,7 @@ impl<'t> Rows<'t> {
         if self.ended {
             return Ok(false);
         }
-        // So that a reader that failed is not asked again.
+        // Until a row is found: a reader that failed is not asked again.
         self.ended = true;
         let found = or_memory(self.reader.read_byte_record(row))?;
         self.ended = !found;
