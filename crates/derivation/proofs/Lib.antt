@@ -7,3 +7,6 @@ pub mod DaysAlike
 pub mod Walk
 pub mod LimitLaws
 pub mod Released
+pub mod WordLaws
+pub mod LineLaws
+pub mod MemberLaws

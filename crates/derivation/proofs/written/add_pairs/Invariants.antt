@@ -1,0 +1,6 @@
+use Rattle.std.proofs.Common.{◌≡◌, ◌++◌, drop}
+use Rattle.derivation.specs.Written.{pair_words, spaced}
+use Rattle.derivation.proofs.written.add_pairs.Given as goal
+
+abbrev pub invariant-loop-pair : goal.invariant-loop-pair
+invariant-loop-pair l = l.text.items ++ spaced (pair_words (drop l.pair-index l.pairs)) ≡ l.initial.text.items ++ spaced (pair_words l.pairs)
