@@ -10,3 +10,5 @@ pub mod Released
 pub mod WordLaws
 pub mod LineLaws
 pub mod MemberLaws
+pub mod PairLaws
+pub mod LeadLaws

@@ -1,7 +1,7 @@
 -- Where a text of whole lines leads its reader.
 --     LeadsTo b slices text stage       each line of the text can stand there, and the stage is that behind the last
 --     LeadsPast b slices text k         the same, where k slices are done
-use Rattle.std.specs.Prelude.{◌≡◌, ℕ, zero, suc, Bool, true, not, ◌==◌, List, [], ◌∷◌, ◌++◌, Some, Result, Ok, Err, take, slice_get}
+use Rattle.std.specs.Prelude.{◌≡◌, ℕ, zero, suc, ◌+◌, Bool, true, not, ◌==◌, List, [], ◌∷◌, ◌++◌, Some, Result, Ok, Err, take, slice_get}
 use Rattle.std.specs.List.{flat_map, list_all}
 use Rattle.book_model.specs.Contents.{Contents}
 use Rattle.book_model.specs.declared.record.Slice.{Slice}
@@ -44,6 +44,12 @@ LeadsPast b slices text (suc k) = (clauses : List (List ℕ)) × LeadsTo b slice
 abbrev pub TellsSlice : Contents → SliceProof → ℕ → List ℕ → List ℕ → Type 0
 TellsSlice b proof k before after =
     (slices : List Slice) (s : Slice) → slice_get slices k ≡ Some s → ShowsSlice b s proof → LeadsPast b slices before k → LeadsPast b slices after (suc k)
+
+-- the text goes on with the line of the clause at this place, which was derived from those before it
+abbrev pub TellsStep : Derivation → ℕ → List ℕ → List ℕ → Type 0
+TellsStep kernel at before after =
+    (b : Contents) (slices : List Slice) (w : Work) → w.clauses ≡ take at kernel.clauses
+    → LeadsTo b slices before (within w) → LeadsTo b slices after (within (record w { clauses = take (at + 1) kernel.clauses }))
 
 -- the text goes on with a line for each clause that was derived
 abbrev pub TellsSteps : Derivation → List ℕ → List ℕ → Type 0

@@ -1,13 +1,13 @@
 //! The writing of a certificate.
-ghost use Rattle.std.specs.Prelude.{◌≡◌, None, IfOk, OnOk, length};
+ghost use Rattle.std.specs.Prelude.{◌≡◌, ◌<◌, ◌≤◌, None, IfOk, OnOk, length};
 ghost use Rattle.derivation.specs.Certificate.{cert_fault};
-ghost use Rattle.derivation.specs.Leading.{TellsClosings, TellsSlice, TellsSteps};
+ghost use Rattle.derivation.specs.Leading.{TellsClosings, TellsSlice, TellsStep, TellsSteps};
 ghost use Rattle.derivation.specs.Showing.{ShowsRelease};
 
 use crate::slice_proof::{Closing, SliceProof};
 use crate::written::{add_close_line, add_front, add_set_line, add_slice_line, add_step_line};
 use book_model::Book;
-use clause_pool::Kernel;
+use clause_pool::{Kernel, Ref};
 use pb_base::{Body, Memory};
 use std::alloc::Global;
 
@@ -46,11 +46,20 @@ fn add_steps(text: &mut Vec<u8>, kernel: &Kernel) -> Result<(), Memory>
     ensures { OnOk result (TellsSteps kernel.now text.old.items text.new.items) }
 {
     for at in kernel.given()..kernel.pool().len() {
-        if let Some(start) = kernel.start_of(at) {
-            add_step_line(text, start, kernel.pairs_of(at))?;
-        }
+        add_step(text, kernel, at)?;
     }
     Ok(())
+}
+
+fn add_step(text: &mut Vec<u8>, kernel: &Kernel, at: Ref) -> Result<(), Memory>
+    requires derived { kernel.now.given ≤ at }
+    requires there { at < length kernel.now.clauses }
+    ensures { OnOk result (TellsStep kernel.now at text.old.items text.new.items) }
+{
+    match kernel.start_of(at) {
+        Some(start) => add_step_line(text, start, kernel.pairs_of(at)),
+        None => Ok(()),
+    }
 }
 
 fn add_closings(text: &mut Vec<u8>, closed: &[Closing]) -> Result<(), Memory>

@@ -1,7 +1,7 @@
 //! The lines of a certificate as they are written.
-ghost use Rattle.std.specs.Prelude.{◌≡◌, ◌++◌, [], ◌∷◌, OnOk, codes, length};
+ghost use Rattle.std.specs.Prelude.{◌≡◌, ◌<◌, ◌^◌, ◌++◌, [], ◌∷◌, All, OnOk, codes, length};
 ghost use Rattle.std.specs.Fmt.{decimal};
-ghost use Rattle.derivation.specs.Written.{line_of, literal_word, members, pair_words, spaced};
+ghost use Rattle.derivation.specs.Written.{PairFits, line_of, literal_word, members, pair_words, spaced};
 
 use crate::slice_proof::Closing;
 use clause_pool::{Lit, Pair, Ref};
@@ -55,7 +55,8 @@ pub(crate) fn add_step_line(
     start: Ref,
     pairs: &[Pair],
 ) -> Result<(), Memory>
-    ensures { OnOk result (text.new.items ≡ text.old.items ++ line_of (codes "step") (decimal start ∷ pair_words pairs.now)) }
+    ensures line { OnOk result (text.new.items ≡ text.old.items ++ line_of (codes "step") (decimal start ∷ pair_words pairs.now)) }
+    ensures fits { OnOk result ((start < 2 ^ 64) × All PairFits pairs.now) }
 {
     text.extend_from_slice(b"step")?;
     add_number(text, start as u64)?;
@@ -67,7 +68,8 @@ pub(crate) fn add_step_line(
 /// Appends the line of a closing.
 #[tactic(auto, using(crate::proofs::LineLaws::some_words, crate::proofs::LineLaws::more_words))]
 pub(crate) fn add_close_line(text: &mut Vec<u8>, closing: Closing) -> Result<(), Memory>
-    ensures { OnOk result (text.new.items ≡ text.old.items ++ line_of (codes "close") (decimal closing.question ∷ decimal closing.at ∷ [])) }
+    ensures line { OnOk result (text.new.items ≡ text.old.items ++ line_of (codes "close") (decimal closing.question ∷ decimal closing.at ∷ [])) }
+    ensures fits { (closing.question < 2 ^ 64) × (closing.at < 2 ^ 64) }
 {
     text.extend_from_slice(b"close")?;
     add_number(text, u64::from(closing.question))?;
@@ -90,7 +92,8 @@ fn add_members(text: &mut Vec<u8>, table: &CodeTable, set: &CodeSet) -> Result<(
 }
 
 fn add_pairs(text: &mut Vec<u8>, pairs: &[Pair]) -> Result<(), Memory>
-    ensures { OnOk result (text.new.items ≡ text.old.items ++ spaced (pair_words pairs.now)) }
+    ensures words { OnOk result (text.new.items ≡ text.old.items ++ spaced (pair_words pairs.now)) }
+    ensures fit { OnOk result (All PairFits pairs.now) }
 {
     for pair in pairs {
         add_literal(text, pair.lit)?;
@@ -100,7 +103,8 @@ fn add_pairs(text: &mut Vec<u8>, pairs: &[Pair]) -> Result<(), Memory>
 }
 
 fn add_literal(text: &mut Vec<u8>, lit: Lit) -> Result<(), Memory>
-    ensures { OnOk result (text.new.items ≡ text.old.items ++ spaced (literal_word lit ∷ [])) }
+    ensures word { OnOk result (text.new.items ≡ text.old.items ++ spaced (literal_word lit ∷ [])) }
+    ensures fits { OnOk result (lit < 2 ^ 33) }
 {
     let sign = if lit.positive() { b'+' } else { b'-' };
     text.push(b' ')?;
@@ -109,7 +113,8 @@ fn add_literal(text: &mut Vec<u8>, lit: Lit) -> Result<(), Memory>
 }
 
 fn add_number(text: &mut Vec<u8>, number: u64) -> Result<(), Memory>
-    ensures { OnOk result (text.new.items ≡ text.old.items ++ spaced (decimal number ∷ [])) }
+    ensures word { OnOk result (text.new.items ≡ text.old.items ++ spaced (decimal number ∷ [])) }
+    ensures fits { number < 2 ^ 64 }
 {
     text.push(b' ')?;
     add_digits(text, number)
