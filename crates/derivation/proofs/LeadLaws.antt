@@ -86,17 +86,16 @@ no_fault b slices text is h =
     ∙ read_all b slices at_head 1 start h.lines h.leads
 
 -- the first two lines
-pub leads_front : (b : Contents) (slices : List Slice) (text after : List ℕ) (count : ℕ) → text ≡ [] → is_name b.name ≡ true → count ≡ length slices → count < 2 ^ 64
-    → after ≡ (text ++ line_of (codes "partsbook certificate 1") []) ++ line_of (codes "book") (b.name ∷ decimal count ∷ []) → LeadsTo b slices after at_slices
-leads_front b slices text after count empty name same below is =
+pub leads_front : (b : Contents) (slices : List Slice) (text head after : List ℕ) (count : ℕ) → text ≡ [] → is_name b.name ≡ true → count ≡ length slices → count < 2 ^ 64
+    → head ≡ text ++ codes "partsbook certificate 1\n" → after ≡ head ++ line_of (codes "book") (b.name ∷ decimal count ∷ []) → LeadsTo b slices after at_slices
+leads_front b slices text head after count empty name same below first is =
     let start : LeadsTo b slices text at_head = record { lines = []; whole = refl; of_lines = empty; leads = refl } in
-    let head : LeadsTo b slices (text ++ line_of (codes "partsbook certificate 1") []) at_book =
-    leads_more b slices text (text ++ line_of (codes "partsbook certificate 1") []) at_head at_book (codes "partsbook certificate 1" ++ spaced []) start refl refl refl in
+    let begun : LeadsTo b slices head at_book = leads_more b slices text head at_head at_book (codes "partsbook certificate 1") start refl first refl in
     let plain : list_all is_plain (b.name ∷ decimal count ∷ []) ≡ true =
     and_from (is_plain b.name) (list_all is_plain (decimal count ∷ [])) (plain_name b.name name) (and_from (is_plain (decimal count)) true (plain_number count below) refl) in
     let read : name_and_number (b.name ∷ decimal count ∷ []) ≡ Some (b.name, count) =
     cond-true (is_name b.name) (option_map (λ (n : ℕ). (b.name, n)) (number_of (decimal count))) None name ∙ ap (option_map (λ (n : ℕ). (b.name, n))) (number_back count below) in
-    leads_words b slices (text ++ line_of (codes "partsbook certificate 1") []) after at_book at_slices (codes "book") (b.name ∷ decimal count ∷ []) head refl plain is
+    leads_words b slices head after at_book at_slices (codes "book") (b.name ∷ decimal count ∷ []) begun refl plain is
     (ap (λ ws. led_by (codes "book") ws (after_book b.name (length slices))) (words_back (codes "book") (b.name ∷ decimal count ∷ []) refl plain)
     ∙ ap (named b.name (length slices)) read
     ∙ cond-true (same_name b.name b.name && eqb count (length slices)) (Ok at_slices) (Err WrongBook)

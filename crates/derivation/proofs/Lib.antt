@@ -12,3 +12,4 @@ pub mod LineLaws
 pub mod MemberLaws
 pub mod PairLaws
 pub mod LeadLaws
+pub mod TellLaws

@@ -72,3 +72,8 @@ spaced_append xs ys = flat_map-append (λ word. 32 ∷ word) xs ys
 pub more_words : (t₀ t₁ t₂ : List ℕ) (xs ys : List (List ℕ)) → t₁ ≡ t₀ ++ spaced xs → t₂ ≡ t₁ ++ spaced ys → t₂ ≡ t₀ ++ spaced (xs ++ ys)
 more_words t₀ t₁ t₂ xs ys first next =
     next ∙ ap (λ t. t ++ spaced ys) first ∙ append_assoc t₀ (spaced xs) (spaced ys) ∙ ap (λ t. t₀ ++ t) (sym (spaced_append xs ys))
+
+-- of the words that are to come, some are written
+pub with_words : (whole t t₁ : List ℕ) (words rest : List (List ℕ)) → t₁ ≡ t ++ spaced words → t ++ spaced (words ++ rest) ≡ whole → t₁ ++ spaced rest ≡ whole
+with_words whole t t₁ words rest next is =
+    ap (λ s. s ++ spaced rest) next ∙ append_assoc t (spaced words) (spaced rest) ∙ ap (λ s. t ++ s) (sym (spaced_append words rest)) ∙ is

@@ -12,7 +12,7 @@ use Rattle.std.proofs.lemmas.Option.{get_or_from_slice_get}
 use Rattle.pb_base.specs.Names.{same_name, is_name, is_name_byte, is_code_name, place_in, true_word, false_word}
 use Rattle.pb_base.specs.Sets.{has, none_of}
 use Rattle.derivation.specs.Lines.{with_code, set_of}
-use Rattle.derivation.specs.Written.{members, spaced}
+use Rattle.derivation.specs.Written.{members}
 use Rattle.derivation.proofs.WordLaws.{is_plain}
 
 pub in_set : (names : List (List ℕ)) (x : List Bool) (i : ℕ) (name : List ℕ) → length x ≡ length names → i < length names → slice_get names i ≡ Some name → has x i ≡ true
@@ -26,10 +26,6 @@ pub left_out : (names : List (List ℕ)) (x : List Bool) (i : ℕ) → length x 
 left_out names x i len below here =
     let within : i < length x = omega arith in
     rw (drop_more names i [] below, drop_more x i false within, here) refl
-
-pub with_member : (whole t t₁ t₂ name : List ℕ) (rest : List (List ℕ)) → t₁ ≡ t ++ 32 ∷ [] → t₂ ≡ t₁ ++ name → t ++ spaced (name ∷ rest) ≡ whole → t₂ ++ spaced rest ≡ whole
-with_member whole t t₁ t₂ name rest first next is =
-    ap (λ s. s ++ spaced rest) (next ∙ ap (λ s. s ++ name) first ∙ append_assoc t (32 ∷ []) name) ∙ append_assoc t (32 ∷ name) (spaced rest) ∙ is
 
 name_place : (names : List (List ℕ)) (place : ℕ) → IsDistinct same_name names → place < length names → place_in names (get_or names place []) ≡ Some place
 name_place names place apart inside =

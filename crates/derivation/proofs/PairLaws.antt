@@ -10,19 +10,16 @@ use Rattle.clause_pool.specs.declared.chain.Pair.{Pair}
 use Rattle.derivation.specs.Lines.{pair_of, pairs_of}
 use Rattle.derivation.specs.Words.{number_of, literal_of}
 use Rattle.derivation.specs.Written.{PairFits, literal_word, pair_words, spaced}
-use Rattle.derivation.proofs.LineLaws.{more_words, spaced_append}
+use Rattle.derivation.proofs.LineLaws.{more_words, with_words}
 use Rattle.derivation.proofs.WordLaws.{is_plain, number_back, literal_back, plain_number, plain_literal}
 
 pub with_pair : (whole t t₁ t₂ : List ℕ) (pairs : List Pair) (i : ℕ) (p : Pair) → i < length pairs → p ≡ get_or pairs i p
     → t₁ ≡ t ++ spaced (literal_word p.lit ∷ []) → t₂ ≡ t₁ ++ spaced (decimal p.with ∷ [])
     → t ++ spaced (pair_words (drop i pairs)) ≡ whole → t₂ ++ spaced (pair_words (drop (i + 1) pairs)) ≡ whole
 with_pair whole t t₁ t₂ pairs i p below is lit other h =
-    let rest = pair_words (drop (i + 1) pairs) in
-    let words = literal_word p.lit ∷ decimal p.with ∷ [] in
     let first : drop i pairs ≡ p ∷ drop (i + 1) pairs = drop_more pairs i p below ∙ ap (λ q. q ∷ drop (i + 1) pairs) (sym is) in
-    ap (λ s. s ++ spaced rest) (more_words t t₁ t₂ (literal_word p.lit ∷ []) (decimal p.with ∷ []) lit other)
-    ∙ append_assoc t (spaced words) (spaced rest) ∙ ap (λ s. t ++ s) (sym (spaced_append words rest))
-    ∙ ap (λ ps. t ++ spaced (pair_words ps)) (sym first) ∙ h
+    with_words whole t t₂ (literal_word p.lit ∷ decimal p.with ∷ []) (pair_words (drop (i + 1) pairs))
+    (more_words t t₁ t₂ (literal_word p.lit ∷ []) (decimal p.with ∷ []) lit other) (ap (λ ps. t ++ spaced (pair_words ps)) (sym first) ∙ h)
 
 pair_back : (p : Pair) → PairFits p → pair_of (literal_of (literal_word p.lit)) (number_of (decimal p.with)) ≡ Some p
 pair_back p fits =

@@ -5,7 +5,7 @@ ghost use Rattle.derivation.specs.Leading.{TellsClosings, TellsSlice, TellsStep,
 ghost use Rattle.derivation.specs.Showing.{ShowsRelease};
 
 use crate::slice_proof::{Closing, SliceProof};
-use crate::written::{add_close_line, add_front, add_set_line, add_slice_line, add_step_line};
+use crate::written::{add_book_line, add_close_line, add_set_line, add_slice_line, add_step_line};
 use book_model::Book;
 use clause_pool::{Kernel, Ref};
 use pb_base::{Body, Memory};
@@ -18,7 +18,8 @@ pub fn write_cert(alloc: Global, book: &Book, proofs: &[SliceProof]) -> Result<B
 {
     let _conditions = book.codes();
     let mut text = Vec::new(alloc);
-    add_front(&mut text, book.name().bytes(), proofs.len() as u64)?;
+    text.extend_from_slice(b"partsbook certificate 1\n")?;
+    add_book_line(&mut text, book.name().bytes(), proofs.len() as u64)?;
     for (place, proof) in proofs.iter().enumerate() {
         add_slice(&mut text, book, place, proof)?;
     }
@@ -35,8 +36,10 @@ fn add_slice(
     requires { length proof.now.set ≡ length book.now.codes }
     ensures { OnOk result (TellsSlice book.now proof.now place text.old.items text.new.items) }
 {
+    let table = book.codes();
+    let _names = table.len();
     add_slice_line(text, place as u64)?;
-    add_set_line(text, book.codes(), &proof.set)?;
+    add_set_line(text, table, &proof.set)?;
     add_steps(text, &proof.kernel)?;
     add_closings(text, &proof.closed)
 }

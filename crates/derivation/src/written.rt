@@ -8,14 +8,13 @@ use clause_pool::{Lit, Pair, Ref};
 use itoa::Buffer;
 use pb_base::{CodeSet, CodeTable, Memory};
 
-/// Appends the first two lines.
+/// Appends the line with the name of the book and the number of its slices.
 #[tactic(auto, using(crate::proofs::LineLaws::some_words, crate::proofs::LineLaws::more_words))]
-pub(crate) fn add_front(text: &mut Vec<u8>, name: &[u8], slices: u64) -> Result<(), Memory>
-    ensures { OnOk result (text.new.items ≡ (text.old.items ++ line_of (codes "partsbook certificate 1") []) ++ line_of (codes "book") (name.now ∷ decimal slices ∷ [])) }
+pub(crate) fn add_book_line(text: &mut Vec<u8>, name: &[u8], slices: u64) -> Result<(), Memory>
+    ensures { OnOk result (text.new.items ≡ text.old.items ++ line_of (codes "book") (name.now ∷ decimal slices ∷ [])) }
 {
-    text.extend_from_slice(b"partsbook certificate 1\n")?;
-    text.extend_from_slice(b"book ")?;
-    text.extend_from_slice(name)?;
+    text.extend_from_slice(b"book")?;
+    add_word(text, name)?;
     add_number(text, slices)?;
     text.push(b'\n')?;
     Ok(())
@@ -84,8 +83,7 @@ fn add_members(text: &mut Vec<u8>, table: &CodeTable, set: &CodeSet) -> Result<(
 {
     for place in 0..table.len() {
         if set.has(place) {
-            text.push(b' ')?;
-            text.extend_from_slice(table.name_of(place).bytes())?;
+            add_word(text, table.name_of(place).bytes())?;
         }
     }
     Ok(())
@@ -99,6 +97,14 @@ fn add_pairs(text: &mut Vec<u8>, pairs: &[Pair]) -> Result<(), Memory>
         add_literal(text, pair.lit)?;
         add_number(text, pair.with as u64)?;
     }
+    Ok(())
+}
+
+fn add_word(text: &mut Vec<u8>, word: &[u8]) -> Result<(), Memory>
+    ensures { OnOk result (text.new.items ≡ text.old.items ++ spaced (word.now ∷ [])) }
+{
+    text.push(b' ')?;
+    text.extend_from_slice(word)?;
     Ok(())
 }
 
