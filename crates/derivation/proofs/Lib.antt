@@ -13,3 +13,4 @@ pub mod MemberLaws
 pub mod PairLaws
 pub mod LeadLaws
 pub mod TellLaws
+pub mod EngineBook

@@ -68,5 +68,5 @@ tells_slice (Ok done) b proof k t₀ t₁ t₂ t₃ t₄ apart form below first 
     let w : Work = record { slice = k; clauses = slice_clauses b s.first; waiting = to_close 0 (slice_asked b s.first) } in
     let begun = leads_slice b slices t₀ t₁ k past (slice_get_within slices k s is) below first in
     let set_read = leads_set b slices t₁ t₂ k s proof.set begun is apart form shows.codes shows.good next in
-    let derived = steps b slices w (sym shows.clauses) set_read in
+    let derived = steps b slices w (sym shows.kernel.given) set_read in
     (proof.kernel.clauses, closings b slices (record w { clauses = proof.kernel.clauses }) shows.closed derived)

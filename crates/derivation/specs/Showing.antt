@@ -6,6 +6,7 @@ use Rattle.std.specs.List.{AllZip}
 use Rattle.book_model.specs.Contents.{Contents}
 use Rattle.book_model.specs.Good.{is_good}
 use Rattle.book_model.specs.declared.record.Slice.{Slice}
+use Rattle.clause_pool.specs.Derivation.{Derivation}
 use Rattle.clausify.specs.Coded.{slice_clauses, slice_asked}
 use Rattle.derivation.specs.declared.slice_proof.Closing.{Closing}
 use Rattle.derivation.specs.declared.slice_proof.SliceProof.{SliceProof}
@@ -24,10 +25,13 @@ pub record Closes (clauses : List (List ℕ)) (w : Waiting) (c : Closing) : Type
 abbrev pub AllClosed : List (List ℕ) → List Waiting → List Closing → Type 0
 AllClosed clauses waiting closings = AllZip (Closes clauses) waiting closings
 
+-- the kernel's given clauses are these
+pub record StandsOver (clauses : List (List ℕ)) (kernel : Derivation) : Type 0 where
+  pub number : kernel.given ≡ length clauses
+  pub given : take kernel.given kernel.clauses ≡ clauses
+
 pub record ShowsSlice (b : Contents) (s : Slice) (proof : SliceProof) : Type 0 where
-  -- the kernel stands over the slice's clauses
-  pub given : proof.kernel.given ≡ length (slice_clauses b s.first)
-  pub clauses : take proof.kernel.given proof.kernel.clauses ≡ slice_clauses b s.first
+  pub kernel : StandsOver (slice_clauses b s.first) proof.kernel
   -- the set is one of the book's codes, and good
   pub codes : length proof.set ≡ length b.codes
   pub good : is_good b s.first proof.set ≡ true

@@ -25,4 +25,8 @@ pub use slice_proof::{Closing, SliceProof};
 pub use write::write_cert;
 
 #[cfg(test)]
+mod engine;
+#[cfg(test)]
+mod hand_made;
+#[cfg(test)]
 mod tests;
