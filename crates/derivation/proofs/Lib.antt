@@ -14,3 +14,4 @@ pub mod PairLaws
 pub mod LeadLaws
 pub mod TellLaws
 pub mod EngineBook
+pub mod HandMade
