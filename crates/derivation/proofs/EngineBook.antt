@@ -1,10 +1,10 @@
 -- The worked book of the tests is a book.
-use Rattle.std.proofs.Common.{◌≡◌, ℕ, suc, ◌<◌, ◌≤◌, ◌==◌, true, false, List, [], ◌∷◌, ◌++◌, length, map, if◌then◌else◌, lit≤, refl, sym, ap, ◌∙◌, arith}
+use Rattle.std.proofs.Common.{◌≡◌, ℕ, suc, ◌≤◌, ◌==◌, true, false, List, [], ◌∷◌, length, map, if◌then◌else◌, lit≤, refl, sym, ap, ◌∙◌, arith}
 use Rattle.std.specs.List.{IsDistinct, All}
 use Rattle.std.proofs.lemmas.List.{length-map}
 use Rattle.std.proofs.lemmas.List.Elements.{All-cons, All-nil}
 use Rattle.pb_base.specs.Names.{same_name}
-use Rattle.book_model.specs.Parts.{variants_from, variants_of}
+use Rattle.book_model.specs.Parts.{variants_from}
 use Rattle.book_model.specs.Book.{IsBook, SupplementFits, ConstructFits, PositionFits, VariantFits}
 use Rattle.book_model.specs.declared.record.Supplement.{Supplement}
 use Rattle.book_model.specs.declared.record.Construct.{Construct}

@@ -1,5 +1,5 @@
 -- Each line that is written leads on, and a text that leads to the end has no fault.
-use Rattle.std.proofs.Common.{◌≡◌, ℕ, zero, suc, ◌+◌, ◌<◌, ◌≤◌, ◌^◌, Bool, true, false, cond, eqb, ltb, ◌&&◌, List, [], ◌∷◌, ◌++◌, Option, None, Some, Result, Ok, Err, length, get_or, codes, refl, sym, ap, subst, ◌∙◌, arith, append_assoc, append-nil, eq-eqb}
+use Rattle.std.proofs.Common.{◌≡◌, ℕ, zero, suc, ◌+◌, ◌<◌, ◌^◌, Bool, true, false, cond, eqb, ltb, ◌&&◌, List, [], ◌∷◌, ◌++◌, None, Some, Result, Ok, Err, length, get_or, codes, refl, sym, ap, subst, ◌∙◌, arith, eq-eqb}
 use Rattle.std.proofs.Math.Numerals.{add-one}
 use Rattle.std.specs.List.{list_all, slice_get, IsDistinct, All}
 use Rattle.std.specs.Option.{option_map, option_map_or}
@@ -10,7 +10,6 @@ use Rattle.std.proofs.lemmas.Bool.{and_from, cond-true, lt-ltb}
 use Rattle.std.proofs.lemmas.List.Folds.{list_all-append}
 use Rattle.std.proofs.lemmas.Option.{slice_get-get_or}
 use Rattle.pb_base.specs.Names.{same_name, is_name, is_code_name}
-use Rattle.pb_base.specs.Sets.{none_of}
 use Rattle.book_model.specs.Contents.{Contents}
 use Rattle.book_model.specs.Good.{is_good}
 use Rattle.book_model.specs.declared.record.Slice.{Slice}
@@ -18,14 +17,14 @@ use Rattle.clause_pool.specs.Chain.{chain}
 use Rattle.clause_pool.specs.declared.chain.Pair.{Pair}
 use Rattle.derivation.specs.declared.fault.CertFault.{CertFault}
 use Rattle.derivation.specs.declared.fault.CertKind.{CertKind}
-use Rattle.derivation.specs.declared.fault.CertKind.TheVariants.{Syntax, WrongBook, NotClosed, BadSet, NoSuchStep}
+use Rattle.derivation.specs.declared.fault.CertKind.TheVariants.{Syntax, WrongBook, NotClosed, BadSet}
 use Rattle.derivation.specs.declared.fault.Certified.{Certified}
 use Rattle.derivation.specs.declared.slice_proof.Closing.{Closing}
 use Rattle.derivation.specs.declared.waiting.Waiting.{Waiting}
 use Rattle.derivation.specs.Certificate.{after_last, at_line, with_line, read_lines, within_limits, cert_fault}
-use Rattle.derivation.specs.Leading.{go_on, after_lines, ended, is_one_line, LeadsTo, LeadsPast}
+use Rattle.derivation.specs.Leading.{go_on, after_lines, is_one_line, LeadsTo, LeadsPast}
 use Rattle.derivation.specs.Limits.{slices_within}
-use Rattle.derivation.specs.Lines.{words_of, led_by, named, name_and_number, after_book, after_slice, after_end, is_good_set, set_of, opened, after_set, with_step, stepped, after_step, closes, closed_by, close_next, closed, both_of, after_close, after_work, after_line, pairs_of}
+use Rattle.derivation.specs.Lines.{led_by, named, name_and_number, after_book, after_slice, is_good_set, opened, after_set, with_step, stepped, closes, closed_by, close_next, closed, both_of, after_work, after_line, pairs_of}
 use Rattle.derivation.specs.Pieces.{pieces}
 use Rattle.derivation.specs.Showing.{Closes}
 use Rattle.derivation.specs.Stage.{Work, Stage, at_head, at_book, at_slices, at_set, within, at_end}

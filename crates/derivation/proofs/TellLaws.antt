@@ -1,5 +1,5 @@
 -- The lines of a proof lead through its slice.
-use Rattle.std.proofs.Common.{◌≡◌, ℕ, zero, suc, ◌+◌, ◌-◌, ◌<◌, ◌≤◌, ◌^◌, Bool, true, List, [], ◌∷◌, ◌++◌, Some, Result, Ok, Err, length, get_or, take, drop, codes, refl, sym, ap, subst, ◌∙◌, arith}
+use Rattle.std.proofs.Common.{◌≡◌, ℕ, zero, suc, ◌+◌, ◌<◌, ◌≤◌, ◌^◌, true, List, [], ◌∷◌, ◌++◌, Some, Result, Ok, Err, length, get_or, take, drop, codes, refl, sym, ap, subst, ◌∙◌, arith}
 use Rattle.std.specs.List.{list_all, slice_get, IsDistinct, All, AllZip}
 use Rattle.std.specs.Result.{OnOk}
 use Rattle.std.specs.Fmt.{decimal}
@@ -15,10 +15,9 @@ use Rattle.clause_pool.specs.declared.chain.Pair.{Pair}
 use Rattle.clausify.specs.Coded.{slice_clauses, slice_asked}
 use Rattle.derivation.specs.declared.slice_proof.Closing.{Closing}
 use Rattle.derivation.specs.declared.slice_proof.SliceProof.{SliceProof}
-use Rattle.derivation.specs.declared.waiting.Waiting.{Waiting}
-use Rattle.derivation.specs.Leading.{LeadsTo, LeadsPast, TellsSlice, TellsStep, TellsSteps, TellsClosings}
-use Rattle.derivation.specs.Showing.{Closes, AllClosed, ShowsSlice}
-use Rattle.derivation.specs.Stage.{Work, Stage, at_set, within, to_close}
+use Rattle.derivation.specs.Leading.{LeadsTo, TellsSlice, TellsStep, TellsSteps, TellsClosings}
+use Rattle.derivation.specs.Showing.{Closes, AllClosed}
+use Rattle.derivation.specs.Stage.{Work, within, to_close}
 use Rattle.derivation.specs.Written.{PairFits, line_of, members, pair_words}
 use Rattle.derivation.proofs.LeadLaws.{leads_slice, leads_set, leads_step, leads_close}
 

@@ -1,5 +1,5 @@
 -- A number or a literal reads back as it was written.
-use Rattle.std.proofs.Common.{◌≡◌, ℕ, suc, ◌+◌, ◌-◌, ◌*◌, ◌/◌, ◌%◌, ◌<◌, ◌≤◌, ◌^◌, min, Bool, true, false, not, cond, eqb, ltb, leb, ◌&&◌, ◌||◌, List, [], ◌∷◌, ◌++◌, Option, None, Some, length, get_or, inl, inr, ◌⊎◌, refl, sym, ap, subst, ◌∙◌, arith}
+use Rattle.std.proofs.Common.{◌≡◌, ℕ, ◌+◌, ◌/◌, ◌%◌, ◌<◌, ◌≤◌, ◌^◌, Bool, true, false, not, cond, eqb, ltb, leb, ◌||◌, List, [], ◌∷◌, ◌++◌, Option, None, Some, length, get_or, inl, inr, ◌⊎◌, refl, ap, ◌∙◌, arith}
 use Rattle.std.specs.List.{list_all}
 use Rattle.std.specs.Option.{option_map}
 use Rattle.std.specs.Fmt.{decimal}
@@ -7,7 +7,7 @@ use Rattle.std.proofs.lemmas.Bool.{and_from, cond-true, cases_Bool, eq-eqb, eqb-
 use Rattle.std.proofs.lemmas.Fmt.{decimal_by_steps, decimal_digit, first_decimal, decimal_nonempty, length-decimal-le}
 use Rattle.std.proofs.lemmas.List.Folds.{list_all-append}
 use Rattle.std.proofs.lemmas.Option.{same_Some}
-use Rattle.derivation.specs.Words.{highest, highest_variable, is_digit, with_digit, digits_of, has_number_form, number_of, literal_at, literal_of}
+use Rattle.derivation.specs.Words.{highest, is_digit, with_digit, digits_of, has_number_form, number_of, literal_at, literal_of}
 use Rattle.derivation.specs.Written.{literal_word}
 
 -- no space, and nothing else that ends a word or a line

@@ -2,7 +2,9 @@
 ghost use Rattle.std.specs.Prelude.{◌≡◌, ◌<◌, ◌^◌, [], ◌∷◌, All, IfOk, IfSome, length, map};
 ghost use Rattle.book_model.specs.Book.{RuleFits, SupplementFits, ConstructFits, PositionFits, VariantFits};
 
-use book_model::{Book, BookParts, Construct, Module, Position, Supplement, Variant, VariantGroups};
+use book_model::{
+    Book, BookParts, Construct, Module, Position, Supplement, Variant, VariantGroups,
+};
 use pb_base::{CodeName, CodeTable, Formula, Id, Memory, Part};
 use std::alloc::Global;
 use std::test::Fail;

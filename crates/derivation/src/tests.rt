@@ -115,7 +115,8 @@ fn the_worked_certificate_is_written_and_read_again(rt: HostRuntime) -> Result<(
     let chains = [chain(9, &first), chain(8, &second)];
     let closed = vec![in alloc; closing(13, 21), closing(14, 22)]?;
     let text = certificate(alloc, &book, set, &chains, closed)?.ok_or("it shows no release")?;
-    let want = b"partsbook certificate 1\nbook T 1\nslice 0\nset M1 G5\nstep 9 -0 15 -1 16\nstep 8 +7 5 +0 18 +1 19\nclose 13 21\nclose 14 22\nend\n";
+    let want =
+        b"partsbook certificate 1\nbook T 1\nslice 0\nset M1 G5\nstep 9 -0 15 -1 16\nstep 8 +7 5 +0 18 +1 19\nclose 13 21\nclose 14 22\nend\n";
     assert_eq!(rt; text.bytes(), want.as_slice());
     let certified = check_cert(alloc, &book, text.bytes())?;
     assert_eq!(rt;

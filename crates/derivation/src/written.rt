@@ -49,11 +49,7 @@ pub(crate) fn add_set_line(
 
 /// Appends the line of a step.
 #[tactic(auto, using(crate::proofs::LineLaws::some_words, crate::proofs::LineLaws::more_words))]
-pub(crate) fn add_step_line(
-    text: &mut Vec<u8>,
-    start: Ref,
-    pairs: &[Pair],
-) -> Result<(), Memory>
+pub(crate) fn add_step_line(text: &mut Vec<u8>, start: Ref, pairs: &[Pair]) -> Result<(), Memory>
     ensures line { OnOk result (text.new.items ≡ text.old.items ++ line_of (codes "step") (decimal start ∷ pair_words pairs.now)) }
     ensures fits { OnOk result ((start < 2 ^ 64) × All PairFits pairs.now) }
 {

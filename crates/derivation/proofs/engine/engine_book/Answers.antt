@@ -1,4 +1,4 @@
-use Rattle.std.proofs.Common.{List, sym, subst, ◌∙◌, ℕ}
+use Rattle.std.proofs.Common.{List, subst}
 use Rattle.book_model.specs.Groups.{AreGroups}
 use Rattle.book_model.specs.declared.record.Variant.{Variant}
 use Rattle.derivation.proofs.EngineBook.{engine_is_book}

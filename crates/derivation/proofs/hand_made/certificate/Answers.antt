@@ -1,4 +1,4 @@
-use Rattle.std.proofs.Common.{◌≡◌, ◌∙◌, ap, sym, length, Ok}
+use Rattle.std.proofs.Common.{◌∙◌, ap, sym, length, Ok}
 use Rattle.derivation.proofs.HandMade.{one_shown}
 use Rattle.derivation.proofs.hand_made.certificate.Goals as goal
 

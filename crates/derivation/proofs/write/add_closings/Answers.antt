@@ -1,4 +1,4 @@
-use Rattle.std.proofs.Common.{◌≡◌, ◌<◌, ◌≤◌, length, get_or, arith}
+use Rattle.std.proofs.Common.{◌<◌, ◌≤◌, length, get_or, arith}
 use Rattle.std.proofs.lemmas.List.{get_or_default}
 use Rattle.derivation.specs.declared.slice_proof.Closing.{Closing}
 use Rattle.derivation.proofs.TellLaws.{tells_closing, tells_all_closings}

@@ -1,4 +1,4 @@
-use Rattle.std.proofs.Common.{◌≡◌, ◌<◌, ◌+◌, ◌++◌, ◌∷◌, [], length, drop, sym, ap, ◌∙◌, arith}
+use Rattle.std.proofs.Common.{◌<◌, ◌+◌, ◌++◌, ◌∷◌, [], length, drop, sym, ap, ◌∙◌, arith}
 use Rattle.derivation.specs.Written.{members, spaced}
 use Rattle.derivation.proofs.LineLaws.{with_words}
 use Rattle.derivation.proofs.MemberLaws.{in_set, left_out}
