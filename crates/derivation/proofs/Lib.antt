@@ -7,3 +7,11 @@ pub mod DaysAlike
 pub mod Walk
 pub mod LimitLaws
 pub mod Released
+pub mod WordLaws
+pub mod LineLaws
+pub mod MemberLaws
+pub mod PairLaws
+pub mod LeadLaws
+pub mod TellLaws
+pub mod EngineBook
+pub mod HandMade

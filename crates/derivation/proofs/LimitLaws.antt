@@ -1,18 +1,19 @@
 -- What the limits of slices and questions say.
-use Rattle.std.proofs.Common.{◌≡◌, ℕ, suc, ◌<◌, ◌≤◌, ◌^◌, Bool, true, false, cond, ltb, leb, List, [], ◌∷◌, Option, None, Some, Ok, Err, length, map, refl, sym, ap, subst, ◌∙◌, arith}
-use Rattle.std.specs.List.{AllByRecursion}
+use Rattle.std.proofs.Common.{◌≡◌, ℕ, suc, ◌<◌, ◌≤◌, ◌^◌, Bool, true, false, cond, ltb, leb, List, [], ◌∷◌, Option, None, Some, Result, Ok, Err, length, map, refl, sym, ap, subst, ◌∙◌, arith}
+use Rattle.std.specs.List.{AllByRecursion, flat_map}
 use Rattle.std.proofs.lemmas.Bool.{leb-true, ltb-false}
 use Rattle.std.proofs.lemmas.List.{length-map}
 use Rattle.std.proofs.lemmas.List.Elements.{All-from_recursion}
 use Rattle.book_model.specs.Contents.{Contents}
-use Rattle.book_model.specs.Slices.{all_slices, slices_of}
+use Rattle.book_model.specs.Slices.{all_slices, slices_of, days_in, days_of}
+use Rattle.book_model.proofs.SliceLaws.{slices_partition}
 use Rattle.book_model.specs.declared.record.Slice.{Slice}
 use Rattle.book_model.specs.declared.slicing.LimitFault.{LimitFault}
 use Rattle.book_model.specs.declared.slicing.LimitFault.TheVariants.{Slices, Questions}
 use Rattle.clausify.specs.Limit.{most_questions}
 use Rattle.clausify.specs.declared.question.Asked.{Asked}
 use Rattle.clausify.specs.declared.question.Question.{Question}
-use Rattle.derivation.specs.Limits.{first_over, question_number, AreWithin}
+use Rattle.derivation.specs.Limits.{first_over, question_number, unless, with_questions, slices_within, AreWithin}
 
 ok_slices : (t : Bool) (all : List Slice) (fault : LimitFault) (slices : List Slice) → cond t (Ok all) (Err fault) ≡ Ok slices → (t ≡ true) × (all ≡ slices)
 ok_slices true all fault slices h = (refl, cc)
@@ -43,3 +44,21 @@ within_from_none k b slices h = All-from_recursion (λ s. question_number b s �
 
 pub few_asked : (asked : List Asked) (qs : List Question) → map (λ q. q.question) asked ≡ qs → length qs ≤ most_questions → length asked < 2 ^ 32
 few_asked asked qs is few = let same : length asked ≡ length qs = sym (length-map asked (λ q. q.question)) ∙ ap length is in omega arith
+
+-- a book that keeps the limits has the slices of its term, at least one
+ok_unless : (slices all : List Slice) (over : Option LimitFault) → unless all over ≡ Ok slices → all ≡ slices
+ok_unless slices all None h = cc
+ok_unless slices all (Some fault) h = absurd (cc)
+
+within_is : (b : Contents) (slices : List Slice) (r : Result (List Slice) LimitFault) → with_questions b r ≡ Ok slices → r ≡ Ok slices
+within_is b slices (Ok all) h = ap (λ l. Ok l) (ok_unless slices all (first_over 0 b all) h)
+within_is b slices (Err fault) h = absurd (cc)
+
+days_of_none : (b : Contents) (slices : List Slice) → slices ≡ [] → flat_map days_in slices ≡ days_of b → ⊥
+days_of_none b slices none h = let empty : flat_map days_in [] ≡ days_of b = ap (flat_map days_in) (sym none) ∙ h in absurd (cc)
+
+pub some_slices : (b : Contents) (slices : List Slice) → b.first ≤ b.last → slices_within b ≡ Ok slices → 0 < length slices
+some_slices b [] term h =
+    let all : all_slices b ≡ [] = slices_are_all b [] (within_is b [] (slices_of b) h) in
+    absurd (days_of_none b (all_slices b) all (slices_partition b term))
+some_slices b (s ∷ slices) term h = omega arith

@@ -6,3 +6,6 @@ pub mod Limits
 pub mod Certificate
 pub mod Reading
 pub mod Sets
+pub mod Written
+pub mod Showing
+pub mod Leading

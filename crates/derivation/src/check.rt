@@ -44,7 +44,7 @@ pub fn check_cert(alloc: Global, book: &Book, cert: &[u8]) -> Result<Certified, 
 
 // The slices of a book, where it keeps the limits of certificates.
 #[tactic(auto, using(crate::proofs::LimitLaws::few_slices, crate::proofs::LimitLaws::within_from_none))]
-fn slices_within(alloc: Global, book: &Book) -> Result<SliceList, Fail<LimitFault>>
+pub(crate) fn slices_within(alloc: Global, book: &Book) -> Result<SliceList, Fail<LimitFault>>
     ensures answer { Answers result (slices_within book.now) }
     ensures within { IfOk result (AreWithin book.now) }
     ensures few { IfOk result (λ slices. length slices ≤ 64) }

@@ -56,7 +56,7 @@ fn close_next(work: &mut Work, question: u64, clause: u64) -> Result<(), CertKin
 }
 
 // Whether a clause has no literal but the complement of the goal.
-fn closes(goal: Lit, clause: &[Lit]) -> bool
+pub(crate) fn closes(goal: Lit, clause: &[Lit]) -> bool
     ensures { result ≡ closes goal clause.now }
 {
     let complement = goal.not();

@@ -11,15 +11,22 @@ mod pieces;
 mod reading;
 mod set_line;
 mod slice_line;
+mod slice_proof;
 mod step_line;
 mod waiting;
 mod work;
 mod work_line;
 mod write;
+mod written;
 
 pub use check::check_cert;
 pub use fault::{CertFault, CertKind, Certified};
-pub use write::{Closing, SliceProof, write_cert};
+pub use slice_proof::{Closing, SliceProof};
+pub use write::write_cert;
 
+#[cfg(test)]
+mod engine;
+#[cfg(test)]
+mod hand_made;
 #[cfg(test)]
 mod tests;

@@ -40,7 +40,7 @@ pub(crate) fn open_slice(
 }
 
 // The questions that have to be closed, each under its number.
-fn to_close(alloc: Global, asked: &[Asked]) -> Result<Vec<Waiting>, Memory>
+pub(crate) fn to_close(alloc: Global, asked: &[Asked]) -> Result<Vec<Waiting>, Memory>
     requires { length asked.now < 2 ^ 32 }
     ensures { IfOk result (λ waiting. waiting.items ≡ to_close 0 asked.now) }
 {

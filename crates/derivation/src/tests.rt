@@ -1,17 +1,17 @@
-//! The worked certificate's lines over its clauses, texts that are near to it, and a certificate that is written and read again.
+//! The worked certificate's lines over its clauses, texts that are near to it, and certificates that are written and read again.
 
+use crate::engine::engine_book;
 use crate::fault::CertKind;
+use crate::hand_made::{Chain, certificate};
 use crate::number::literal;
 use crate::pieces::Pieces;
 use crate::reading::Reading;
 use crate::waiting::Waiting;
 use crate::work::Work;
 use crate::work_line::work_line;
-use crate::write::{add_closings, add_steps};
-use crate::{CertFault, Certified, Closing, SliceProof, check_cert, write_cert};
-use book_model::{Book, BookParts, Slice, VariantGroups};
+use crate::{CertFault, Certified, Closing, check_cert};
+use book_model::{Book, BookParts, VariantGroups};
 use clause_pool::{Kernel, Lit, Pair, Pool};
-use clausify::clauses_of;
 use pb_base::{CodeSet, CodeTable, Id, Memory};
 use std::alloc::Global;
 use std::test::Fail;
@@ -104,21 +104,33 @@ fn the_lines_of_the_worked_slice(rt: HostRuntime) -> Result<(), Fail> {
 }
 
 #[test]
-fn steps_made_by_hand_are_written_and_read_again(rt: HostRuntime) -> Result<(), Fail> {
+fn the_worked_certificate_is_written_and_read_again(rt: HostRuntime) -> Result<(), Fail> {
     let alloc = rt.alloc();
-    let mut kernel = worked_kernel(alloc)?;
+    let book = engine_book(alloc)?;
+    let mut set = CodeSet::none(alloc, 5)?;
+    set.with(0);
+    set.with(2);
     let first = [pair(0, false, 15), pair(1, false, 16)];
     let second = [pair(7, true, 5), pair(0, true, 18), pair(1, true, 19)];
-    kernel.resolve(9, &first)?;
-    kernel.resolve(8, &second)?;
-    let mut text = Vec::new(alloc);
-    add_steps(&mut text, &kernel)?;
-    add_closings(&mut text, &[closing(13, 21), closing(14, 22)])?;
-    text.extend_from_slice(b"end")?;
-    let want = b"step 9 -0 15 -1 16\nstep 8 +7 5 +0 18 +1 19\nclose 13 21\nclose 14 22\nend";
-    assert_eq!(rt; text.as_slice(), want.as_slice());
-    assert_eq!(rt; fault_in(alloc, &text)?, None);
+    let chains = [chain(9, &first), chain(8, &second)];
+    let closed = vec![in alloc; closing(13, 21), closing(14, 22)]?;
+    let text = certificate(alloc, &book, set, &chains, closed)?.ok_or("it shows no release")?;
+    let want =
+        b"partsbook certificate 1\nbook T 1\nslice 0\nset M1 G5\nstep 9 -0 15 -1 16\nstep 8 +7 5 +0 18 +1 19\nclose 13 21\nclose 14 22\nend\n";
+    assert_eq!(rt; text.bytes(), want.as_slice());
+    let certified = check_cert(alloc, &book, text.bytes())?;
+    assert_eq!(rt;
+        certified,
+        Certified {
+            slices: 1,
+            steps: 2
+        }
+    );
     Ok(())
+}
+
+fn chain<'a>(start: usize, pairs: &'a [Pair]) -> Chain<'a> {
+    Chain { start, pairs }
 }
 
 fn pair(var: u32, positive: bool, with: usize) -> Pair {
@@ -160,14 +172,8 @@ fn fault_of(alloc: Global, book: &Book, text: &[u8]) -> Option<CertFault> {
 fn a_book_without_records_has_a_certificate(rt: HostRuntime) -> Result<(), Fail> {
     let alloc = rt.alloc();
     let book = bare_book(alloc)?;
-    let coded = clauses_of(alloc, &book, Slice { first: 1, last: 9 })?;
-    let mut proofs = Vec::new(alloc);
-    proofs.push(SliceProof {
-        set: CodeSet::none(alloc, 0)?,
-        kernel: Kernel::of(alloc, coded.pool),
-        closed: Vec::new(alloc),
-    })?;
-    let text = write_cert(alloc, &book, &proofs)?;
+    let set = CodeSet::none(alloc, 0)?;
+    let text = certificate(alloc, &book, set, &[], Vec::new(alloc))?.ok_or("it shows no release")?;
     let want = b"partsbook certificate 1\nbook T 1\nslice 0\nset\nend\n";
     assert_eq!(rt; text.bytes(), want.as_slice());
     let certified = check_cert(alloc, &book, text.bytes())?;

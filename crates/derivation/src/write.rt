@@ -1,117 +1,75 @@
 //! The writing of a certificate.
-ghost use Rattle.std.specs.Prelude.{◌≡◌, None, IfOk};
+ghost use Rattle.std.specs.Prelude.{◌≡◌, ◌<◌, ◌≤◌, None, IfOk, OnOk, length};
 ghost use Rattle.derivation.specs.Certificate.{cert_fault};
+ghost use Rattle.derivation.specs.Leading.{TellsClosings, TellsSlice, TellsStep, TellsSteps};
+ghost use Rattle.derivation.specs.Showing.{ShowsRelease};
 
-use crate::check::check_cert;
-use crate::fault::CertFault;
+use crate::slice_proof::{Closing, SliceProof};
+use crate::written::{add_book_line, add_close_line, add_set_line, add_slice_line, add_step_line};
 use book_model::Book;
-use clause_pool::{Kernel, Lit, Ref};
-use pb_base::{Body, CodeSet, Fail, Memory};
+use clause_pool::{Kernel, Ref};
+use pb_base::{Body, Memory};
 use std::alloc::Global;
 
-/// What shows that a slice has no fault: a good set, and the clauses that close its questions.
-#[derive(Drop)]
-pub struct SliceProof {
-    pub set: CodeSet,
-    pub kernel: Kernel,
-    /// The questions that have to be closed, in order.
-    pub closed: Vec<Closing>,
-}
-
-/// A question, by its number among those of its slice, and the place of the clause that closes it.
-#[derive(Clone, Copy, Debug, PartialEq, Eq)]
-pub struct Closing {
-    pub question: u32,
-    pub at: Ref,
-}
-
-/// The certificate of a book, from one proof for each of its slices in order. What is written is checked again before
-/// it is given: it is refused, with its first fault, where the proofs don't show that the book can be released.
-pub fn write_cert(
-    alloc: Global,
-    book: &Book,
-    proofs: &[SliceProof],
-) -> Result<Body, Fail<CertFault>>
-    ensures { IfOk result (λ text. cert_fault book.now text ≡ None) }
+/// The certificate of a book, from one proof for each of its slices in order. What is written has no fault.
+pub fn write_cert(alloc: Global, book: &Book, proofs: &[SliceProof]) -> Result<Body, Memory>
+    requires { ShowsRelease book.now proofs.now }
+    ensures fault { IfOk result (λ text. cert_fault book.now text ≡ None) }
 {
-    let text = cert_text(alloc, book, proofs)?;
-    match check_cert(alloc, book, &text) {
-        Ok(_) => Ok(Body::of(text)),
-        Err(fault) => Err(fault),
-    }
-}
-
-fn cert_text(alloc: Global, book: &Book, proofs: &[SliceProof]) -> Result<Vec<u8>, Memory> {
+    let _conditions = book.codes();
     let mut text = Vec::new(alloc);
-    text.extend_from_slice(b"partsbook certificate 1\nbook ")?;
-    text.extend_from_slice(book.name().bytes())?;
-    add_word(&mut text, b"", proofs.len() as u64)?;
-    text.push(b'\n')?;
+    text.extend_from_slice(b"partsbook certificate 1\n")?;
+    add_book_line(&mut text, book.name().bytes(), proofs.len() as u64)?;
     for (place, proof) in proofs.iter().enumerate() {
-        text.extend_from_slice(b"slice")?;
-        add_word(&mut text, b"", place as u64)?;
-        text.extend_from_slice(b"\nset")?;
-        add_set(&mut text, book, &proof.set)?;
-        text.push(b'\n')?;
-        add_steps(&mut text, &proof.kernel)?;
-        add_closings(&mut text, &proof.closed)?;
+        add_slice(&mut text, book, place, proof)?;
     }
     text.extend_from_slice(b"end\n")?;
-    Ok(text)
+    Ok(Body::of(text))
 }
 
-fn add_set(text: &mut Vec<u8>, book: &Book, set: &CodeSet) -> Result<(), Memory> {
-    let codes = book.codes();
-    for place in 0..codes.len() {
-        if place < set.len() && set.has(place) {
-            text.push(b' ')?;
-            text.extend_from_slice(codes.name_of(place).bytes())?;
-        }
-    }
-    Ok(())
+fn add_slice(
+    text: &mut Vec<u8>,
+    book: &Book,
+    place: usize,
+    proof: &SliceProof,
+) -> Result<(), Memory>
+    requires { length proof.now.set ≡ length book.now.codes }
+    ensures { OnOk result (TellsSlice book.now proof.now place text.old.items text.new.items) }
+{
+    let table = book.codes();
+    let _names = table.len();
+    add_slice_line(text, place as u64)?;
+    add_set_line(text, table, &proof.set)?;
+    add_steps(text, &proof.kernel)?;
+    add_closings(text, &proof.closed)
 }
 
-pub(crate) fn add_steps(text: &mut Vec<u8>, kernel: &Kernel) -> Result<(), Memory> {
+// Appends the steps by which the further clauses were derived.
+fn add_steps(text: &mut Vec<u8>, kernel: &Kernel) -> Result<(), Memory>
+    ensures { OnOk result (TellsSteps kernel.now text.old.items text.new.items) }
+{
     for at in kernel.given()..kernel.pool().len() {
-        if let Some(start) = kernel.start_of(at) {
-            text.extend_from_slice(b"step")?;
-            add_word(text, b"", start as u64)?;
-            for pair in kernel.pairs_of(at) {
-                add_literal(text, pair.lit)?;
-                add_word(text, b"", pair.with as u64)?;
-            }
-            text.push(b'\n')?;
-        }
+        add_step(text, kernel, at)?;
     }
     Ok(())
 }
 
-pub(crate) fn add_closings(text: &mut Vec<u8>, closed: &[Closing]) -> Result<(), Memory> {
+fn add_step(text: &mut Vec<u8>, kernel: &Kernel, at: Ref) -> Result<(), Memory>
+    requires derived { kernel.now.given ≤ at }
+    requires there { at < length kernel.now.clauses }
+    ensures { OnOk result (TellsStep kernel.now at text.old.items text.new.items) }
+{
+    match kernel.start_of(at) {
+        Some(start) => add_step_line(text, start, kernel.pairs_of(at)),
+        None => Ok(()),
+    }
+}
+
+fn add_closings(text: &mut Vec<u8>, closed: &[Closing]) -> Result<(), Memory>
+    ensures { OnOk result (TellsClosings closed.now text.old.items text.new.items) }
+{
     for closing in closed {
-        text.extend_from_slice(b"close")?;
-        add_word(text, b"", u64::from(closing.question))?;
-        add_word(text, b"", closing.at as u64)?;
-        text.push(b'\n')?;
+        add_close_line(text, *closing)?;
     }
-    Ok(())
-}
-
-fn add_literal(text: &mut Vec<u8>, lit: Lit) -> Result<(), Memory> {
-    let sign = if lit.positive() { b"+" } else { b"-" };
-    add_word(text, sign, u64::from(lit.var()))
-}
-
-// A further word: a sign, if there is one, and a number.
-fn add_word(text: &mut Vec<u8>, sign: &[u8], number: u64) -> Result<(), Memory> {
-    text.push(b' ')?;
-    text.extend_from_slice(sign)?;
-    add_number(text, number)
-}
-
-fn add_number(text: &mut Vec<u8>, number: u64) -> Result<(), Memory> {
-    if number >= 10 {
-        add_number(text, number / 10)?;
-    }
-    text.push(b'0' + (number % 10) as u8)?;
     Ok(())
 }
