@@ -4,7 +4,7 @@
 --     part_in         a Part: 1 to 16 bytes of A to Z and 0 to 9
 --     number_in       1 to 5 digits, from a least to a greatest value; leading zeros are accepted
 --     day_in          a number from 1 to 99,999
-use Rattle.std.specs.Prelude.{ℕ, ◌+◌, ◌*◌, ◌-◌, Bool, true, false, not, ◌&&◌, ◌==◌, List, [], ◌∷◌, length, drop, Option, Some, None, Result, Ok, Err, nat_le, nat_lt, slice_index_or, if◌then◌else◌, codes}
+use Rattle.std.specs.Prelude.{ℕ, Bool, true, false, not, ◌&&◌, ◌==◌, List, [], length, drop, Option, Some, None, Result, Ok, Err, nat_le, nat_lt, slice_index_or, if◌then◌else◌, codes}
 use Rattle.std.specs.List.{list_all}
 use Rattle.pb_base.specs.Names.{is_name, is_code_name, is_part, same_name}
 use Rattle.pb_base.specs.Digits.{is_number, value_of}

@@ -5,8 +5,8 @@ use Rattle.book_model.specs.Contents.{Contents}
 use Rattle.book_text.specs.BookText.{book_of}
 use Rattle.book_text.specs.declared.fault.BookFault.{BookFault}
 use Rattle.pb_outside.specs.Files.{NamedBytes, ReadsFile}
-use Rattle.partsbook.specs.Reply.{Reply, cert_limit, book_fault_reply, order_reply, content_reply, verify_reply, command_reply}
-use Rattle.partsbook.specs.Run.{CameFrom, RepliesTo, RepliesToFile, Gives, GivesFor}
+use Rattle.partsbook.specs.Reply.{Reply, cert_limit, book_fault_reply, order_reply, verify_reply, command_reply}
+use Rattle.partsbook.specs.Run.{RepliesTo, RepliesToFile, Gives, GivesFor}
 use Rattle.partsbook.specs.declared.command.Command.{Command}
 use Rattle.partsbook.specs.declared.command.Command.TheVariants.{Order, Verify}
 use Rattle.partsbook.specs.declared.log.Note.{Note}

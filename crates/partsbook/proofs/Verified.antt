@@ -1,6 +1,6 @@
 -- A certificate that was found without fault shows that the book can be released.
-use Rattle.std.proofs.Common.{◌≡◌, ℕ, List, Option, None, Some, Result, Ok, Err, refl, sym, subst, take, ◌∙◌}
-use Rattle.std.specs.Prelude.{IfSome, IsOkAnd}
+use Rattle.std.proofs.Common.{◌≡◌, ℕ, List, Option, None, Some, Result, Ok, Err, refl, subst}
+use Rattle.std.specs.Prelude.{IsOkAnd}
 use Rattle.std.specs.Option.{option_map_or}
 use Rattle.book_model.specs.Contents.{Contents}
 use Rattle.book_model.specs.Book.{IsBook}
@@ -15,7 +15,7 @@ use Rattle.derivation.proofs.Released.{releasable_when_answered}
 use Rattle.pb_outside.specs.Files.{NamedBytes}
 use Rattle.partsbook.specs.Words.{command_in}
 use Rattle.partsbook.specs.Reply.{usage_reply, certified_reply, content_reply, verify_reply, command_reply, reply}
-use Rattle.partsbook.specs.Run.{input_limit, GivesReply, ShowsRelease}
+use Rattle.partsbook.specs.Run.{GivesReply, ShowsRelease}
 use Rattle.partsbook.specs.declared.command.Command.{Command}
 use Rattle.partsbook.specs.declared.command.Command.TheVariants.{Verify}
 use Rattle.partsbook.specs.declared.log.Note.{Note}
