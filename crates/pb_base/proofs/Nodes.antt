@@ -1,13 +1,12 @@
 -- The list of nodes that a rule is kept as: read back, found true, and taken apart.
-use Rattle.std.proofs.Common.{◌≡◌, ℕ, zero, suc, ◌+◌, ◌-◌, ◌≤◌, ◌<◌, Bool, true, false, ◌&&◌, ◌||◌, List, [], ◌∷◌, ◌++◌, length, take, drop, replicate, get_or, refl, sym, ap, ◌∙◌, arith, add-one, append_assoc}
+use Rattle.std.proofs.Common.{◌≡◌, ℕ, zero, suc, ◌+◌, ◌<◌, Bool, true, false, ◌&&◌, ◌||◌, List, [], ◌∷◌, ◌++◌, length, drop, replicate, get_or, refl, sym, ap, ◌∙◌, arith}
 use Rattle.std.proofs.lemmas.List.{append-nil, length-replicate, drop-drop}
 use Rattle.std.proofs.Math.Seq.{drop-cons}
-use Rattle.std.specs.List.{list_all}
 use Rattle.std.proofs.Math.Bool.{and_assoc}
 use Rattle.pb_base.specs.Rule.{Rule, code, negation, both, either, always, never, holds, codes_below, negated, top}
-use Rattle.pb_base.specs.Node.{size_with, size, nodes_then, nodes_of, with_node, read_on, rule_of, is_below, are_below, value_after, skip_after, rule_of_leaf, leaf_node}
+use Rattle.pb_base.specs.Node.{size_with, size, nodes_then, nodes_of, read_on, rule_of, is_below, are_below, value_after, skip_after, rule_of_leaf, leaf_node}
 use Rattle.pb_base.specs.declared.node.Node.{Node}
-use Rattle.pb_base.specs.declared.node.Node.TheVariants.{Code, Not, WhenTrue, WhenFalse, And, Or, Yes, No}
+use Rattle.pb_base.specs.declared.node.Node.TheVariants.{Not, WhenTrue, WhenFalse, And, Or}
 use Rattle.pb_base.specs.declared.node.Leaf.{Leaf}
 use Rattle.pb_base.specs.declared.node.Leaf.TheVariants.{Code as LeafCode, Yes as LeafYes, No as LeafNo}
 

@@ -1,10 +1,9 @@
 -- The outermost form of a rule, found at the end of its list of nodes.
 use Rattle.std.proofs.Common.{◌≡◌, ℕ, ◌+◌, ◌-◌, ◌≤◌, List, [], ◌∷◌, ◌++◌, length, take, drop, get_or, refl, sym, ap, ◌∙◌, arith, append_assoc}
-use Rattle.std.proofs.lemmas.Grind.{common_steps}
 use Rattle.std.proofs.Math.Seq.{get_or-append_seam, take-append_seam, drop-append-add}
 use Rattle.std.proofs.lemmas.List.{length-append}
 use Rattle.pb_base.specs.Rule.{Rule, code, negation, both, either, always, never}
-use Rattle.pb_base.specs.Node.{size, nodes_then, nodes_of, rule_of}
+use Rattle.pb_base.specs.Node.{size, nodes_of, rule_of}
 use Rattle.pb_base.specs.declared.node.Node.{Node}
 use Rattle.pb_base.specs.declared.node.Node.TheVariants.{Code, Not, WhenTrue, WhenFalse, And, Or, Yes, No}
 use Rattle.pb_base.proofs.Nodes.{nodes_and, nodes_of-both, nodes_of-either, length-nodes_of, reads, lawful}

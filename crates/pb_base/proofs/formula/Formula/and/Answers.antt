@@ -1,7 +1,7 @@
 -- The two lists joined by the nodes of the connective.
 use Rattle.std.proofs.Common.{◌≡◌, ◌∷◌, [], ◌++◌, ◌∙◌, length, ap}
 use Rattle.pb_base.specs.Rule.{both}
-use Rattle.pb_base.specs.Node.{rule_of, nodes_of}
+use Rattle.pb_base.specs.Node.{rule_of}
 use Rattle.pb_base.specs.declared.node.Node.TheVariants.{WhenTrue, And}
 use Rattle.pb_base.proofs.Nodes.{lawful, reads, both_joined}
 use Rattle.pb_base.proofs.formula.Formula.and.Goals as goal

@@ -1,8 +1,7 @@
 -- The list and that of the word, joined by the nodes of the connective.
-use Rattle.std.proofs.Common.{◌≡◌, ◌∷◌, [], ◌++◌, ◌∙◌, length, replicate, ap, append_assoc, arith}
-use Rattle.pb_base.specs.Rule.{Rule, both, negated}
-use Rattle.pb_base.specs.Node.{rule_of, nodes_of, rule_of_leaf, leaf_node}
-use Rattle.pb_base.specs.declared.node.Node.{Node}
+use Rattle.std.proofs.Common.{◌≡◌, ◌∷◌, [], ◌++◌, ◌∙◌, length, replicate, ap, append_assoc}
+use Rattle.pb_base.specs.Rule.{both, negated}
+use Rattle.pb_base.specs.Node.{rule_of, rule_of_leaf, leaf_node}
 use Rattle.pb_base.specs.declared.node.Node.TheVariants.{Not, WhenTrue, And}
 use Rattle.pb_base.proofs.Nodes.{lawful, reads, both_joined, leaf_joined, leaf_long}
 use Rattle.pb_base.proofs.formula.Formula.and_leaf.Goals as goal

@@ -1,5 +1,5 @@
 -- What is left of the list is passed over node by node.
-use Rattle.std.proofs.Common.{◌≡◌, ◌+◌, ◌∙◌, length, rules, arith, sym, ap, true}
+use Rattle.std.proofs.Common.{◌≡◌, ◌+◌, ◌∙◌, length, arith, sym, ap, true}
 use Rattle.std.proofs.lemmas.List.{drop_all}
 use Rattle.pb_base.specs.Rule.{holds, codes_below}
 use Rattle.pb_base.specs.Node.{rule_of}

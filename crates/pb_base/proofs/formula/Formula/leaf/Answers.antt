@@ -1,5 +1,5 @@
 -- The list of the word.
-use Rattle.std.proofs.Common.{◌≡◌, ◌∷◌, ◌++◌, ◌∙◌, replicate, ap}
+use Rattle.std.proofs.Common.{◌∷◌, ◌++◌, ◌∙◌, replicate, ap}
 use Rattle.pb_base.specs.Rule.{negated}
 use Rattle.pb_base.specs.Node.{rule_of_leaf, leaf_node}
 use Rattle.pb_base.specs.declared.node.Node.TheVariants.{Not}

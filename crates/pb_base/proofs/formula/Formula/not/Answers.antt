@@ -1,5 +1,5 @@
 -- The list with a minus sign behind it.
-use Rattle.std.proofs.Common.{◌≡◌, ◌∙◌, ap}
+use Rattle.std.proofs.Common.{◌∙◌, ap}
 use Rattle.pb_base.specs.Rule.{negation}
 use Rattle.pb_base.specs.Node.{rule_of}
 use Rattle.pb_base.proofs.Nodes.{lawful, reads, negated_joined}

@@ -1,6 +1,6 @@
 -- The last node says the outermost form, and its size where the sides stand.
-use Rattle.std.proofs.Common.{◌≡◌, ◌∙◌, rules, arith, sym, ap}
-use Rattle.pb_base.specs.Rule.{both, either, negation}
+use Rattle.std.proofs.Common.{◌∙◌, arith, ap}
+use Rattle.pb_base.specs.Rule.{negation}
 use Rattle.pb_base.proofs.Shapes.{and_sides, or_sides, and_within, or_within, not_under, code_is, always_is, never_is, true_jump_ends_none, false_jump_ends_none}
 use Rattle.pb_base.proofs.part.FormulaPart.shape.Goals as goal
 
