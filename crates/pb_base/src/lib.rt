@@ -10,7 +10,9 @@ mod formula;
 pub mod limits;
 mod named_set;
 mod names;
+mod node;
 mod padded;
+mod part;
 mod sequence;
 mod text;
 
@@ -19,9 +21,11 @@ pub use code_set::CodeSet;
 pub use code_table::CodeTable;
 pub use day::Day;
 pub use digits::{number_within, short_number};
-pub use formula::{Formula, Node};
+pub use formula::Formula;
 pub use named_set::NameFault;
 pub use names::{CodeName, Id, Part};
+pub use node::{Leaf, Node};
+pub use part::{FormulaPart, Shape};
 pub use sequence::{Body, CodeList, Sequence};
 pub use text::Text;
 
