@@ -10,7 +10,7 @@ mod items;
 mod question;
 mod usage;
 
-pub use coding::clauses_of;
+pub use coding::{clauses_of, coded_slice};
 pub use counting::question_count;
 pub use question::{Asked, Coded, Question};
 pub use usage::Usage;
