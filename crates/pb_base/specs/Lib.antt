@@ -3,7 +3,7 @@ pub mod Names
 pub mod Sets
 pub mod Answers
 pub mod Node
-pub mod NodeDepth
+pub mod Shape
 pub mod Padding
 pub mod Table
 pub mod Digits

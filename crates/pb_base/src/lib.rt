@@ -10,7 +10,9 @@ mod day;
 mod digits;
 mod formula;
 mod names;
+mod node;
 mod padded;
+mod part;
 
 pub use answer::{Fail, Memory};
 pub use body::Body;
@@ -19,8 +21,10 @@ pub use code_set::CodeSet;
 pub use code_table::CodeTable;
 pub use day::Day;
 pub use digits::number_of;
-pub use formula::{Formula, Node};
+pub use formula::Formula;
 pub use names::{CodeName, Id, Part};
+pub use node::{Leaf, Node};
+pub use part::{FormulaPart, Shape};
 
 #[cfg(test)]
 mod tests;
