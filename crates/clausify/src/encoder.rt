@@ -2,8 +2,8 @@
 ghost use Rattle.std.specs.Prelude.{◌≡◌, ◌+◌, ◌^◌, ◌<◌, true, [], ◌∷◌, IfOk, OnOk};
 ghost use Rattle.clause_pool.specs.Literal.{literal};
 ghost use Rattle.clause_pool.specs.Clause.{clause_of};
-ghost use Rattle.clausify.specs.Formulas.{connectives, literal_of, formula_clauses, both_clauses, either_clauses};
-ghost use Rattle.clausify.specs.Making.{Makes};
+ghost use Rattle.clausify.specs.Formulas.{connectives, formula_literal, formula_clauses, both_clauses, either_clauses};
+ghost use Rattle.clausify.specs.Encoding.{Encodes};
 
 use clause_pool::{Lit, Pool};
 use pb_base::{Formula, Memory, Node};
@@ -11,7 +11,7 @@ use std::alloc::Global;
 
 /// The clauses that are made so far, and the variables that are taken.
 #[derive(Drop)]
-pub(crate) struct Maker {
+pub(crate) struct Encoder {
     pub(crate) pool: Pool,
     /// The variable that is always true, after those of the codes.
     pub(crate) truth: u32,
@@ -19,9 +19,9 @@ pub(crate) struct Maker {
     pub(crate) next: u32,
 }
 
-impl Maker {
+impl Encoder {
     /// The first clause, over this many codes.
-    pub(crate) fn new(alloc: Global, codes: u32) -> Result<Maker, Memory>
+    pub(crate) fn new(alloc: Global, codes: u32) -> Result<Encoder, Memory>
         requires { codes + 1 < 2 ^ 32 }
         ensures clauses { IfOk result (λ m. m.pool.clauses ≡ clause_of (literal codes true ∷ []) ∷ []) }
         ensures truth { IfOk result (λ m. m.truth ≡ codes) }
@@ -29,7 +29,7 @@ impl Maker {
     {
         let mut pool = Pool::new(alloc);
         pool.add(&[Lit::new(codes, true)])?;
-        Ok(Maker {
+        Ok(Encoder {
             pool,
             truth: codes,
             next: codes + 1,
@@ -39,7 +39,7 @@ impl Maker {
     /// A new variable that is true where both literals are.
     pub(crate) fn both(&mut self, left: Lit, right: Lit) -> Result<Lit, Memory>
         requires { self.old.next + 1 < 2 ^ 32 }
-        ensures made { OnOk result (Makes self.old self.new (both_clauses self.old.next left right) 1) }
+        ensures made { OnOk result (Encodes self.old self.new (both_clauses self.old.next left right) 1) }
         ensures literal { IfOk result (λ l. l ≡ literal self.old.next true) }
     {
         let named = Lit::new(self.next, true);
@@ -54,7 +54,7 @@ impl Maker {
     /// A new variable that is true where one of the literals is.
     pub(crate) fn either(&mut self, left: Lit, right: Lit) -> Result<Lit, Memory>
         requires { self.old.next + 1 < 2 ^ 32 }
-        ensures made { OnOk result (Makes self.old self.new (either_clauses self.old.next left right) 1) }
+        ensures made { OnOk result (Encodes self.old self.new (either_clauses self.old.next left right) 1) }
         ensures literal { IfOk result (λ l. l ≡ literal self.old.next true) }
     {
         let named = Lit::new(self.next, true);
@@ -69,8 +69,8 @@ impl Maker {
     /// The literal of a formula, with its clauses made.
     pub(crate) fn literal(&mut self, rule: &Formula) -> Result<Lit, Memory>
         requires { self.old.next + connectives rule.now < 2 ^ 32 }
-        ensures made { OnOk result (Makes self.old self.new (formula_clauses self.old.truth self.old.next rule.now) (connectives rule.now)) }
-        ensures literal { IfOk result (λ l. l ≡ literal_of self.old.truth self.old.next rule.now) }
+        ensures made { OnOk result (Encodes self.old self.new (formula_clauses self.old.truth self.old.next rule.now) (connectives rule.now)) }
+        ensures literal { IfOk result (λ l. l ≡ formula_literal self.old.truth self.old.next rule.now) }
     {
         match rule.node() {
             Node::Code(place) => Ok(Lit::new(*place, true)),

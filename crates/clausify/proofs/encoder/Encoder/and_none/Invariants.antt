@@ -1,6 +1,6 @@
 use Rattle.std.proofs.Common.{◌≡◌, ◌+◌, ◌++◌, drop}
 use Rattle.clausify.specs.Goals.{none_clauses, none_literal}
-use Rattle.clausify.proofs.maker.Maker.and_none.Given as goal
+use Rattle.clausify.proofs.encoder.Encoder.and_none.Given as goal
 
 abbrev pub invariant-loop-usage : goal.invariant-loop-usage
 invariant-loop-usage l = record {
