@@ -1,0 +1,5 @@
+pub mod NamedSets
+mod NameFaults
+mod DigitRoom
+pub mod Nodes
+pub mod Shapes
