@@ -55,10 +55,7 @@ impl<R: rt::Files> Files for SystemFiles<'_, R> {
 
     fn read(&mut self, alloc: Global, name: &str, max: usize) -> Result<Option<Vec<u8>>, OutError> {
         match read_file(alloc, self.system, name, max) {
-            Err(OutError::Failed) => {
-                self.faults.raise();
-                Err(OutError::Failed)
-            }
+            Err(OutError::Failed) => self.faults.fail(),
             answer => answer,
         }
     }

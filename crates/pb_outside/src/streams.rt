@@ -51,10 +51,7 @@ impl<R: Read> Source for StreamSource<R> {
                 }
                 Ok(count)
             }
-            Err(_) => {
-                self.faults.raise();
-                Err(OutError::Failed)
-            }
+            Err(_) => self.faults.fail(),
         }
     }
 
@@ -83,22 +80,6 @@ impl<W: Write> StreamSink<W> {
     }
 }
 
-impl<W: Write> StreamSink<W> {
-    ghost use Rattle.std.specs.Prelude.{◌≤◌};
-    ghost use Rattle.pb_outside.specs.Faults.{Rose};
-
-    // Counts a fault of the writer.
-    fn fail(&mut self) -> Result<(), OutError>
-        ensures failed { result ≡ Err OutError.Failed }
-        ensures rose { Rose self.old.faults self.new.faults }
-        ensures never_falls { self.old.faults ≤ self.new.faults }
-        ensures kept { self.new.writer ≡ self.old.writer }
-    {
-        self.faults.raise();
-        Err(OutError::Failed)
-    }
-}
-
 impl<W: Write> Ends for StreamSink<W> {
     ghost input = { λ _. no_input };
 
@@ -112,13 +93,13 @@ impl<W: Write> Sink for StreamSink<W> {
         let mut rest = piece;
         while !rest.is_empty() {
             match self.writer.write(rest) {
-                Ok(0) => return self.fail(),
+                Ok(0) => return self.faults.fail(),
                 Ok(count) => rest = &rest[count..],
-                Err(_) => return self.fail(),
+                Err(_) => return self.faults.fail(),
             }
         }
         if self.writer.flush().is_err() {
-            return self.fail();
+            return self.faults.fail();
         }
         Ok(())
     }

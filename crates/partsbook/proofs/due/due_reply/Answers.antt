@@ -21,8 +21,8 @@ pub returns-in-Err-Failed-command_reply-clause-due : goal.returns-in-Err-Failed-
 returns-in-Err-Failed-command_reply-clause-due g c =
     let failed : c.command_reply.result ≡ Err Failed = c.in-Err-Failed-command_reply.is ∙ ap (λ (e : OutError). Err e) c.in-Err-Failed-command_reply.field-0-is in
     let fails = rw c.deref.ensures.value at c.command_reply.ensures.cause failed in
-    Due-of_files _ _ _ c.in-Ok.input.items _ (record { text = c.in-Ok.ensures.told; count = c.in-Ok.ensures.stays }) fails
-    (rw (← c.faults-files_before.ensures, ← c.faults.ensures) c.read_fault-in-Err-Failed-command_reply.ensures)
+    let told = rw (c.faults-files_before.ensures, c.faults.ensures) at c.read_fault-in-Err-Failed-command_reply.ensures in
+    Due-of_files _ _ _ c.in-Ok.input.items _ (record { text = c.in-Ok.ensures.told; count = c.in-Ok.ensures.stays }) fails told
 
 pub returns-clause-due : goal.returns-clause-due
 returns-clause-due g c = Due-of_memory _ _ _ c.in-Ok.input.items (record { text = c.in-Ok.ensures.told; count = c.in-Ok.ensures.stays })
