@@ -15,7 +15,6 @@ use Rattle.partsbook.specs.declared.command.BookCommand.TheVariants.{Order, Veri
 abbrev pub cert_limit : ℕ
 cert_limit = 67108864
 
-
 -- the certificate is the content of its file, of which a longer one than the limit has none
 pub record RepliesToFile (b : Contents) (file : List ℕ) (files files' : FilesTold) (reply : RunReply) : Type 0 where
   pub content : Option (List ℕ)

@@ -31,10 +31,8 @@ pub fn verify_reply<F: Files>(
     files: &mut F,
 ) -> Result<RunReply, OutError>
     ensures reply { IfOk result (RepliesToVerify (book_of text.now) file.now (F.told files.old) (F.told files.new)) }
-    ensures cause {
-        let fails = FailsAtCertificate file.now text.now (F.told files.old) (F.told files.new) in
-        result ≡ Err OutError.Failed → fails
-    }
+    ensures cause { let fails = FailsAtCertificate file.now text.now (F.told files.old) (F.told files.new) in
+        result ≡ Err OutError.Failed → fails }
     ensures kept { ReadsFiles (F.told files.old) (F.told files.new) }
 {
     match read_book(alloc, text) {

@@ -29,11 +29,9 @@ pub fn due_reply<S: Source, F: Files>(
     source: &mut S,
     files: &mut F,
 ) -> Result<RunReply, Memory>
-    ensures due {
-        let before = inputs (S.input source.old) (F.told files.old) in
+    ensures due { let before = inputs (S.input source.old) (F.told files.old) in
         let after = inputs (S.input source.new) (F.told files.new) in
-        Due command.now before after (due_of result)
-    }
+        Due command.now before after (due_of result) }
     ensures source_later { IsLater (S.input source.old).faults (S.input source.new).faults }
     ensures files_kept { KeepsFiles command.now (F.told files.old) (F.told files.new) }
 {
@@ -61,10 +59,8 @@ fn command_reply<F: Files>(
     files: &mut F,
 ) -> Result<RunReply, OutError>
     ensures reply { IfOk result (RepliesTo command.now input.now (F.told files.old) (F.told files.new)) }
-    ensures cause {
-        let fails = FailsAtFile command.now input.now (F.told files.old) (F.told files.new) in
-        result ≡ Err OutError.Failed → fails
-    }
+    ensures cause { let fails = FailsAtFile command.now input.now (F.told files.old) (F.told files.new) in
+        result ≡ Err OutError.Failed → fails }
     ensures kept { KeepsFiles command.now (F.told files.old) (F.told files.new) }
 {
     match command {
