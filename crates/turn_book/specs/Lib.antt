@@ -1,0 +1,4 @@
+pub mod History
+pub mod Standing
+pub mod Turning
+pub mod Steps
