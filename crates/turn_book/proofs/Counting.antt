@@ -69,8 +69,7 @@ module _ {M C R : Type 0} (good : M → List (Entry M C R) → Type 0) (start : 
       let seen_length : length (v.seen ++ e ∷ []) ≡ length v.seen + 1 = length-append v.seen (e ∷ []) in
       let own_length : length (v.own ++ length v.seen ∷ []) ≡ length v.own + 1 = length-append v.own (length v.seen ∷ []) in
       let mades : sum_by made (set s.views id w) + length v.own ≡ sum_by made s.views + length (v.own ++ length v.seen ∷ []) = sum_set made s.views id v w at in
-      let inside_log : (x : ℕ) (l : _) → x < length v.own → get_or v.own x l < length (v.seen ++ e ∷ []) = (λ x l h. let b : get_or v.own x l < length v.seen = k.inside x l h in omega arith) in
-      (
+      let inside_log : (x : ℕ) (l : _) → x < length v.own → get_or v.own x l < length (v.seen ++ e ∷ []) = (λ x l h. let b : get_or v.own x l < length v.seen = k.inside x l h in omega arith) in (
         w,
         keeps,
         tt,
@@ -96,8 +95,8 @@ module _ {M C R : Type 0} (good : M → List (Entry M C R) → Type 0) (start : 
                 at_stage = (mine, stage.1, ap (λ l. l ++ e ∷ []) seen_all, omega arith);
               }
               (λ j u other at_u. let ku = r.each_seat j u at_u in
-                  knows_on d (serving s) d (serving s) r.log log u (starts_more r.log (e ∷ [])) ku
-                      (stage_counts d (serving s) r.log u log u.stage (λ has same. other (r.apart j id u v at_u at has (subst HasTicket (sym turn) tt) (same ∙ sym mine))) ku.at_stage)));
+              knows_on d (serving s) d (serving s) r.log log u (starts_more r.log (e ∷ [])) ku
+              (stage_counts d (serving s) r.log u log u.stage (λ has same. other (r.apart j id u v at_u at has (subst HasTicket (sym turn) tt) (same ∙ sym mine))) ku.at_stage)));
           apart = apart_set s.views id w r.apart (same_ticket s.views id v w r.apart at (subst HasTicket (sym turn) tt) refl);
           at_home = λ none_in. absurd (none_in id w (set_here s.views id w (at_inside s.views id v at)) tt);
         },

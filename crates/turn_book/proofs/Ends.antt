@@ -41,6 +41,7 @@ module _ {M C R : Type 0} (good : M → List (Entry M C R) → Type 0) (start : 
   pub record Closing (v : V) (slots : List (Option M)) : Type 0 where
     pub machine : get_elem? slots 0 ≡ some (Some (end_of start v.seen))
     pub is_good : good start v.seen
+    pub made_all : length v.seen ≡ length v.own
     pub own : AreAllBelow (length v.seen) v.own
 
   pub opens : limit < 18446744073709551616 → good start [] → Rule (opening (0 ∷ 0 ∷ 0 ∷ []) (Some start ∷ []) (newcomer limit))
@@ -92,11 +93,12 @@ module _ {M C R : Type 0} (good : M → List (Entry M C R) → Type 0) (start : 
       let each : AreAllBelow (length r.log) v.own = (λ x. sym (sum_alone (owns x) s.views id v at (λ j d other e. none_owned x d.own (none_made j d other e))) ∙ r.places x) in
       let whole : r.log ≡ v.seen = starts_whole r.log v.seen k.saw (covers (length r.log) (length v.seen) v.own each k.inside) in
       let home = r.at_home (λ j d e t. dite (ℕ_discrete j id)
-          (λ same. subst InTurn (ap (λ (z : V). z.stage) (some-injective d v (sym e ∙ (ap (get_elem? s.views) same ∙ at))) ∙ idle) t)
-          (λ other. calm (drawn s) (serving s) r.log d d.stage t (r.each_seat j d e).at_stage (let one = sum_at waiting s.views j d e in omega arith) (none_made j d other e))) in
+      (λ same. subst InTurn (ap (λ (z : V). z.stage) (some-injective d v (sym e ∙ (ap (get_elem? s.views) same ∙ at))) ∙ idle) t)
+      (λ other. calm (drawn s) (serving s) r.log d d.stage t (r.each_seat j d e).at_stage (let one = sum_at waiting s.views j d e in omega arith) (none_made j d other e))) in
       record {
         machine = final.4 0 (Some (end_of start v.seen)) (ap (λ hs. get_elem? hs 0) home ∙ ap (λ l. some (some (Some (end_of start l)))) whole);
         is_good = subst (good start) whole r.is_good;
+        made_all = sym (ap length whole) ∙ sym r.all_made ∙ sum_alone made s.views id v at none_made;
         own = subst (λ (l : List (Entry M C R)). AreAllBelow (length l) v.own) whole each;
       }
     where

@@ -1,5 +1,6 @@
 -- Beginnings of a history, and what lasts along one.
 use Rattle.std.proofs.Common.{◌≡◌, ◌≢◌, ℕ, ◌+◌, ◌<◌, ◌≤◌, List, [], ◌∷◌, ◌++◌, length, refl, sym, ap, ◌∙◌, subst, append_assoc, append-nil, length-append, arith}
+use Rattle.turn_book.specs.Laws.{StaysValid, StaysFitting}
 use Rattle.turn_book.specs.History.{entry, end_of, StartsWith, IsHistory, IsRun, AddsCall}
 use Rattle.turn_book.specs.declared.entry.Entry.{Entry}
 
@@ -55,24 +56,24 @@ module _ {M C R : Type 0} where
     history_front x [] ys h = tt
     history_front x (e ∷ es) ys h = (h.0, h.1, history_front e.after es ys h.2)
 
-    module _ (valid : M → Type 0) (stays_valid : (x : M) (c : C) (r : R) (y : M) → valid x → fits x c → legal x c r y → valid y) where
+    module _ (valid : M → Type 0) (stays_valid : StaysValid valid fits legal) where
       pub end_valid : (x : M) (xs : List (Entry M C R)) → valid x → IsHistory fits legal x xs → valid (end_of x xs)
       end_valid x [] v h = v
       end_valid x (e ∷ es) v h = end_valid e.after es (stays_valid x e.call e.reply e.after v h.0 h.1) h.2
 
       -- a call that fits before a history fits after it
-      pub fits_after : ((x : M) (c : C) (r : R) (y : M) (d : C) → valid x → fits x c → legal x c r y → fits x d → fits y d)
+      pub fits_after : StaysFitting valid fits legal
           → (x : M) (xs : List (Entry M C R)) (d : C) → valid x → IsHistory fits legal x xs → fits x d → fits (end_of x xs) d
-      fits_after lasts x [] d v h f = f
-      fits_after lasts x (e ∷ es) d v h f =
-          fits_after lasts e.after es d (stays_valid x e.call e.reply e.after v h.0 h.1) h.2 (lasts x e.call e.reply e.after d v h.0 h.1 f)
+      fits_after stays_fitting x [] d v h f = f
+      fits_after stays_fitting x (e ∷ es) d v h f =
+          fits_after stays_fitting e.after es d (stays_valid x e.call e.reply e.after v h.0 h.1) h.2 (stays_fitting x e.call e.reply e.after d v h.0 h.1 f)
 
-      pub fits_later : ((x : M) (c : C) (r : R) (y : M) (d : C) → valid x → fits x c → legal x c r y → fits x d → fits y d)
+      pub fits_later : StaysFitting valid fits legal
           → (x : M) (log seen : List (Entry M C R)) (d : C) → IsRun fits legal valid x log → StartsWith log seen → fits (end_of x seen) d → fits (end_of x log) d
-      fits_later lasts x log seen d run begins f =
+      fits_later stays_fitting x log seen d run begins f =
           let cut : IsHistory fits legal x (seen ++ begins.0) = subst (IsHistory fits legal x) begins.1 run.1 in
           let at_seen : valid (end_of x seen) = end_valid x seen run.0 (history_front x seen begins.0 cut) in
-          let later : fits (end_of (end_of x seen) begins.0) d = fits_after lasts (end_of x seen) begins.0 d at_seen (history_rest x seen begins.0 cut) f in
+          let later : fits (end_of (end_of x seen) begins.0) d = fits_after stays_fitting (end_of x seen) begins.0 d at_seen (history_rest x seen begins.0 cut) f in
           subst (λ (y : M). fits y d) (sym (end_of_append x seen begins.0) ∙ ap (end_of x) (sym begins.1)) later
 
     pub run_longer : (valid : M → Type 0) (x x' : M) (log seen : List (Entry M C R)) (c : C) (a : R) (y : M) → x ≡ x' → IsRun fits legal valid x log → fits (end_of x log) c → legal (end_of x log) c a y

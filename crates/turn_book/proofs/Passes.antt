@@ -21,7 +21,6 @@ use Rattle.turn_book.proofs.Totals.{sum_set, sum_stays, sum_at, sum_two, sum_joi
 use Rattle.turn_book.proofs.Histories.{starts_itself, starts_empty, starts_further, starts_more, starts_length, starts_between, starts_whole}
 use Rattle.turn_book.proofs.Seats.{turn_has, each_set, Apart, OwnTicket, apart_set, same_ticket, no_ticket, calm_before, stage_draws, stage_passes, stage_counts, turn_ticket, ticket_below, knows_on}
 
-
 longer_lt : (a b : ℕ) → nat_lt a b ≡ true → a < b
 longer_lt a b e = grind (arith, nat_tests)
 
@@ -66,7 +65,7 @@ module _ {M C R : Type 0} (good : M → List (Entry M C R) → Type 0) (start : 
         served = r.served;
         each_seat = λ j d e. ⊎_elim
             (λ was. each_set (Knows (drawn s) (serving s) r.log) s.views id w record { saw = k.saw; heard = starts_empty r.log; no_longer = omega arith; inside = k.inside; at_stage = no_tickets }
-                (λ i y _ f. r.each_seat i y f) j d was)
+            (λ i y _ f. r.each_seat i y f) j d was)
             (λ (is : u ≡ d). subst (Knows (drawn s) (serving s) r.log) is record { saw = k.saw; heard = starts_empty r.log; no_longer = omega arith; inside = λ x l h. absurd (omega arith); at_stage = tt })
             (at_snoc vs u d j e);
         apart = apart_more vs u refl (apart_set s.views id w r.apart (no_ticket s.views id w idle));
@@ -77,9 +76,9 @@ module _ {M C R : Type 0} (good : M → List (Entry M C R) → Type 0) (start : 
       apart_more vs u none_drawn apart i j x y p q a b t =
           ⊎_elim
           (λ at_x. ⊎_elim
-              (λ at_y. apart i j x y at_x at_y a b t)
-              (λ (is : u ≡ y). absurd (subst HasTicket none_drawn (subst (λ (z : V). HasTicket z.stage) (sym is) b)))
-              (at_snoc vs u y j q))
+          (λ at_y. apart i j x y at_x at_y a b t)
+          (λ (is : u ≡ y). absurd (subst HasTicket none_drawn (subst (λ (z : V). HasTicket z.stage) (sym is) b)))
+          (at_snoc vs u y j q))
           (λ (is : u ≡ x). absurd (subst HasTicket none_drawn (subst (λ (z : V). HasTicket z.stage) (sym is) a)))
           (at_snoc vs u x i p)
 
@@ -122,16 +121,16 @@ module _ {M C R : Type 0} (good : M → List (Entry M C R) → Type 0) (start : 
         each_seat = each_set (Knows (drawn s) (serving s) r.log) vs other spent
             record { saw = starts_empty r.log; heard = starts_empty r.log; no_longer = omega arith; inside = λ x l h. absurd (omega arith); at_stage = tt }
             (λ j d _ e. each_set (Knows (drawn s) (serving s) r.log) s.views id b
-                record {
-                  saw = by_length (λ xs ys. StartsWith r.log xs) v.seen w.seen (λ _. kv.saw) (λ _. kw.saw);
-                  heard = by_length (λ xs ys. StartsWith r.log ys) v.seen w.seen (λ _. kw.saw) (λ _. kv.saw);
-                  no_longer = by_length (λ xs ys. length ys ≤ length xs) v.seen w.seen (λ le. le) (λ lt. omega arith);
-                  inside = by_length (λ xs ys. All (λ x. x < length xs) (v.own ++ w.own)) v.seen w.seen
-                      (λ le. All-append (λ x. x < length v.seen) v.own w.own kv.inside (wide w.own (length w.seen) (length v.seen) le kw.inside))
-                      (λ lt. All-append (λ x. x < length w.seen) v.own w.own (wide v.own (length v.seen) (length w.seen) (omega arith) kv.inside) kw.inside);
-                  at_stage = no_tickets;
-                }
-                (λ i y _ f. r.each_seat i y f) j d e);
+            record {
+              saw = by_length (λ xs ys. StartsWith r.log xs) v.seen w.seen (λ _. kv.saw) (λ _. kw.saw);
+              heard = by_length (λ xs ys. StartsWith r.log ys) v.seen w.seen (λ _. kw.saw) (λ _. kv.saw);
+              no_longer = by_length (λ xs ys. length ys ≤ length xs) v.seen w.seen (λ le. le) (λ lt. omega arith);
+              inside = by_length (λ xs ys. All (λ x. x < length xs) (v.own ++ w.own)) v.seen w.seen
+                  (λ le. All-append (λ x. x < length v.seen) v.own w.own kv.inside (wide w.own (length w.seen) (length v.seen) le kw.inside))
+                  (λ lt. All-append (λ x. x < length w.seen) v.own w.own (wide v.own (length v.seen) (length w.seen) (omega arith) kv.inside) kw.inside);
+              at_stage = no_tickets;
+            }
+            (λ i y _ f. r.each_seat i y f) j d e);
         apart = apart_set vs other spent (apart_set s.views id b r.apart (no_ticket s.views id b idle)) (no_ticket vs other spent refl);
         at_home = λ none_in. r.at_home (calm_before s.views id v b at (λ t. subst InTurn idle t) (calm_before vs other w spent there (λ t. subst InTurn w_idle t) none_in));
       }
@@ -146,8 +145,7 @@ module _ {M C R : Type 0} (good : M → List (Entry M C R) → Type 0) (start : 
       let lefts = sum_at left_of s.views id v at in
       let bound = r.bounded in
       let all = r.spare in
-      let total = r.drawn in
-      (
+      let total = r.drawn in (
         v,
         keeps,
         tt,

@@ -37,13 +37,13 @@ module _ {M C R : Type 0} where
   apart_set vs id w apart mine i j u v p q a b t =
       ⊎_elim
       (λ (x : (i ≡ id) × (w ≡ u)). ⊎_elim
-          (λ (y : (j ≡ id) × (w ≡ v)). x.0 ∙ sym y.0)
-          (λ (y : (j ≢ id) × (get_elem? vs j ≡ some v)). absurd (mine j v y.0 y.1 b (subst (λ z. HasTicket z.stage) (sym x.1) a) (sym t ∙ ap (λ (z : View M C R). z.ticket) (sym x.1))))
-          (at_set vs id j w v q))
+      (λ (y : (j ≡ id) × (w ≡ v)). x.0 ∙ sym y.0)
+      (λ (y : (j ≢ id) × (get_elem? vs j ≡ some v)). absurd (mine j v y.0 y.1 b (subst (λ z. HasTicket z.stage) (sym x.1) a) (sym t ∙ ap (λ (z : View M C R). z.ticket) (sym x.1))))
+      (at_set vs id j w v q))
       (λ (x : (i ≢ id) × (get_elem? vs i ≡ some u)). ⊎_elim
-          (λ (y : (j ≡ id) × (w ≡ v)). absurd (mine i u x.0 x.1 a (subst (λ z. HasTicket z.stage) (sym y.1) b) (t ∙ ap (λ (z : View M C R). z.ticket) (sym y.1))))
-          (λ (y : (j ≢ id) × (get_elem? vs j ≡ some v)). apart i j u v x.1 y.1 a b t)
-          (at_set vs id j w v q))
+      (λ (y : (j ≡ id) × (w ≡ v)). absurd (mine i u x.0 x.1 a (subst (λ z. HasTicket z.stage) (sym y.1) b) (t ∙ ap (λ (z : View M C R). z.ticket) (sym y.1))))
+      (λ (y : (j ≢ id) × (get_elem? vs j ≡ some v)). apart i j u v x.1 y.1 a b t)
+      (at_set vs id j w v q))
       (at_set vs id i w u p)
 
   -- a seat that keeps its ticket

@@ -66,8 +66,7 @@ module _ {M C R : Type 0} (good : M → List (Entry M C R) → Type 0) (start : 
         no_longer = omega arith;
         inside = k.inside;
         at_stage = (order, omega arith);
-      } in
-      (
+      } in (
         w,
         keeps,
         tt,
@@ -86,7 +85,7 @@ module _ {M C R : Type 0} (good : M → List (Entry M C R) → Type 0) (start : 
           each_seat = subst (λ (z : ℕ × ℕ). (j : ℕ) (d : V) → get_elem? (set s.views id w) j ≡ some d → Knows z.0 z.1 r.log d) (λ i. (sym now i, sym same1 i))
               (each_set (Knows (n + 1) (serving s) r.log) s.views id w mine
               (λ j d other e. let kd = r.each_seat j d e in
-                  knows_on n (serving s) (n + 1) (serving s) r.log r.log d (starts_itself r.log) kd (stage_draws n (serving s) r.log d (n + 1) (omega arith) d.stage kd.at_stage)));
+              knows_on n (serving s) (n + 1) (serving s) r.log r.log d (starts_itself r.log) kd (stage_draws n (serving s) r.log d (n + 1) (omega arith) d.stage kd.at_stage)));
           apart = apart_set s.views id w r.apart
               (λ j d other e a b t. let below : d.ticket < n = ticket_below n (serving s) r.log d d.stage a (r.each_seat j d e).at_stage in omega arith);
           at_home = λ none_in. r.at_home (calm_before s.views id v w at (λ t. subst InTurn idle t) none_in);
@@ -114,45 +113,44 @@ module _ {M C R : Type 0} (good : M → List (Entry M C R) → Type 0) (start : 
       let stage = subst (AtStage d (serving s) r.log v) waits k.at_stage in
       dite (ℕ_discrete (serving s) v.ticket)
       (λ mine.
-          let w : V = in_turn r.log v in
-          let held : Option M = Some (end_of start r.log) in
-          let home : s.homes ≡ some held ∷ [] = r.at_home (nobody_in s r id v at waits mine) in
-          let one_begun : waiting v ≡ 1 = ap begun waits in
-          let longer_now : length v.seen ≤ length r.log = starts_length r.log v.seen k.saw in
-          let inside_log : (x : ℕ) (l : _) → x < length v.own → get_or v.own x l < length r.log = (λ x l h. let b : get_or v.own x l < length v.seen = k.inside x l h in omega arith) in
-          let bound = r.bounded in
-          let mades = sum_at made s.views id v at in
-          let waits_sum = sum_at waiting s.views id v at in
-          let total = r.drawn in
-          let all = r.spare in
-          (
-            w,
-            takes 0 held,
-            ap (λ hs. get_elem? hs 0) home,
-            subst (λ (ws : List ℕ). Rule record { words = ws; homes = set s.homes 0 none; views = set s.views id w }) (sym same_words) record {
-              log = r.log;
-              bounded = r.bounded;
-              three_words = r.three_words;
-              one_slot = length-set s.homes 0 none ∙ r.one_slot;
-              is_good = r.is_good;
-              recorded = r.recorded;
-              drawn = omega (arith, sum_stays made s.views id v w at refl, sum_set waiting s.views id v w at);
-              spare = omega (arith, sum_stays left_of s.views id v w at refl);
-              all_made = sum_stays made s.views id v w at refl ∙ r.all_made;
-              places = λ x. sum_stays (owns x) s.views id v w at refl ∙ r.places x;
-              served = r.served;
-              each_seat = each_set (Knows d (serving s) r.log) s.views id w record {
-                saw = starts_itself r.log;
-                heard = starts_empty r.log;
-                no_longer = omega arith;
-                inside = inside_log;
-                at_stage = (sym mine, stage.1, refl);
-              } (λ j u other e. r.each_seat j u e);
-              apart = apart_set s.views id w r.apart (same_ticket s.views id v w r.apart at (subst HasTicket (sym waits) tt) refl);
-              at_home = λ none_in. absurd (none_in id w (set_here s.views id w (at_inside s.views id v at)) tt);
-            },
-            ((λ _. (start, refl, record { log = r.log; begins = k.saw; is_good = r.is_good; room = omega arith; after = refl })), (λ other. absurd (other mine))),
-          ))
+      let w : V = in_turn r.log v in
+      let held : Option M = Some (end_of start r.log) in
+      let home : s.homes ≡ some held ∷ [] = r.at_home (nobody_in s r id v at waits mine) in
+      let one_begun : waiting v ≡ 1 = ap begun waits in
+      let longer_now : length v.seen ≤ length r.log = starts_length r.log v.seen k.saw in
+      let inside_log : (x : ℕ) (l : _) → x < length v.own → get_or v.own x l < length r.log = (λ x l h. let b : get_or v.own x l < length v.seen = k.inside x l h in omega arith) in
+      let bound = r.bounded in
+      let mades = sum_at made s.views id v at in
+      let waits_sum = sum_at waiting s.views id v at in
+      let total = r.drawn in
+      let all = r.spare in (
+        w,
+        takes 0 held,
+        ap (λ hs. get_elem? hs 0) home,
+        subst (λ (ws : List ℕ). Rule record { words = ws; homes = set s.homes 0 none; views = set s.views id w }) (sym same_words) record {
+          log = r.log;
+          bounded = r.bounded;
+          three_words = r.three_words;
+          one_slot = length-set s.homes 0 none ∙ r.one_slot;
+          is_good = r.is_good;
+          recorded = r.recorded;
+          drawn = omega (arith, sum_stays made s.views id v w at refl, sum_set waiting s.views id v w at);
+          spare = omega (arith, sum_stays left_of s.views id v w at refl);
+          all_made = sum_stays made s.views id v w at refl ∙ r.all_made;
+          places = λ x. sum_stays (owns x) s.views id v w at refl ∙ r.places x;
+          served = r.served;
+          each_seat = each_set (Knows d (serving s) r.log) s.views id w record {
+            saw = starts_itself r.log;
+            heard = starts_empty r.log;
+            no_longer = omega arith;
+            inside = inside_log;
+            at_stage = (sym mine, stage.1, refl);
+          } (λ j u other e. r.each_seat j u e);
+          apart = apart_set s.views id w r.apart (same_ticket s.views id v w r.apart at (subst HasTicket (sym waits) tt) refl);
+          at_home = λ none_in. absurd (none_in id w (set_here s.views id w (at_inside s.views id v at)) tt);
+        },
+        ((λ _. (start, refl, record { log = r.log; begins = k.saw; is_good = r.is_good; room = omega arith; after = refl })), (λ other. absurd (other mine))),
+      ))
       (λ other. (
         v,
         keeps,
@@ -191,8 +189,7 @@ module _ {M C R : Type 0} (good : M → List (Entry M C R) → Type 0) (start : 
       let now : get_or (set s.words 1 next) 1 0 ≡ n + 1 = get_or-set_same s.words 1 next 0 (omega arith) ∙ fits_word in
       let same0 : get_or (set s.words 1 next) 0 0 ≡ d = get_or-set_other s.words 1 0 next 0 (λ e. omega arith) in
       let same2 : get_or (set s.words 1 next) 2 0 ≡ get_or s.words 2 0 = get_or-set_other s.words 1 2 next 0 (λ e. omega arith) in
-      let none_begun : 0 ≡ waiting v = sym (ap begun counted) in
-      (
+      let none_begun : 0 ≡ waiting v = sym (ap begun counted) in (
         w,
         gives,
         tt,
@@ -212,8 +209,8 @@ module _ {M C R : Type 0} (good : M → List (Entry M C R) → Type 0) (start : 
               (each_set (Knows d (n + 1) r.log) s.views id w
               record { saw = k.saw; heard = starts_empty r.log; no_longer = omega arith; inside = k.inside; at_stage = tt }
               (λ j u other e. let ku = r.each_seat j u e in
-                  knows_on d n d (n + 1) r.log r.log u (starts_itself r.log) ku
-                      (stage_passes d n r.log u u.stage (λ has same. other (r.apart j id u v e at has (subst HasTicket (sym counted) tt) (same ∙ sym mine))) ku.at_stage)));
+              knows_on d n d (n + 1) r.log r.log u (starts_itself r.log) ku
+              (stage_passes d n r.log u u.stage (λ has same. other (r.apart j id u v e at has (subst HasTicket (sym counted) tt) (same ∙ sym mine))) ku.at_stage)));
           apart = apart_set s.views id w r.apart (no_ticket s.views id w refl);
           at_home = λ _. one_home s.homes (some held) r.one_slot ∙ ap (λ l. some (Some (end_of start l)) ∷ []) stage.2;
         },
@@ -224,4 +221,4 @@ module _ {M C R : Type 0} (good : M → List (Entry M C R) → Type 0) (start : 
       → Allows Rule slots id me 1 (λ n. (n + 1) % 18446744073709551616) (PassesOn (step slots 1 1 0 none) me)
   passes slots id me counted held =
       subst (λ (h : List (ℕ × Option M)). Allows Rule slots id (me.0, h) 1 (λ n. (n + 1) % 18446744073709551616) (PassesOn (step slots 1 1 0 none) (me.0, h))) (sym held)
-          (passes_held slots id me.0 counted)
+      (passes_held slots id me.0 counted)

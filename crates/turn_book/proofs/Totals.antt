@@ -74,8 +74,8 @@ times_inside x n (y ∷ ys) all some_there =
     dite (ℕ_discrete y x)
     (λ same. let here : y < n = all 0 0 (omega arith) in omega arith)
     (λ other. let no : (y == x) ≡ false = ne_eqb y x other in
-        let gone : cond {A = ℕ} (y == x) 1 0 ≡ 0 = ap (λ (b : Bool). cond {A = ℕ} b 1 0) no in
-        times_inside x n ys (λ k d l. all (suc k) d (omega arith)) (omega (arith, times_cons x y ys)))
+    let gone : cond {A = ℕ} (y == x) 1 0 ≡ 0 = ap (λ (b : Bool). cond {A = ℕ} b 1 0) no in
+    times_inside x n ys (λ k d l. all (suc k) d (omega arith)) (omega (arith, times_cons x y ys)))
 
 -- numbers below n of which each number below m is one: m is at most n
 pub covers : (m n : ℕ) (xs : List ℕ) → AreAllBelow m xs → All (λ y. y < n) xs → m ≤ n

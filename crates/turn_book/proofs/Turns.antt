@@ -1,8 +1,9 @@
 -- What a seat goes through within its turn.
 use Rattle.std.proofs.Common.{◌≡◌, ℕ, List, [], ◌∷◌, ◌++◌, get_or, Option, Some, None, refl, sym, ap, ◌∙◌, subst, subst₂}
 use Rattle.atomic_table.specs.Table.{rest}
+use Rattle.turn_book.specs.Laws.{StaysValid, StaysFitting}
 use Rattle.turn_book.specs.History.{entry, end_of, IsRun}
-use Rattle.turn_book.specs.Steps.{Sat, has_counted, at_rest, TakesTurn, HoldsStep, MakesCall}
+use Rattle.turn_book.specs.Steps.{Sat, machine_at, Holds, has_counted, at_rest, TakesTurn, HoldsStep, MakesCall}
 use Rattle.turn_book.specs.declared.entry.Entry.{Entry}
 use Rattle.turn_book.specs.declared.view.View.{View}
 use Rattle.turn_book.specs.declared.view.Stage.TheVariants.{Counted}
@@ -22,10 +23,11 @@ module _ {M C R : Type 0} where
       let none_else : rest me1.1 ≡ [] = ap (λ (s : Sat M C R). rest s.1) out ∙ ap rest held in
       (same, ap (λ (s : Sat M C R). s.0) back ∙ ap (λ (s : Sat M C R). s.0) out, ap (λ (s : Sat M C R). s.1) back ∙ ap (λ (l : List (ℕ × Option M)). (0, Some m') ∷ l) none_else)
 
-  pub holds_step : (fits : M → C → Type 0) (legal : M → C → R → M → Type 0) (x x' : M) (c c' : C) (a a' : R) (y : M) (held : List (ℕ × Option M))
-      → x' ≡ x → c' ≡ c → a' ≡ a → held ≡ (0, Some y) ∷ [] → fits x c → legal x c a y → HoldsStep fits legal x' (entry c' a') held
-  holds_step fits legal x x' c c' a a' y held same_x same_c same_a is f l =
-      (y, is, subst₂ fits (sym same_x) (sym same_c) f, subst (λ (z : M × C × R). legal z.0 z.1 z.2 y) (λ i. (sym same_x i, sym same_c i, sym same_a i)) l)
+  pub holds_step : (fits : M → C → Type 0) (legal : M → C → R → M → Type 0) (start : M) (c c' : C) (a a' : R) (y : M) (me0 me : Sat M C R)
+      → me.0 ≡ me0.0 → c' ≡ c → a' ≡ a → Holds me y → fits (machine_at start me0) c → legal (machine_at start me0) c a y → HoldsStep fits legal start (c', a') me
+  holds_step fits legal start c c' a a' y me0 me same same_c same_a held f l =
+      let here : machine_at start me0 ≡ machine_at start me = sym (ap (λ (v : View M C R). end_of start v.seen) same) in
+      (y, held, subst₂ fits here (sym same_c) f, subst (λ (z : M × C × R). legal z.0 z.1 z.2 y) (λ i. (here i, sym same_c i, sym same_a i)) l)
 
   -- the slot holds the machine after the call that was counted
   pub holds_after : (start : M) (c : C) (a : R) (y : M) (me2 me3 : Sat M C R) → me2.1 ≡ (0, Some y) ∷ [] → me3 ≡ (has_counted (entry c a y) me2.0, me2.1)
@@ -43,11 +45,9 @@ module _ {M C R : Type 0} where
       (y, l, passed ∙ (λ i. ((view_is ∙ call_is) i, held_is i)))
 
   -- at its turn the seat has seen a run of the machine, and a call that fitted before still fits
-  pub at_turn : (fits : M → C → Type 0) (legal : M → C → R → M → Type 0) (valid : M → Type 0)
-      → ((x : M) (c : C) (r : R) (y : M) → valid x → fits x c → legal x c r y → valid y)
-      → ((x : M) (c : C) (r : R) (y : M) (d : C) → valid x → fits x c → legal x c r y → fits x d → fits y d)
+  pub at_turn : (fits : M → C → Type 0) (legal : M → C → R → M → Type 0) (valid : M → Type 0) → StaysValid valid fits legal → StaysFitting valid fits legal
       → (start : M) (seen : List (Entry M C R)) (c : C) (me me' : Sat M C R) → TakesTurn (IsRun fits legal valid) start me me' → me.0.seen ≡ seen → fits (end_of start seen) c
       → IsRun fits legal valid start me'.0.seen × fits (end_of start me'.0.seen) c
-  at_turn fits legal valid stays_valid lasts start seen c me me' turn same f =
-      let later = fits_later fits legal valid stays_valid lasts start turn.log me.0.seen c turn.is_good turn.begins (subst (λ (l : List (Entry M C R)). fits (end_of start l) c) (sym same) f) in
+  at_turn fits legal valid stays_valid stays_fitting start seen c me me' turn same f =
+      let later = fits_later fits legal valid stays_valid stays_fitting start turn.log me.0.seen c turn.is_good turn.begins (subst (λ (l : List (Entry M C R)). fits (end_of start l) c) (sym same) f) in
       subst (λ (l : List (Entry M C R)). IsRun fits legal valid start l × fits (end_of start l) c) (sym (ap (λ (s : Sat M C R). s.0.seen) turn.after)) (turn.is_good, later)

@@ -1,3 +1,4 @@
+pub mod Laws
 pub mod History
 pub mod Standing
 pub mod Turning

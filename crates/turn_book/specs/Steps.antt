@@ -1,6 +1,8 @@
 -- What each kind of step tells the seat that makes it.
 use Rattle.std.specs.Prelude.{◌≡◌, ◌≢◌, ℕ, ◌+◌, ◌-◌, ◌<◌, List, [], ◌∷◌, ◌++◌, length, Option, Some}
 use Rattle.atomic_table.specs.Table.{Me, Step, rest}
+use Rattle.atomic_table.specs.Seated.{TableId}
+use Rattle.atomic_table.specs.declared.shared.Seat.{Seat}
 use Rattle.turn_book.specs.History.{entry, end_of, StartsWith, longer, shorter}
 use Rattle.turn_book.specs.declared.entry.Entry.{Entry}
 use Rattle.turn_book.specs.declared.view.View.{View}
@@ -10,7 +12,22 @@ use Rattle.turn_book.specs.declared.view.Stage.TheVariants.{Idle, Waits, Turn, C
 abbrev pub Sat : Type 0 → Type 0 → Type 0 → Type 0
 Sat M C R = Me (Option M) (View M C R)
 
+-- the seat is at this table, which has three words and one slot
+abbrev pub IsAt : TableId → TableId → Type 0
+IsAt table seat = (seat ≡ table) × (table.words ≡ 3) × (table.slots ≡ 1)
+
 module _ {M C R : Type 0} where
+  abbrev pub IsSameSeat : Seat (Option M) (View M C R) → Seat (Option M) (View M C R) → Type 0
+  IsSameSeat old new = (new.table_id ≡ old.table_id) × (new.id ≡ old.id)
+
+  -- the machine after all that the seat has seen
+  abbrev pub machine_at : M → Sat M C R → M
+  machine_at start me = end_of start me.0.seen
+
+  -- the slot is out with the seat, and this machine lies in it
+  abbrev pub Holds : Sat M C R → M → Type 0
+  Holds me x = me.1 ≡ (0, Some x) ∷ []
+
   abbrev pub has_drawn : ℕ → View M C R → View M C R
   has_drawn n v = record { seen = v.seen; told = []; own = v.own; left = v.left - 1; stage = Waits; ticket = n }
 
@@ -57,7 +74,7 @@ module _ {M C R : Type 0} where
   -- the call stands last in the history, with its reply and the machine that the seat holds
   abbrev pub Counts : Option C → Option R → Step (Option M) → Sat M C R → ℕ → Sat M C R → Type 0
   Counts call reply st me found me' =
-      (c : C) (r : R) (y : M) → call ≡ Some c → reply ≡ Some r → me.1 ≡ (0, Some y) ∷ [] → me' ≡ (has_counted (entry c r y) me.0, me.1)
+      (c : C) (r : R) (y : M) → call ≡ Some c → reply ≡ Some r → Holds me y → me' ≡ (has_counted (entry c r y) me.0, me.1)
 
   abbrev pub PassesOn : Step (Option M) → Sat M C R → ℕ → Sat M C R → Type 0
   PassesOn st me found me' = me' ≡ (at_rest me.0, rest me.1)
@@ -72,7 +89,8 @@ module _ {M C R : Type 0} where
   MakesCall legal call reply me me' =
       (after : M) × legal call reply after × (me' ≡ (at_rest (has_counted (entry call reply after) me.0), []))
 
-  -- the seat holds the machine after a legal step from x
-  abbrev pub HoldsStep : (M → C → Type 0) → (M → C → R → M → Type 0) → M → (M → Entry M C R) → List (ℕ × Option M) → Type 0
-  HoldsStep fits legal x noted held =
-      (after : M) × (held ≡ (0, Some after) ∷ []) × fits x (noted after).call × legal x (noted after).call (noted after).reply after
+  -- the seat holds the machine after a legal step from where it was
+  abbrev pub HoldsStep : (M → C → Type 0) → (M → C → R → M → Type 0) → M → C × R → Sat M C R → Type 0
+  HoldsStep fits legal start said me =
+      let x = machine_at start me in
+      (after : M) × Holds me after × fits x said.0 × legal x said.0 said.1 after

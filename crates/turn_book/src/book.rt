@@ -8,14 +8,15 @@ use crate::pass::Pass;
 use crate::plays::{Both, Draw, Meet};
 use crate::slot::{from_one_slot, full, one_slot};
 use crate::steps::{cut, take_turn, wait_turn};
-use crate::view::{Opening, Turns, View};
+use crate::view::{MACHINE, Opening, SERVING, TICKET, Turns, View};
 use atomic_table::{Refused, Table};
 use std::alloc::Global;
 use std::marker::{Brand, Model};
 use std::snapshot::Snapshot;
 use std::sync::Wait;
 
-/// A machine that threads call one after the other, in the order of their tickets. It isn't dropped: it ends in `close`.
+/// A machine that threads call one after the other, in the order of their tickets. It has no `Drop`: it ends in `close`.
+/// Contracts see which book it is, the machine that it was opened with, and how many calls it allows.
 pub struct TurnBook<M: Machine> {
     table: Table<Option<M>, View<M, M::Call, M::Reply>, Opening<M>, Turns<M>, Global>,
 }
@@ -26,13 +27,17 @@ impl<M: Machine> Model for TurnBook<M> {
 
     ghost Value = { Opened M };
 
-    ghost view = { λ b. record { table = b.table.shared.table_id; start = b.table.shared.key.start.value; limit = b.table.shared.key.limit } };
+    ghost view = { λ b. record {
+      table = b.table.shared.table_id;
+      start = b.table.shared.key.start.value;
+      limit = b.table.shared.key.limit;
+    } };
 
     ghost invariant = { λ b. (b.table.shared.table_id.words ≡ 3) × (b.table.shared.table_id.slots ≡ 1) };
 }
 
 impl<M: Machine> TurnBook<M> {
-    /// A book for `limit` calls in all, and the pass that has them. `Err` is want of memory, and gives the machine back.
+    /// A book for `limit` calls in all, and the pass that has them. `Err` is want of memory: the machine comes back.
     pub fn new(alloc: Global, machine: M, limit: u64) -> Result<(TurnBook<M>, Pass<M>), M>
         requires machine { M.valid machine }
         requires limit { 1 ≤ limit }
@@ -60,8 +65,8 @@ impl<M: Machine> TurnBook<M> {
         }
     }
 
-    /// Makes one call at the machine, when its turn comes. It may wait for the turns of others; while it waits it lets
-    /// other threads run.
+    /// Makes one call at the machine, when its turn comes. It may wait for the turns of others, and lets other threads
+    /// run meanwhile. The history that the new pass has seen begins with what the old one had, and ends with this call.
     pub fn call<R: Wait>(&self, rt: &R, pass: Pass<M>, call: M::Call) -> (M::Reply, Pass<M>)
         requires book { pass.table ≡ self.now.table }
         requires left { 0 < pass.left }
@@ -79,7 +84,7 @@ impl<M: Machine> TurnBook<M> {
             made,
         } = pass;
         let table = &self.table.shared;
-        let ticket = table.fetch_add::<Draw>(&mut seat, 0, 1);
+        let ticket = table.fetch_add::<Draw>(&mut seat, TICKET, 1);
         wait_turn::<M, Brand, R>(rt, table, &mut seat, ticket);
         let reply = take_turn(table, &mut seat, call);
         let pass = Pass {
@@ -90,7 +95,8 @@ impl<M: Machine> TurnBook<M> {
         (reply, pass)
     }
 
-    /// Cuts `left` calls off a pass, for a second pass that has seen the same. The first pass keeps the rest, and its calls made.
+    /// Cuts `left` calls off a pass, for a second pass that has seen the same. The first pass keeps the rest, and the
+    /// calls that it has made.
     pub fn split(&self, pass: Pass<M>, left: u64) -> (Pass<M>, Pass<M>)
         requires book { pass.table ≡ self.now.table }
         requires left { left ≤ pass.left }
@@ -139,7 +145,7 @@ impl<M: Machine> TurnBook<M> {
         } = b;
         let table = &self.table.shared;
         table.join_seat::<Both>(&mut seat, other);
-        table.load::<Meet>(&mut seat, 1);
+        table.load::<Meet>(&mut seat, SERVING);
         Pass {
             seat,
             left: left + other_left,
@@ -147,13 +153,15 @@ impl<M: Machine> TurnBook<M> {
         }
     }
 
-    /// The machine after the whole history, once all calls are counted: the pass has seen them all, and each is its own.
+    /// The machine after the whole history, when no other pass has a call left or made: the pass has then seen all of
+    /// the history, and each call in it is the pass's own.
     pub fn close(self, pass: Pass<M>) -> M
         requires book { pass.table ≡ self.table }
         requires counted { pass.left + length pass.own ≡ self.limit }
         ensures machine { result ≡ end_of self.start pass.seen }
         ensures valid { M.valid result }
         ensures history { IsHistory M.fits M.legal self.start pass.seen }
+        ensures made { length pass.seen ≡ length pass.own }
         ensures own { AreAllBelow (length pass.seen) pass.own }
     {
         let TurnBook { table } = self;
@@ -163,7 +171,7 @@ impl<M: Machine> TurnBook<M> {
             made: _,
         } = pass;
         let mut closed = table.close_with(seat);
-        let held = closed.take(0);
+        let held = closed.take(MACHINE);
         closed.free();
         full(held)
     }

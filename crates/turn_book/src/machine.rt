@@ -1,4 +1,5 @@
 //! What a machine is.
+ghost use Rattle.turn_book.specs.Laws.{StaysValid, StaysFitting};
 
 /// A value that changes by calls, one after the other. Its state is the value itself.
 pub trait Machine {
@@ -21,8 +22,8 @@ pub trait Machine {
         ensures { legal self.old call result self.new };
 
     /// A legal step leads from a valid state to a valid one.
-    ghost stays_valid: { (x : Self) (c : Self.Call) (r : Self.Reply) (y : Self) → valid x → fits x c → legal x c r y → valid y };
+    ghost stays_valid: { StaysValid valid fits legal };
 
     /// A call that fits a state fits it after a legal step too.
-    ghost lasts: { (x : Self) (c : Self.Call) (r : Self.Reply) (y : Self) (d : Self.Call) → valid x → fits x c → legal x c r y → fits x d → fits y d };
+    ghost stays_fitting: { StaysFitting valid fits legal };
 }

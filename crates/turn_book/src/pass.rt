@@ -6,8 +6,9 @@ use crate::view::View;
 use atomic_table::Seat;
 use std::marker::Model;
 
-/// A number of calls that may be made at one turn book, and what was seen of its history. A pass isn't dropped: it ends
-/// in `TurnBook::join` or `TurnBook::close`.
+/// The right to make a number of calls at one turn book. It has no `Drop`: it ends in `TurnBook::join` or in
+/// `TurnBook::close`. Contracts see its book, the history as far as it has seen it, the places there of its own calls,
+/// from 0, and how many calls it has left. It holds no ticket, so nobody waits for it.
 pub struct Pass<M: Machine> {
     pub(crate) seat: Seat<Option<M>, View<M, M::Call, M::Reply>>,
     pub(crate) left: u64,
@@ -21,9 +22,17 @@ impl<M: Machine> Model for Pass<M> {
 
     ghost Value = { Standing M M.Call M.Reply };
 
-    ghost view = { λ p. record { table = p.seat.table_id; seen = p.seat.me.0.seen; own = p.seat.me.0.own; left = p.left } };
+    ghost view = { λ p. record {
+      table = p.seat.table_id;
+      seen = p.seat.me.0.seen;
+      own = p.seat.me.0.own;
+      left = p.left;
+    } };
 
-    ghost invariant = { λ p. (p.seat.me.1 ≡ []) × (p.seat.me.0.stage ≡ Idle) × (p.left ≡ p.seat.me.0.left) × (p.made ≡ length p.seat.me.0.own) };
+    ghost invariant = { λ p. (p.seat.me.1 ≡ [])
+        × (p.seat.me.0.stage ≡ Idle)
+        × (p.left ≡ p.seat.me.0.left)
+        × (p.made ≡ length p.seat.me.0.own) };
 }
 
 impl<M: Machine> Pass<M> {

@@ -1,13 +1,13 @@
 //! The steps of a call, between the ticket and the end of the turn.
-ghost use Rattle.std.specs.Prelude.{◌≡◌, ◌+◌, ◌≤◌, ◌<◌, [], ◌∷◌, length, Some};
-ghost use Rattle.turn_book.specs.History.{end_of, IsRun, entry};
-ghost use Rattle.turn_book.specs.Steps.{has_counted, TakesTurn, MakesCall, HoldsStep, kept_of, share_of};
+ghost use Rattle.std.specs.Prelude.{◌≡◌, ◌≤◌, [], Some};
+ghost use Rattle.turn_book.specs.History.{IsRun, entry};
+ghost use Rattle.turn_book.specs.Steps.{IsAt, IsSameSeat, machine_at, Holds, TakesTurn, MakesCall, HoldsStep, has_counted, kept_of, share_of};
 ghost use Rattle.turn_book.specs.declared.view.Stage.TheVariants.{Idle, Waits, Turn};
 
 use crate::machine::Machine;
 use crate::plays::{Count, Look, Noted, Opens, PassOn, Portion, Share};
 use crate::slot::{empty, full};
-use crate::view::{Opening, Turns, View};
+use crate::view::{LENGTH, MACHINE, Opening, SERVING, Turns, View};
 use atomic_table::{Seat, Shared};
 use std::marker::Brand;
 use std::snapshot::Snapshot;
@@ -30,14 +30,15 @@ pub(crate) fn wait_turn<M: Machine, B: Opens<M>, R: Wait>(
     seat: &mut TurnSeat<M>,
     ticket: u64,
 )
-    requires table { (seat.old.table_id ≡ table.now.table_id) × (table.now.table_id.words ≡ 3) × (table.now.table_id.slots ≡ 1) }
+    requires table { IsAt table.now.table_id seat.old.table_id }
     requires start { B.start ≡ Some table.now.key.start.value }
     requires ticket { (seat.old.me.0.stage ≡ Waits) × (seat.old.me.0.ticket ≡ ticket) }
-    ensures seat { (seat.new.table_id ≡ seat.old.table_id) × (seat.new.id ≡ seat.old.id) }
-    ensures turn { TakesTurn (IsRun M.fits M.legal M.valid) table.now.key.start.value seat.old.me seat.new.me }
+    ensures seat { IsSameSeat seat.old seat.new }
+    ensures turn { let is_run = IsRun M.fits M.legal M.valid in
+        TakesTurn is_run table.now.key.start.value seat.old.me seat.new.me }
 {
     for _ in rt.forever() {
-        if table.load::<Look<M, B>>(seat, 1) == ticket {
+        if table.load::<Look<M, B>>(seat, SERVING) == ticket {
             return;
         }
         thread::yield_now();
@@ -51,21 +52,22 @@ pub(crate) fn take_turn<M: Machine>(
     seat: &mut TurnSeat<M>,
     call: M::Call,
 ) -> M::Reply
-    requires table { (seat.old.table_id ≡ table.now.table_id) × (table.now.table_id.words ≡ 3) × (table.now.table_id.slots ≡ 1) }
+    requires table { IsAt table.now.table_id seat.old.table_id }
     requires turn { seat.old.me.0.stage ≡ Turn }
-    requires machine { seat.old.me.1 ≡ (0, Some (end_of table.now.key.start.value seat.old.me.0.seen)) ∷ [] }
-    requires valid { M.valid (end_of table.now.key.start.value seat.old.me.0.seen) }
-    requires call { M.fits (end_of table.now.key.start.value seat.old.me.0.seen) call }
-    ensures seat { (seat.new.table_id ≡ seat.old.table_id) × (seat.new.id ≡ seat.old.id) }
-    ensures call { MakesCall (M.legal (end_of table.now.key.start.value seat.old.me.0.seen)) call result seat.old.me seat.new.me }
+    requires machine { Holds seat.old.me (machine_at table.now.key.start.value seat.old.me) }
+    requires valid { M.valid (machine_at table.now.key.start.value seat.old.me) }
+    requires call { M.fits (machine_at table.now.key.start.value seat.old.me) call }
+    ensures seat { IsSameSeat seat.old seat.new }
+    ensures call { let before = machine_at table.now.key.start.value seat.old.me in
+        MakesCall (M.legal before) call result seat.old.me seat.new.me }
 {
-    let mut machine = full(table.exchange(seat, 0, None));
+    let mut machine = full(table.exchange(seat, MACHINE, None));
     let asked = Snapshot::of(&call);
     let reply = machine.step(call);
     let said = Snapshot::of(&reply);
-    empty(table.exchange(seat, 0, Some(machine)));
+    empty(table.exchange(seat, MACHINE, Some(machine)));
     count::<M, Brand>(table, seat, &asked, &said);
-    table.fetch_add::<PassOn>(seat, 1, 1);
+    table.fetch_add::<PassOn>(seat, SERVING, 1);
     reply
 }
 
@@ -76,14 +78,17 @@ fn count<M: Machine, N: Noted<M::Call, M::Reply>>(
     asked: &Snapshot<M::Call>,
     said: &Snapshot<M::Reply>,
 )
-    requires table { (seat.old.table_id ≡ table.now.table_id) × (table.now.table_id.words ≡ 3) }
+    requires table { IsAt table.now.table_id seat.old.table_id }
     requires noted { (N.call ≡ Some asked.now.value) × (N.reply ≡ Some said.now.value) }
     requires turn { seat.old.me.0.stage ≡ Turn }
-    requires step { HoldsStep M.fits M.legal (end_of table.now.key.start.value seat.old.me.0.seen) (entry asked.now.value said.now.value) seat.old.me.1 }
-    ensures seat { (seat.new.table_id ≡ seat.old.table_id) × (seat.new.id ≡ seat.old.id) }
-    ensures counted { (y : M) → seat.old.me.1 ≡ (0, Some y) ∷ [] → seat.new.me ≡ (has_counted (entry asked.now.value said.now.value y) seat.old.me.0, seat.old.me.1) }
+    requires step { HoldsStep M.fits M.legal table.now.key.start.value
+        (asked.now.value, said.now.value) seat.old.me }
+    ensures seat { IsSameSeat seat.old seat.new }
+    ensures counted { (y : M) → Holds seat.old.me y
+        → let last = entry asked.now.value said.now.value y in
+        seat.new.me ≡ (has_counted last seat.old.me.0, seat.old.me.1) }
 {
-    table.fetch_add::<Count<N>>(seat, 2, 1);
+    table.fetch_add::<Count<N>>(seat, LENGTH, 1);
 }
 
 // A second seat, which has `left` of the first one's calls.
@@ -92,11 +97,11 @@ pub(crate) fn cut<M: Machine, P: Portion>(
     seat: &mut TurnSeat<M>,
     left: u64,
 ) -> TurnSeat<M>
-    requires table { (seat.old.table_id ≡ table.now.table_id) × (table.now.table_id.words ≡ 3) }
+    requires table { IsAt table.now.table_id seat.old.table_id }
     requires portion { P.given ≡ left }
     requires left { left ≤ seat.old.me.0.left }
     requires idle { seat.old.me.0.stage ≡ Idle }
-    ensures seat { (seat.new.table_id ≡ seat.old.table_id) × (seat.new.id ≡ seat.old.id) }
+    ensures seat { IsSameSeat seat.old seat.new }
     ensures first { seat.new.me ≡ (kept_of left seat.old.me.0, seat.old.me.1) }
     ensures second { (result.table_id ≡ seat.old.table_id) × (result.me ≡ (share_of left seat.old.me.0, [])) }
 {

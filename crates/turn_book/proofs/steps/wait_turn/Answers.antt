@@ -4,8 +4,7 @@ use Rattle.turn_book.proofs.steps.wait_turn.Goals as goal
 
 pub load-requires : goal.load-requires
 load-requires g c =
-    let i = c.loop.invariant in
-    (
+    let i = c.loop.invariant in (
       i.0 ∙ c.requires.table.0,
       omega (arith, c.requires.table.1),
       looks_as _ _ _ _ c.requires.start _ _ _ (ap (λ m. m.0.stage) i.2 ∙ c.requires.ticket.0),

@@ -25,5 +25,6 @@ returns g c =
       machine = same ∙ ap₂ end_of start_is seen_is;
       valid = subst g.M.Machine.valid (sym same) (end_valid _ _ _ g.met.M.Machine.stays_valid _ _ closing.is_good.0 closing.is_good.1);
       history = subst₂ (IsHistory g.M.Machine.fits g.M.Machine.legal) start_is seen_is closing.is_good.1;
+      made = sym (ap length seen_is) ∙ closing.made_all ∙ ap (λ p. length p.own) c.pass.view_is;
       own = subst₂ (λ l own. AreAllBelow (length l) own) seen_is (ap (λ p. p.own) c.pass.view_is) closing.own;
     }
