@@ -1,7 +1,7 @@
 -- Beginnings of a history, and what lasts along one.
-use Rattle.std.proofs.Common.{◌≡◌, ◌≢◌, ℕ, ◌+◌, ◌<◌, ◌≤◌, List, [], ◌∷◌, ◌++◌, length, refl, sym, ap, ◌∙◌, subst, append_assoc, append-nil, length-append, arith}
+use Rattle.std.proofs.Common.{◌≡◌, ◌≤◌, List, [], ◌∷◌, ◌++◌, length, refl, sym, ap, ◌∙◌, subst, append_assoc, append-nil, length-append, arith}
 use Rattle.turn_book.specs.Laws.{StaysValid, StaysFitting}
-use Rattle.turn_book.specs.History.{entry, end_of, StartsWith, IsHistory, IsRun, AddsCall}
+use Rattle.turn_book.specs.History.{entry, end_of, StartsWith, IsHistory, IsRun}
 use Rattle.turn_book.specs.declared.entry.Entry.{Entry}
 
 module _ {M C R : Type 0} where

@@ -1,25 +1,22 @@
 -- Splitting and joining seats keep the rule.
-use Rattle.std.proofs.Common.{◌≡◌, ◌≢◌, ◌⊎◌, ℕ, zero, suc, ◌+◌, ◌-◌, ◌%◌, ◌<◌, ◌≤◌, List, [], ◌∷◌, ◌++◌, length, get_or, set, All, sum_by, Bool, true, false, nat_lt, if◌then◌else◌, Option, Some, None, refl, sym, ap, ◌∙◌, subst, ⊎_elim, inl, inr, arith, length-set, length-append, get_or-set_other, get_or-set_same}
+use Rattle.std.proofs.Common.{◌≡◌, ℕ, ◌+◌, ◌<◌, ◌≤◌, List, [], ◌∷◌, ◌++◌, length, get_or, set, All, sum_by, Bool, true, false, nat_lt, if◌then◌else◌, Option, refl, sym, ap, ◌∙◌, subst, ⊎_elim, arith, length-append}
 use Rattle.std.proofs.lemmas.List.{set-get_or}
-use Rattle.std.proofs.lemmas.List.Elements.{All-append, All-push}
+use Rattle.std.proofs.lemmas.List.Elements.{All-append}
 use Rattle.std.proofs.lemmas.List.Sums.{sum_by_push}
-use mathlib.Core.Option.{some, none, some-injective, some-ne-none}
+use mathlib.Core.Option.{some, none}
 use Rattle.std.proofs.lemmas.Bool.Decides.{nat_tests}
-use mathlib.Core.Logic.{dite}
-use native.Mathlib.Decide.{ℕ_discrete}
 use lib.ListN.{get_elem?}
-use Rattle.atomic_table.specs.Table.{State, Me, step, keeps, takes, gives, stepped, Allows, Splits, Joins, opening, Final, Seen}
-use Rattle.atomic_table.proofs.Lists.{at_set, set_here, set_else, set_again, at_snoc, at_longer}
-use Rattle.turn_book.specs.History.{entry, end_of, StartsWith, longer, shorter, times, once_below}
-use Rattle.turn_book.specs.Turning.{HasTicket, InTurn, begun, waiting, made, left_of, owns, newcomer, AtStage, Knows, Turning}
-use Rattle.turn_book.specs.Steps.{Sat, has_drawn, in_turn, has_counted, at_rest, share_of, kept_of, both_of, spent, Draws, TakesTurn, Looks, Counts, PassesOn, Meets}
+use Rattle.atomic_table.specs.Table.{State, step, keeps, Allows, Splits, Joins}
+use Rattle.atomic_table.proofs.Lists.{set_else, set_again, at_snoc, at_longer}
+use Rattle.turn_book.specs.History.{StartsWith, longer, shorter}
+use Rattle.turn_book.specs.Turning.{HasTicket, InTurn, begun, waiting, made, left_of, owns, AtStage, Knows, Turning}
+use Rattle.turn_book.specs.Steps.{Sat, share_of, kept_of, both_of, spent, Meets}
 use Rattle.turn_book.specs.declared.entry.Entry.{Entry}
 use Rattle.turn_book.specs.declared.view.View.{View}
-use Rattle.turn_book.specs.declared.view.Stage.{Stage}
-use Rattle.turn_book.specs.declared.view.Stage.TheVariants.{Idle, Waits, Turn, Counted}
-use Rattle.turn_book.proofs.Totals.{sum_set, sum_stays, sum_at, sum_two, sum_join, sum_alone, at_inside, times_push, times_append, once_more, covers}
-use Rattle.turn_book.proofs.Histories.{starts_itself, starts_empty, starts_further, starts_more, starts_length, starts_between, starts_whole}
-use Rattle.turn_book.proofs.Seats.{turn_has, each_set, Apart, OwnTicket, apart_set, same_ticket, no_ticket, calm_before, stage_draws, stage_passes, stage_counts, turn_ticket, ticket_below, knows_on}
+use Rattle.turn_book.specs.declared.view.Stage.TheVariants.{Idle}
+use Rattle.turn_book.proofs.Totals.{sum_set, sum_stays, sum_at, sum_join, times_append}
+use Rattle.turn_book.proofs.Histories.{starts_empty, starts_between}
+use Rattle.turn_book.proofs.Seats.{each_set, Apart, apart_set, no_ticket, calm_before}
 
 longer_lt : (a b : ℕ) → nat_lt a b ≡ true → a < b
 longer_lt a b e = grind (arith, nat_tests)

@@ -1,24 +1,21 @@
 -- Drawing a ticket, looking at the one that is served, and passing the turn keep the rule.
-use Rattle.std.proofs.Common.{◌≡◌, ◌≢◌, ◌⊎◌, ℕ, zero, suc, ◌+◌, ◌-◌, ◌%◌, ◌<◌, ◌≤◌, List, [], ◌∷◌, ◌++◌, length, get_or, set, All, sum_by, Option, Some, None, refl, sym, ap, ◌∙◌, subst, ⊎_elim, inl, inr, arith, length-set, length-append, get_or-set_other, get_or-set_same}
+use Rattle.std.proofs.Common.{◌≡◌, ℕ, ◌+◌, ◌%◌, ◌<◌, ◌≤◌, List, [], ◌∷◌, length, get_or, set, Option, Some, refl, sym, ap, ◌∙◌, subst, arith, length-set, get_or-set_other, get_or-set_same}
 use Rattle.std.proofs.lemmas.List.{set-get_or}
-use Rattle.std.proofs.lemmas.List.Elements.{All-append, All-push}
-use Rattle.std.proofs.lemmas.List.Sums.{sum_by_push}
 use mathlib.Core.Option.{some, none, some-injective, some-ne-none}
 use mathlib.Core.Logic.{dite}
 use native.Mathlib.Decide.{ℕ_discrete}
 use lib.ListN.{get_elem?}
-use Rattle.atomic_table.specs.Table.{State, Me, step, keeps, takes, gives, stepped, Allows, Splits, Joins, opening, Final, Seen}
-use Rattle.atomic_table.proofs.Lists.{at_set, set_here, set_else, set_again, at_snoc, at_longer}
-use Rattle.turn_book.specs.History.{entry, end_of, StartsWith, longer, shorter, times, once_below}
-use Rattle.turn_book.specs.Turning.{HasTicket, InTurn, begun, waiting, made, left_of, owns, newcomer, AtStage, Knows, Turning}
-use Rattle.turn_book.specs.Steps.{Sat, has_drawn, in_turn, has_counted, at_rest, share_of, kept_of, both_of, spent, Draws, TakesTurn, Looks, Counts, PassesOn, Meets}
+use Rattle.atomic_table.specs.Table.{State, step, keeps, takes, gives, Allows}
+use Rattle.atomic_table.proofs.Lists.{set_here, set_again}
+use Rattle.turn_book.specs.History.{end_of}
+use Rattle.turn_book.specs.Turning.{HasTicket, InTurn, begun, waiting, made, left_of, owns, AtStage, Knows, Turning}
+use Rattle.turn_book.specs.Steps.{Sat, has_drawn, in_turn, at_rest, Draws, TakesTurn, Looks, PassesOn}
 use Rattle.turn_book.specs.declared.entry.Entry.{Entry}
 use Rattle.turn_book.specs.declared.view.View.{View}
-use Rattle.turn_book.specs.declared.view.Stage.{Stage}
-use Rattle.turn_book.specs.declared.view.Stage.TheVariants.{Idle, Waits, Turn, Counted}
-use Rattle.turn_book.proofs.Totals.{sum_set, sum_stays, sum_at, sum_two, sum_alone, at_inside, times_push, times_append, once_more, covers}
-use Rattle.turn_book.proofs.Histories.{starts_itself, starts_empty, starts_further, starts_more, starts_length, starts_between, starts_whole}
-use Rattle.turn_book.proofs.Seats.{turn_has, each_set, Apart, OwnTicket, apart_set, same_ticket, no_ticket, calm_before, stage_draws, stage_passes, stage_counts, turn_ticket, ticket_below, knows_on}
+use Rattle.turn_book.specs.declared.view.Stage.TheVariants.{Idle, Waits, Counted}
+use Rattle.turn_book.proofs.Totals.{sum_set, sum_stays, sum_at, at_inside}
+use Rattle.turn_book.proofs.Histories.{starts_itself, starts_empty, starts_length}
+use Rattle.turn_book.proofs.Seats.{turn_has, each_set, apart_set, same_ticket, no_ticket, calm_before, stage_draws, stage_passes, turn_ticket, ticket_below, knows_on}
 
 -- a turn that was taken, where the machine at the start and the seat before have other names
 pub took : {M C R : Type 0} (good : M → List (Entry M C R) → Type 0) (start : M) (o : Option M) → o ≡ Some start → (me0 me me' : Sat M C R) → me ≡ me0

@@ -1,5 +1,5 @@
 -- What a seat goes through within its turn.
-use Rattle.std.proofs.Common.{◌≡◌, ℕ, List, [], ◌∷◌, ◌++◌, get_or, Option, Some, None, refl, sym, ap, ◌∙◌, subst, subst₂}
+use Rattle.std.proofs.Common.{◌≡◌, ℕ, List, [], ◌∷◌, get_or, Option, Some, None, sym, ap, ◌∙◌, subst, subst₂}
 use Rattle.atomic_table.specs.Table.{rest}
 use Rattle.turn_book.specs.Laws.{StaysValid, StaysFitting}
 use Rattle.turn_book.specs.History.{entry, end_of, IsRun}

@@ -1,4 +1,4 @@
-use Rattle.std.proofs.Common.{rules, ◌≡◌, ◌∙◌, sym, ap, arith}
+use Rattle.std.proofs.Common.{arith}
 use Rattle.turn_book.proofs.Counting.{counts}
 use Rattle.turn_book.proofs.Histories.{history_append}
 use Rattle.turn_book.proofs.steps.count.Goals as goal

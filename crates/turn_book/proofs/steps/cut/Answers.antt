@@ -1,4 +1,4 @@
-use Rattle.std.proofs.Common.{rules, ◌≡◌, ℕ, ◌∙◌, sym, ap, subst, arith}
+use Rattle.std.proofs.Common.{arith}
 use Rattle.turn_book.proofs.Passes.{splits}
 use Rattle.turn_book.proofs.steps.cut.Goals as goal
 

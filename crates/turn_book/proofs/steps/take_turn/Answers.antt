@@ -1,4 +1,4 @@
-use Rattle.std.proofs.Common.{◌≡◌, [], ◌∷◌, Some, refl, ◌∙◌, sym, ap, subst, arith}
+use Rattle.std.proofs.Common.{◌∷◌, Some, refl, ◌∙◌, sym, ap, subst, arith}
 use Rattle.atomic_table.specs.Table.{rest}
 use Rattle.turn_book.specs.History.{end_of}
 use Rattle.turn_book.proofs.Tickets.{passes}

@@ -1,4 +1,4 @@
-use Rattle.std.proofs.Common.{rules, ◌≡◌, ◌∙◌, sym, ap, arith}
+use Rattle.std.proofs.Common.{◌∙◌, sym, ap, arith}
 use Rattle.turn_book.proofs.Tickets.{looks_as, took}
 use Rattle.turn_book.proofs.steps.wait_turn.Goals as goal
 

@@ -1,4 +1,4 @@
-use Rattle.std.proofs.Common.{◌≡◌, ◌∙◌, sym, ap, subst, arith}
+use Rattle.std.proofs.Common.{◌∙◌, sym, ap, subst, arith}
 use Rattle.turn_book.specs.History.{end_of}
 use Rattle.turn_book.proofs.Histories.{end_valid, run_longer}
 use Rattle.turn_book.proofs.Tickets.{draws}

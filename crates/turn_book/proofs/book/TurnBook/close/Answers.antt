@@ -1,4 +1,4 @@
-use Rattle.std.proofs.Common.{◌≡◌, ◌+◌, Some, length, refl, ◌∙◌, sym, ap, ap₂, subst, subst₂, IsSome}
+use Rattle.std.proofs.Common.{◌+◌, length, refl, ◌∙◌, sym, ap, ap₂, subst, subst₂, IsSome}
 use mathlib.Core.Option.{some-injective}
 use Rattle.turn_book.specs.History.{end_of, IsHistory, AreAllBelow}
 use Rattle.turn_book.proofs.Histories.{end_valid}

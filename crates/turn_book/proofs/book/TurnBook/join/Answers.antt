@@ -1,4 +1,4 @@
-use Rattle.std.proofs.Common.{rules, ◌≡◌, [], ◌∷◌, Some, refl, ◌∙◌, sym, ap, subst, arith}
+use Rattle.std.proofs.Common.{◌∙◌, sym, ap, arith}
 use Rattle.turn_book.proofs.Passes.{joins, meets}
 use Rattle.turn_book.proofs.book.TurnBook.join.Goals as goal
 

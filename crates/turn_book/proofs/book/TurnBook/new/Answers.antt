@@ -1,4 +1,4 @@
-use Rattle.std.proofs.Common.{◌≡◌, [], ◌∷◌, Some, ◌∙◌, sym, ap, subst, arith}
+use Rattle.std.proofs.Common.{[], ◌∷◌, Some, ◌∙◌, sym, ap, subst, arith}
 use Rattle.turn_book.proofs.Ends.{opens_as}
 use Rattle.turn_book.proofs.book.TurnBook.new.Goals as goal
 
