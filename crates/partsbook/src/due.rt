@@ -11,11 +11,12 @@ use crate::command::BookCommand;
 use crate::judge::order_reply;
 use crate::run_reply::RunReply;
 use pb_base::Memory;
+use pb_base::limits::MOST_TEXT_BYTES;
 use pb_outside::{Files, OutError, Source, read_up_to};
 use std::alloc::Global;
 
-/// A book's text has at most one byte less.
-const INPUT_LIMIT: usize = 1_048_577;
+/// One byte more than a book's text may have shows that it is too large.
+const INPUT_LIMIT: usize = MOST_TEXT_BYTES + 1;
 
 /// The numbers of the source and the files in the log.
 const SOURCE: u8 = 1;

@@ -26,7 +26,7 @@ pub fn order_reply(
     ensures { IfOk result (λ reply. reply ≡ order_reply (book_of text.now) day codes.now) }
 {
     match read_book(alloc, text) {
-        Ok(book) => judged_reply(alloc, &book, day, codes.names()),
+        Ok(book) => judged_reply(alloc, &book, day, codes.as_slice()),
         Err(Fail::Refused(fault)) => book_fault_reply(alloc, fault),
         Err(Fail::Memory) => Err(Memory),
     }

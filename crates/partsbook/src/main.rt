@@ -9,6 +9,7 @@ mod fault_text;
 mod file_name;
 mod given;
 mod judge;
+mod lines;
 mod log;
 mod outcome_text;
 mod run;
@@ -16,7 +17,6 @@ mod run_reply;
 mod tell;
 #[cfg(test)]
 mod tests;
-mod text;
 mod words;
 
 use crate::given::run_given;
