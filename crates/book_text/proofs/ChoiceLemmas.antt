@@ -3,7 +3,7 @@ use Rattle.std.proofs.Common.{◌≡◌, ◌≢◌, ℕ, suc, ◌+◌, ◌<◌, 
 use Rattle.std.proofs.lemmas.List.{length-set}
 use Rattle.book_model.specs.Parts.{variants_from, variants_of}
 use Rattle.book_model.specs.declared.record.Variant.{Variant}
-use Rattle.book_text.specs.Draft.{AreCounted}
+use Rattle.book_text.specs.PartialBook.{AreCounted}
 
 longer-by : (b : Bool) (i n : ℕ) (xs ys : List ℕ) → length xs ≡ length ys + n → length (if b then i ∷ xs else xs) ≡ length (if b then i ∷ ys else ys) + n
 longer-by true i n xs ys h = omega arith

@@ -7,20 +7,20 @@ use Rattle.pb_base.specs.declared.answer.Fail.{Fail}
 use Rattle.pb_base.specs.declared.answer.Fail.TheVariants.{Refused, Memory}
 
 -- the number that a program prints for a kind
-abbrev pub number_of : BookKind → ℕ
-number_of TooLarge = 1
-number_of NotUtf8 = 2
-number_of NoBookRecord = 3
-number_of SecondBookRecord = 4
-number_of UnknownKind = 5
-number_of FieldCount = 6
-number_of BadName = 7
-number_of BadNumber = 8
-number_of BadDays = 9
-number_of Duplicate = 10
-number_of UnknownName = 11
-number_of (BadRule fault) = 12
-number_of (Limit which) = 13
+abbrev pub kind_number : BookKind → ℕ
+kind_number TooLarge = 1
+kind_number NotUtf8 = 2
+kind_number NoBookRecord = 3
+kind_number SecondBookRecord = 4
+kind_number UnknownKind = 5
+kind_number FieldCount = 6
+kind_number BadName = 7
+kind_number BadNumber = 8
+kind_number BadDays = 9
+kind_number Duplicate = 10
+kind_number UnknownName = 11
+kind_number (BadRule fault) = 12
+kind_number (Limit which) = 13
 
 -- what follows a value, or the fault that came before it
 abbrev pub and_then : {A B E : Type 0} → Result A E → (A → Result B E) → Result B E

@@ -12,7 +12,7 @@ use crate::entry::{Entry, entry_of, rule_text_of};
 use crate::fault::{BookFault, BookKind};
 use crate::fields::Days;
 use crate::names::Names;
-use crate::rows::Rows;
+use crate::row_reader::RowReader;
 use csv::ByteRecord;
 use pb_base::Fail;
 use std::alloc::Global;
@@ -31,7 +31,7 @@ pub struct Survey {
 pub fn first_pass(
     alloc: Global,
     term: Days,
-    rows: &mut Rows<'_>,
+    rows: &mut RowReader<'_>,
     row: &mut ByteRecord,
 ) -> Result<Survey, Fail<BookFault>>
     requires { length rows.old ≤ 1048576 }
@@ -55,7 +55,7 @@ fn enter_rows(
     entries: &mut Vec<Entry>,
     texts: &mut ByteRecord,
     term: Days,
-    rows: &mut Rows<'_>,
+    rows: &mut RowReader<'_>,
     row: &mut ByteRecord,
 ) -> Result<(), Fail<BookFault>>
     requires count { length rows.old ≤ 1048576 }

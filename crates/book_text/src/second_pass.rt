@@ -1,8 +1,8 @@
 //! The second pass, over what the rows say: names become places, and rules are read.
-ghost use Rattle.std.specs.Prelude.{◌≡◌, ◌+◌, ◌<◌, ◌^◌, IfOk, OnOk, length};
+ghost use Rattle.std.specs.Prelude.{◌≡◌, ◌+◌, ◌<◌, ◌≤◌, ◌^◌, OnOk, length};
 ghost use Rattle.pb_base.specs.Answers.{Answers};
 ghost use Rattle.csv.specs.Records.{fields_of};
-ghost use Rattle.book_text.specs.Draft.{records_of, AreCounted, IsCounted};
+ghost use Rattle.book_text.specs.PartialBook.{records_of, AreCounted, IsCounted};
 ghost use Rattle.book_text.specs.Fault.{Gives};
 ghost use Rattle.book_text.specs.SecondPass.{place_of, place_if_named, rule_in, supplement_of, construct_of, position_of, variant_of, with_variant, resolved};
 ghost use Rattle.book_text.specs.Said.{said_pass};
@@ -14,53 +14,71 @@ use crate::fault::{BookFault, BookKind, Which};
 use crate::fields::{Days, field};
 use crate::id_table::IdTable;
 use crate::names::Names;
+use crate::partial_book::PartialBook;
+use crate::survey::Survey;
 use book_model::{Construct, Module, Position, Supplement, Variant};
 use csv::ByteRecord;
 use pb_base::{CodeName, CodeTable, Fail, Formula, Id, Memory, Part};
 use rule_text::read_rule;
 use std::alloc::Global;
 
-/// The records of a book as far as they were read, each list in record order.
-#[derive(Drop)]
-pub struct Draft {
-    pub supplements: Vec<Supplement>,
-    pub constructs: Vec<Construct>,
-    pub modules: Vec<Module>,
-    pub positions: Vec<Position>,
-    pub variants: Vec<Variant>,
-    /// How many variants each position has, by its place.
-    pub choices: Vec<u32>,
+/// The records that the rows behind the heading say.
+pub fn second_pass(alloc: Global, survey: &Survey) -> Result<PartialBook, Fail<BookFault>>
+    requires count { length survey.now.entries.items ≡ length (fields_of survey.now.texts) }
+    requires few { length survey.now.entries.items ≤ 1048576 }
+    requires short { IsShort (fields_of survey.now.texts) }
+    ensures { Gives result records_of (said_pass survey.now.names 2 no_records survey.now.entries.items (fields_of survey.now.texts)) }
+{
+    let mut book = PartialBook::new(alloc, &survey.names)?;
+    resolve_all(
+        alloc,
+        &mut book,
+        &survey.names,
+        &survey.entries,
+        &survey.texts,
+    )?;
+    Ok(book)
 }
 
-impl Draft {
-    /// The draft without records, of a book with these names: there is room for a record of each.
-    pub fn new(alloc: Global, names: &Names) -> Result<Draft, Memory>
-        ensures empty { IfOk result (λ d. records_of d ≡ no_records) }
-        ensures counted { IfOk result (IsCounted (length names.now.positions)) }
-    {
-        Ok(Draft {
-            supplements: Vec::with_capacity(alloc, names.supplements.len() as usize)?,
-            constructs: Vec::with_capacity(alloc, names.constructs.len() as usize)?,
-            modules: Vec::with_capacity(alloc, names.modules.len() as usize)?,
-            positions: Vec::with_capacity(alloc, names.positions.len() as usize)?,
-            variants: Vec::with_capacity(alloc, names.variants.len() as usize)?,
-            choices: vec![in alloc; 0; names.positions.len() as usize]?,
-        })
-    }
-}
-
-/// Adds the record that a row says, whose rule has this text.
-pub fn resolve(
+// Adds the records that the rows behind the heading say, with the texts of their rules.
+fn resolve_all(
     alloc: Global,
-    draft: &mut Draft,
+    book: &mut PartialBook,
+    names: &Names,
+    entries: &[Entry],
+    texts: &ByteRecord,
+) -> Result<(), Fail<BookFault>>
+    requires count { length entries.now ≡ length (fields_of texts.now) }
+    requires few { length entries.now + 2 < 2 ^ 32 }
+    requires short { IsShort (fields_of texts.now) }
+    requires counted { IsCounted (length names.now.positions) book.old }
+    ensures { Gives result (λ _. records_of book.new) (said_pass names.now 2 (records_of book.old) entries.now (fields_of texts.now)) }
+{
+    for (k, entry) in entries.iter().enumerate() {
+        match resolve(alloc, book, names, entry, field(texts, k)) {
+            Ok(()) => {}
+            Err(Fail::Refused(kind)) => {
+                let row = k as u32 + 2;
+                return Err(Fail::Refused(BookFault { row, kind }));
+            }
+            Err(Fail::Memory) => return Err(Fail::Memory),
+        }
+    }
+    Ok(())
+}
+
+// Adds the record that a row says, whose rule has this text.
+fn resolve(
+    alloc: Global,
+    book: &mut PartialBook,
     names: &Names,
     entry: &Entry,
     text: &[u8],
 ) -> Result<(), Fail<BookKind>>
     requires short { length text.now < 2 ^ 32 }
-    requires counted { IsCounted (length names.now.positions) draft.old }
-    ensures value { Gives result (λ _. records_of draft.new) (resolved names.now (records_of draft.old) entry.now text.now) }
-    ensures counted { OnOk result (IsCounted (length names.now.positions) draft.new) }
+    requires counted { IsCounted (length names.now.positions) book.old }
+    ensures value { Gives result (λ _. records_of book.new) (resolved names.now (records_of book.old) entry.now text.now) }
+    ensures counted { OnOk result (IsCounted (length names.now.positions) book.new) }
 {
     match entry {
         Entry::Code { .. } => Ok(()),
@@ -71,16 +89,16 @@ pub fn resolve(
             days,
         } => {
             let record = supplement_of(alloc, &names.codes, *id, *rank, code, *days, text)?;
-            draft.supplements.push(record)?;
+            book.supplements.push(record)?;
             Ok(())
         }
         Entry::Construct { id, on, days } => {
             let record = construct_of(alloc, &names.codes, *id, on, *days, text)?;
-            draft.constructs.push(record)?;
+            book.constructs.push(record)?;
             Ok(())
         }
         Entry::Module { id } => {
-            draft.modules.push(Module { id: *id })?;
+            book.modules.push(Module { id: *id })?;
             Ok(())
         }
         Entry::Position {
@@ -90,7 +108,7 @@ pub fn resolve(
             days,
         } => {
             let record = position_of(&names.modules, *id, group, *mandatory, *days)?;
-            draft.positions.push(record)?;
+            book.positions.push(record)?;
             Ok(())
         }
         Entry::Variant {
@@ -101,7 +119,7 @@ pub fn resolve(
             days,
         } => {
             let record = variant_of(alloc, names, *id, position, *part, *quantity, *days, text)?;
-            add_variant(&mut draft.variants, &mut draft.choices, record)
+            add_variant(&mut book.variants, &mut book.choices, record)
         }
     }
 }
@@ -267,32 +285,5 @@ fn add_variant(
     }
     variants.push(variant)?;
     choices[place] += 1;
-    Ok(())
-}
-
-/// Adds the records that the rows behind the heading say, with the texts of their rules.
-pub fn resolve_all(
-    alloc: Global,
-    draft: &mut Draft,
-    names: &Names,
-    entries: &[Entry],
-    texts: &ByteRecord,
-) -> Result<(), Fail<BookFault>>
-    requires count { length entries.now ≡ length (fields_of texts.now) }
-    requires few { length entries.now + 2 < 2 ^ 32 }
-    requires short { IsShort (fields_of texts.now) }
-    requires counted { IsCounted (length names.now.positions) draft.old }
-    ensures { Gives result (λ _. records_of draft.new) (said_pass names.now 2 (records_of draft.old) entries.now (fields_of texts.now)) }
-{
-    for (k, entry) in entries.iter().enumerate() {
-        match resolve(alloc, draft, names, entry, field(texts, k)) {
-            Ok(()) => {}
-            Err(Fail::Refused(kind)) => {
-                let row = k as u32 + 2;
-                return Err(Fail::Refused(BookFault { row, kind }));
-            }
-            Err(Fail::Memory) => return Err(Fail::Memory),
-        }
-    }
     Ok(())
 }

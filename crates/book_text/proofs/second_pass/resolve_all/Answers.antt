@@ -1,8 +1,8 @@
 use Rattle.std.proofs.Common.{◌<◌, length, sym, ◌∙◌, arith}
 use Rattle.csv.specs.Records.{fields_of}
-use Rattle.book_text.specs.Draft.{records_of}
+use Rattle.book_text.specs.PartialBook.{records_of}
 use Rattle.book_text.proofs.PassLemmas.{said-more, said-fault, said-end}
-use Rattle.book_text.proofs.draft.resolve_all.Goals as goal
+use Rattle.book_text.proofs.second_pass.resolve_all.Goals as goal
 
 pub returns-in-Err-Refused : goal.returns-in-Err-Refused
 returns-in-Err-Refused c =
@@ -10,7 +10,7 @@ returns-in-Err-Refused c =
     let fault = rw (c.in-Err-Refused.field-0-is, c.field.ensures) at c.in-Err-Refused.ensures.value in
     rw c.in-Err-Refused.field-0-is (
     sym c.loop-k.invariant.rest
-    ∙ said-fault c.args.names.now c.loop-k.k (records_of c.loop-k.draft) c.args.entries.now (fields_of c.args.texts.now) c.index-entries-k.result c.in-Err-Refused.kind
+    ∙ said-fault c.args.names.now c.loop-k.k (records_of c.loop-k.book) c.args.entries.now (fields_of c.args.texts.now) c.index-entries-k.result c.in-Err-Refused.kind
     c.loop-k-test.true in_texts c.index-entries-k.is fault)
 
 pub loop-k-preserved : goal.loop-k-preserved
@@ -19,7 +19,7 @@ loop-k-preserved c =
     let next = rw c.field.ensures at c.in-Ok.ensures.value in
     record {
       rest =
-          sym (said-more c.args.names.now c.loop-k.k (records_of c.loop-k.draft) c.args.entries.now (fields_of c.args.texts.now) (records_of c.resolve.new.draft) c.index-entries-k.result
+          sym (said-more c.args.names.now c.loop-k.k (records_of c.loop-k.book) c.args.entries.now (fields_of c.args.texts.now) (records_of c.resolve.new.book) c.index-entries-k.result
           c.loop-k-test.true in_texts c.index-entries-k.is next)
           ∙ c.loop-k.invariant.rest;
       counted = c.in-Ok.ensures.counted;
@@ -28,4 +28,4 @@ loop-k-preserved c =
 pub returns : goal.returns
 returns c =
     sym c.loop-k.invariant.rest
-    ∙ said-end c.args.names.now c.loop-k.k (records_of c.loop-k.draft) c.args.entries.now (fields_of c.args.texts.now) c.loop-k-test.false
+    ∙ said-end c.args.names.now c.loop-k.k (records_of c.loop-k.book) c.args.entries.now (fields_of c.args.texts.now) c.loop-k-test.false

@@ -1,5 +1,5 @@
 use Rattle.book_text.proofs.ChoiceLemmas.{AreCounted-push}
-use Rattle.book_text.proofs.draft.add_variant.Goals as goal
+use Rattle.book_text.proofs.second_pass.add_variant.Goals as goal
 
 pub returns-clause-counted : goal.returns-clause-counted
 returns-clause-counted c =
