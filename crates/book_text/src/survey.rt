@@ -90,6 +90,6 @@ fn enter_row(names: &mut Names, term: Days, row: &ByteRecord) -> Result<Entry, F
             names.enter(&entry)?;
             Ok(entry)
         }
-        Err(kind) => Err(Fail::Refused(kind)),
+        Err(fault) => Err(Fail::Refused(fault)),
     }
 }
