@@ -89,7 +89,12 @@ fn book_behind(
     Ok(book)
 }
 
-fn whole_book(alloc: Global, heading: Heading, names: Names, partial: PartialBook) -> Result<Book, Memory>
+fn whole_book(
+    alloc: Global,
+    heading: Heading,
+    names: Names,
+    partial: PartialBook,
+) -> Result<Book, Memory>
     requires { IsBook (book_with heading names (records_of partial)) }
     ensures { IfOk result (λ book. book ≡ book_with heading names (records_of partial)) }
 {

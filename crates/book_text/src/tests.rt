@@ -3,7 +3,7 @@ use crate::{BookFault, BookKind, Which, read_book};
 use book_model::Book;
 use pb_base::Fail;
 use rule_text::RuleFault;
-use std::alloc::Global;
+use std::alloc::{AllocError, Global};
 use std::process::Abort;
 use std::test::Fail as Failure;
 
@@ -19,15 +19,17 @@ fn answer(rt: &impl Abort, alloc: Global, text: &[u8]) -> Result<Book, BookFault
 const PLAIN: &[u8] =
     b"book,S,1,9\ncode,A,a\nvariant,V,P,X1,002,A,,5\nposition,P,M,optional,2,\nsupplement,R,10,A,-A,,\nconstruct,C,*,A,,\nmodule,M,m\n";
 
-// The same after a byte order mark and with CRLF, with quotes and an empty line, and padded to one width.
+// The same after a byte order mark and with CRLF.
 const MARKED: &[u8] =
     b"\xef\xbb\xbfbook,S,1,9\r\ncode,A,a\r\nvariant,V,P,X1,002,A,,5\r\nposition,P,M,optional,2,\r\nsupplement,R,10,A,-A,,\r\nconstruct,C,*,A,,\r\nmodule,M,m\r\n";
 
+// The same with quotes, empty lines, CR alone, text behind a closing quote and a quote that is open at the end.
 const QUOTED: &[u8] =
-    b"\"book\",S,1,9\n\ncode,A,\"a, \"\"b\"\"\nc\"\nvariant,V,P,X1,002,\"A\",,5\nposition,P,M,optional,2,\nsupplement,R,10,A,-A,,\nconstruct,C,*,A,,\nmodule,M,m";
+    b"\"book\",S,1,9\n\ncode,A,\"a, \"\"b\"\"\nc\"d\rvariant,V,P,X1,002,\"A\",,5\n\n\nposition,P,M,optional,2,\nsupplement,R,10,A,-A,,\nconstruct,C,*,A,,\nmodule,M,\"m\n";
 
+// The same where each row has ten fields, as a spreadsheet writes them.
 const PADDED: &[u8] =
-    b"book,S,1,9,,,,\ncode,A,a,,,,,\nvariant,V,P,X1,002,A,,5\nposition,P,M,optional,2,,,\nsupplement,R,10,A,-A,,,\nconstruct,C,*,A,,,,\nmodule,M,m,,,,,\n";
+    b"book,S,1,9,,,,,,\ncode,A,a,,,,,,,\nvariant,V,P,X1,002,A,,5,,\nposition,P,M,optional,2,,,,,\nsupplement,R,10,A,-A,,,,,\nconstruct,C,*,A,,,,,,\nmodule,M,m,,,,,,,\n";
 
 #[test]
 fn texts_of_one_book_read_alike(rt: HostRuntime) {
@@ -53,7 +55,7 @@ fn texts_of_one_book_read_alike(rt: HostRuntime) {
 
 #[test]
 fn first_faults(rt: HostRuntime) {
-    let rows: [(&[u8], u32, BookKind, u32); 16] = [
+    let rows: [(&[u8], u32, BookKind, u32); 27] = [
         (b"", 1, BookKind::NoBookRecord, 3),
         (b"code,A,a", 1, BookKind::NoBookRecord, 3),
         (b"book,S,1,9\nbook,S,1,9", 2, BookKind::SecondBookRecord, 4),
@@ -100,6 +102,37 @@ fn first_faults(rt: HostRuntime) {
             9,
         ),
         (b"book,S,1,9\ncode,A,\xff", 0, BookKind::NotUtf8, 2),
+        (b"\xff", 0, BookKind::NotUtf8, 2),
+        (b"book,S,1,9,2", 1, BookKind::FieldCount, 6),
+        (b"book,S,1,9\ngroup,G,a", 2, BookKind::UnknownKind, 5),
+        (b"book,S,1,9\n \n", 2, BookKind::UnknownKind, 5),
+        (b"book,S,1,9\n\"\"\n", 2, BookKind::UnknownKind, 5),
+        (b"book,S,1,9\ncode,A\"B,a", 2, BookKind::BadName, 7),
+        (b"book,S,1,9\nposition,P,,often,,", 2, BookKind::BadName, 7),
+        (
+            b"book,S,1,9\nvariant,V,P,X,1000,A,,",
+            2,
+            BookKind::BadNumber,
+            8,
+        ),
+        (
+            b"book,S,1,9\nposition,P,M,optional,,",
+            2,
+            BookKind::UnknownName,
+            11,
+        ),
+        (
+            b"book,S,1,9\nconstruct,C,B,A+,,",
+            2,
+            BookKind::UnknownName,
+            11,
+        ),
+        (
+            b"book,S,1,9\ncode,A,a\nconstruct,C,A,,,",
+            3,
+            BookKind::BadRule(RuleFault::Empty),
+            12,
+        ),
     ];
     for (text, row, kind, number) in rows {
         match answer(&rt, rt.alloc(), text) {
@@ -112,26 +145,96 @@ fn first_faults(rt: HostRuntime) {
     }
 }
 
+// The rows of a kind, with names of three bytes.
+fn push_rows(
+    text: &mut Vec<u8>,
+    from: u32,
+    until: u32,
+    before: &[u8],
+    after: &[u8],
+) -> Result<(), AllocError> {
+    for n in from..until {
+        text.extend_from_slice(before)?;
+        push_name(text, n)?;
+        text.extend_from_slice(after)?;
+    }
+    Ok(())
+}
+
+fn push_name(text: &mut Vec<u8>, n: u32) -> Result<(), AllocError> {
+    let digits = b"0123456789ABCDEFGHIJKLMNOPQRSTUVWXYZ";
+    for unit in [1296u32, 36, 1] {
+        let digit = n / unit % 36;
+        text.push(digits[digit as usize])?;
+    }
+    Ok(())
+}
+
+// As many records of each kind as a book may have, and as many variants as a position may have: 43,001 rows.
+fn full_text(alloc: Global) -> Result<Vec<u8>, AllocError> {
+    let mut text = Vec::new(alloc);
+    text.extend_from_slice(b"book,S,1,9\n")?;
+    push_rows(&mut text, 0, 2_000, b"code,", b",\n")?;
+    push_rows(&mut text, 0, 5_000, b"supplement,", b",0,000,000,,\n")?;
+    push_rows(&mut text, 5_000, 15_000, b"construct,", b",*,000,,\n")?;
+    push_rows(&mut text, 0, 1_000, b"module,", b",\n")?;
+    push_rows(&mut text, 0, 5_000, b"position,", b",,optional,,\n")?;
+    for n in 0..20_000u32 {
+        text.extend_from_slice(b"variant,")?;
+        push_name(&mut text, n)?;
+        text.push(b',')?;
+        push_name(&mut text, n / 200)?;
+        text.extend_from_slice(b",X,1,000,,\n")?;
+    }
+    Ok(text)
+}
+
 #[test]
-fn texts_past_the_limits(rt: HostRuntime) -> Result<(), Failure> {
+fn texts_at_the_limits_and_past_them(rt: HostRuntime) -> Result<(), Failure> {
     let alloc = rt.alloc();
+    let full = full_text(alloc)?;
+    let book = answer(&rt, alloc, &full).expect(&rt, "a book");
+    assert_eq!(rt; book.codes().len(), 2_000);
+    assert_eq!(rt; book.supplements().len(), 5_000);
+    assert_eq!(rt; book.constructs().len(), 10_000);
+    assert_eq!(rt; book.modules().len(), 1_000);
+    assert_eq!(rt; book.positions().len(), 5_000);
+    assert_eq!(rt; book.variants().len(), 20_000);
+
+    let one_more: [(&[u8], Which); 6] = [
+        (b"code,ZZZ,\n", Which::Codes),
+        (b"supplement,ZZZ,0,000,000,,\n", Which::Supplements),
+        (b"construct,ZZZ,*,000,,\n", Which::Constructs),
+        (b"module,ZZZ,\n", Which::Modules),
+        (b"position,ZZZ,,optional,,\n", Which::Positions),
+        (b"variant,ZZZ,ZZZ,X,1,000,,\n", Which::Variants),
+    ];
+    let mut text = full;
+    let len = text.len();
+    for (row, which) in one_more {
+        text.truncate(len);
+        text.extend_from_slice(row)?;
+        let fault = BookFault {
+            row: 43_002,
+            kind: BookKind::Limit(which),
+        };
+        assert!(rt; matches!(answer(&rt, alloc, &text), Err(found) if found == fault));
+    }
+
+    let mut text = Vec::new(alloc);
+    text.extend_from_slice(b"book,S,1,9\nposition,P,,mandatory,,\n")?;
+    push_rows(&mut text, 0, 201, b"variant,", b",P,X,1,TRUE,,\n")?;
+    let fault = BookFault {
+        row: 203,
+        kind: BookKind::Limit(Which::Choices),
+    };
+    assert!(rt; matches!(answer(&rt, alloc, &text), Err(found) if found == fault));
+
     let large = vec![in alloc; b','; 1_048_577]?;
     let fault = BookFault {
         row: 0,
         kind: BookKind::TooLarge,
     };
     assert!(rt; matches!(answer(&rt, alloc, &large), Err(found) if found == fault));
-
-    let mut text = String::from_str(alloc, "book,S,1,9\nposition,P,,mandatory,,\n")?;
-    for n in 0..201u32 {
-        text.push_str("variant,V")?;
-        text.push_str(n.to_string(alloc)?.as_str())?;
-        text.push_str(",P,X,1,TRUE,,\n")?;
-    }
-    let fault = BookFault {
-        row: 203,
-        kind: BookKind::Limit(Which::Choices),
-    };
-    assert!(rt; matches!(answer(&rt, alloc, text.as_bytes()), Err(found) if found == fault));
     Ok(())
 }
