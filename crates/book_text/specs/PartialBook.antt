@@ -1,7 +1,6 @@
 -- What a book holds as far as the second pass has come.
-use Rattle.std.specs.Prelude.{◌≡◌, ℕ, ◌<◌, List, length, slice_index_or}
-use Rattle.book_model.specs.Parts.{variants_of}
-use Rattle.book_model.specs.declared.record.Variant.{Variant}
+use Rattle.std.specs.Prelude.{ℕ}
+use Rattle.book_model.specs.Groups.{AreGroups}
 use Rattle.book_text.specs.Records.{Records}
 use Rattle.book_text.specs.declared.partial_book.PartialBook.{PartialBook}
 
@@ -14,10 +13,6 @@ records_of b = record {
   variants = b.variants.items;
 }
 
--- at each position stands the number of its variants
-abbrev pub AreCounted : List ℕ → List Variant → Type 0
-AreCounted choices variants = (place : ℕ) → place < length choices → slice_index_or choices place 0 ≡ length (variants_of place variants)
-
-pub record IsCounted (positions : ℕ) (b : PartialBook) : Type 0 where
-  pub places : length b.choices.items ≡ positions
-  pub counts : AreCounted b.choices.items b.variants.items
+-- its variants are grouped by so many positions
+abbrev pub IsGrouped : ℕ → PartialBook → Type 0
+IsGrouped positions b = AreGroups positions b.variants.items b.groups

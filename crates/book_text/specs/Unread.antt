@@ -6,6 +6,7 @@ use Rattle.csv.specs.Reading.{Ready, default_config, is_flexible, reader_config,
 use Rattle.csv.specs.declared.parser.State.{State}
 use Rattle.csv.specs.declared.reader.Reader.{Reader}
 use Rattle.csv.specs.declared.reader.Trim.TheVariants as trim
+use Rattle.pb_base.specs.declared.limits.TheConstants.{MOST_TEXT_BYTES}
 use Rattle.book_text.specs.Rows.{Row}
 
 -- the bytes that a reader of a slice has left
@@ -27,4 +28,4 @@ pub record IsReading (reader : Reader (Bor (List ℕ))) : Type 0 where
   pub ready : Ready reader
   pub config : reader_config reader ≡ default_config
   pub between : ends_at_end (reader_state reader) ≡ false
-  pub text : (left : List ℕ) × (unread_text reader ≡ Some left) × (length left ≤ 1048576)
+  pub text : (left : List ℕ) × (unread_text reader ≡ Some left) × (length left ≤ MOST_TEXT_BYTES)

@@ -4,7 +4,6 @@
 mod entry;
 mod fault;
 mod fields;
-mod id_table;
 mod kind;
 mod names;
 mod partial_book;

@@ -1,10 +1,10 @@
 //! A book as far as the second pass has come.
 ghost use Rattle.std.specs.Prelude.{◌≡◌, IfOk, length};
-ghost use Rattle.book_text.specs.PartialBook.{records_of, IsCounted};
+ghost use Rattle.book_text.specs.PartialBook.{records_of, IsGrouped};
 ghost use Rattle.book_text.specs.Records.{no_records};
 
 use crate::names::Names;
-use book_model::{Construct, Module, Position, Supplement, Variant};
+use book_model::{Construct, Module, Position, Supplement, Variant, VariantGroups};
 use pb_base::Memory;
 use std::alloc::Global;
 
@@ -16,15 +16,15 @@ pub struct PartialBook {
     pub modules: Vec<Module>,
     pub positions: Vec<Position>,
     pub variants: Vec<Variant>,
-    /// How many variants each position has, by its place.
-    pub choices: Vec<u32>,
+    /// The variants by position, made of `variants`.
+    pub groups: VariantGroups,
 }
 
 impl PartialBook {
     /// The book without records, with these names: there is room for a record of each.
     pub fn new(alloc: Global, names: &Names) -> Result<PartialBook, Memory>
         ensures empty { IfOk result (λ book. records_of book ≡ no_records) }
-        ensures counted { IfOk result (IsCounted (length names.now.positions)) }
+        ensures grouped { IfOk result (IsGrouped (length names.now.positions)) }
     {
         Ok(PartialBook {
             supplements: Vec::with_capacity(alloc, names.supplements.len() as usize)?,
@@ -32,7 +32,7 @@ impl PartialBook {
             modules: Vec::with_capacity(alloc, names.modules.len() as usize)?,
             positions: Vec::with_capacity(alloc, names.positions.len() as usize)?,
             variants: Vec::with_capacity(alloc, names.variants.len() as usize)?,
-            choices: vec![in alloc; 0; names.positions.len() as usize]?,
+            groups: VariantGroups::empty(alloc, names.positions.len() as usize)?,
         })
     }
 }

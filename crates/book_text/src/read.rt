@@ -1,13 +1,14 @@
 //! The book of a text.
-ghost use Rattle.std.specs.Prelude.{◌≡◌, ◌≤◌, IfOk, length};
+ghost use Rattle.std.specs.Prelude.{◌≡◌, ◌≤◌, length};
 ghost use Rattle.std.specs.Str.{is_utf8};
 ghost use Rattle.pb_base.specs.Answers.{Answers};
 ghost use Rattle.csv.specs.Records.{fields_of};
 ghost use Rattle.book_model.specs.Book.{IsBook};
 ghost use Rattle.book_text.specs.BookText.{book_of, book_of_rows, book_behind};
-ghost use Rattle.book_text.specs.PartialBook.{records_of};
-ghost use Rattle.book_text.specs.Fault.{Gives};
+ghost use Rattle.book_text.specs.PartialBook.{records_of, IsGrouped};
+ghost use Rattle.pb_base.specs.Answers.{Gives};
 ghost use Rattle.pb_base.specs.declared.answer.Fail.{Fail};
+ghost use Rattle.pb_base.specs.declared.limits.TheConstants.{MOST_TEXT_BYTES};
 ghost use Rattle.book_text.specs.Records.{book_with, no_records};
 ghost use Rattle.book_text.specs.Rows.{IsShort};
 ghost use Rattle.book_text.specs.Said.{said_pass};
@@ -19,19 +20,17 @@ use crate::partial_book::PartialBook;
 use crate::row_reader::RowReader;
 use crate::second_pass::second_pass;
 use crate::survey::first_pass;
-use book_model::{Book, BookParts, VariantGroups};
+use book_model::{Book, BookParts};
 use csv::ByteRecord;
-use pb_base::{Fail, Memory};
+use pb_base::Fail;
+use pb_base::limits::MOST_TEXT_BYTES;
 use std::alloc::Global;
-
-/// The most bytes that a text may have.
-const LONGEST_TEXT: usize = 1_048_576;
 
 /// The book of a text, in the format that docs/BOOK-FORMAT.md describes, or its first fault in the order that is given there.
 pub fn read_book(alloc: Global, text: &[u8]) -> Result<Book, Fail<BookFault>>
     ensures { Answers result (book_of text.now) }
 {
-    if text.len() > LONGEST_TEXT {
+    if text.len() > MOST_TEXT_BYTES {
         return Err(fault(0, BookKind::TooLarge));
     }
     if !is_text(text) {
@@ -59,7 +58,7 @@ fn fault(row: u32, kind: BookKind) -> Fail<BookFault>
 
 // The book of its rows: the heading, and the two passes over the rows behind it.
 fn book_of_rows(alloc: Global, rows: &mut RowReader<'_>) -> Result<Book, Fail<BookFault>>
-    requires { length rows.old ≤ 1048576 }
+    requires { length rows.old ≤ MOST_TEXT_BYTES }
     ensures { Answers result (book_of_rows rows.old) }
 {
     let mut row = ByteRecord::new(alloc);
@@ -79,27 +78,21 @@ fn book_behind(
     rows: &mut RowReader<'_>,
     row: &mut ByteRecord,
 ) -> Result<Book, Fail<BookFault>>
-    requires count { length rows.old ≤ 1048576 }
+    requires count { length rows.old ≤ MOST_TEXT_BYTES }
     requires term { heading.term.from ≤ heading.term.until }
     ensures { Answers result (book_behind heading rows.old) }
 {
     let survey = first_pass(alloc, heading.term, rows, row)?;
     let partial = second_pass(alloc, &survey)?;
-    let book = whole_book(alloc, heading, survey.names, partial)?;
-    Ok(book)
+    Ok(whole_book(heading, survey.names, partial))
 }
 
-fn whole_book(
-    alloc: Global,
-    heading: Heading,
-    names: Names,
-    partial: PartialBook,
-) -> Result<Book, Memory>
-    requires { IsBook (book_with heading names (records_of partial)) }
-    ensures { IfOk result (λ book. book ≡ book_with heading names (records_of partial)) }
+fn whole_book(heading: Heading, names: Names, partial: PartialBook) -> Book
+    requires book { IsBook (book_with heading names (records_of partial)) }
+    requires grouped { IsGrouped (length partial.positions.items) partial }
+    ensures { result ≡ book_with heading names (records_of partial) }
 {
-    let groups = VariantGroups::of(alloc, partial.positions.len(), &partial.variants)?;
-    Ok(Book::of(BookParts {
+    Book::of(BookParts {
         name: heading.name,
         first: heading.term.from,
         last: heading.term.until,
@@ -109,6 +102,6 @@ fn whole_book(
         modules: partial.modules,
         positions: partial.positions,
         variants: partial.variants,
-        groups,
-    }))
+        groups: partial.groups,
+    })
 }

@@ -1,5 +1,6 @@
 //! Reads the rows of a book's text one at a time, as `csv` reads them.
 ghost use Rattle.std.specs.Prelude.{◌≡◌, ◌≤◌, true, IfOk, length};
+ghost use Rattle.pb_base.specs.declared.limits.TheConstants.{MOST_TEXT_BYTES};
 ghost use Rattle.csv.specs.Reading.{error_kind, stops_reader};
 ghost use Rattle.csv.specs.Records.{fields_of};
 ghost use Rattle.book_text.specs.Rows.{rows_of, IsNext, IsShort};
@@ -33,7 +34,7 @@ impl<'t> Model for RowReader<'t> {
 impl<'t> RowReader<'t> {
     /// All rows of a text.
     pub fn of(alloc: Global, text: &'t [u8]) -> RowReader<'t>
-        requires { length text.now ≤ 1048576 }
+        requires { length text.now ≤ MOST_TEXT_BYTES }
         ensures rows { result ≡ rows_of text.now }
         ensures count { length result ≤ length text.now }
     {

@@ -1,33 +1,36 @@
 //! The second pass, over what the rows say: names become places, and rules are read.
-ghost use Rattle.std.specs.Prelude.{◌≡◌, ◌+◌, ◌<◌, ◌≤◌, ◌^◌, OnOk, length};
+ghost use Rattle.std.specs.Prelude.{◌≡◌, ◌+◌, ◌<◌, ◌≤◌, ◌^◌, [], IfOk, OnOk, length};
 ghost use Rattle.pb_base.specs.Answers.{Answers};
 ghost use Rattle.csv.specs.Records.{fields_of};
-ghost use Rattle.book_text.specs.PartialBook.{records_of, AreCounted, IsCounted};
-ghost use Rattle.book_text.specs.Fault.{Gives};
+ghost use Rattle.book_model.specs.Groups.{AreGroups};
+ghost use Rattle.book_text.specs.PartialBook.{records_of, IsGrouped};
+ghost use Rattle.pb_base.specs.Answers.{Gives};
+ghost use Rattle.pb_base.specs.declared.limits.TheConstants.{MOST_TEXT_BYTES};
 ghost use Rattle.book_text.specs.SecondPass.{place_of, place_if_named, rule_in, supplement_of, construct_of, position_of, variant_of, with_variant, resolved};
 ghost use Rattle.book_text.specs.Said.{said_pass};
 ghost use Rattle.book_text.specs.Records.{no_records};
 ghost use Rattle.book_text.specs.Rows.{IsShort};
 
 use crate::entry::Entry;
-use crate::fault::{BookFault, BookKind, Which};
+use crate::fault::{BookFault, BookKind, Which, at_row};
 use crate::fields::{Days, field};
-use crate::id_table::IdTable;
 use crate::names::Names;
 use crate::partial_book::PartialBook;
 use crate::survey::Survey;
-use book_model::{Construct, Module, Position, Supplement, Variant};
+use book_model::{Construct, Module, Position, Supplement, Variant, VariantGroups};
 use csv::ByteRecord;
-use pb_base::{CodeName, CodeTable, Fail, Formula, Id, Memory, Part};
+use pb_base::limits::MOST_CHOICES;
+use pb_base::{CodeName, CodeTable, Fail, Formula, Id, Part, Table};
 use rule_text::read_rule;
 use std::alloc::Global;
 
 /// The records that the rows behind the heading say.
 pub fn second_pass(alloc: Global, survey: &Survey) -> Result<PartialBook, Fail<BookFault>>
     requires count { length survey.now.entries.items ≡ length (fields_of survey.now.texts) }
-    requires few { length survey.now.entries.items ≤ 1048576 }
+    requires few { length survey.now.entries.items ≤ MOST_TEXT_BYTES }
     requires short { IsShort (fields_of survey.now.texts) }
-    ensures { Gives result records_of (said_pass survey.now.names 2 no_records survey.now.entries.items (fields_of survey.now.texts)) }
+    ensures value { Gives result records_of (said_pass survey.now.names 2 no_records survey.now.entries.items (fields_of survey.now.texts)) }
+    ensures grouped { IfOk result (IsGrouped (length survey.now.names.positions)) }
 {
     let mut book = PartialBook::new(alloc, &survey.names)?;
     resolve_all(
@@ -51,17 +54,15 @@ fn resolve_all(
     requires count { length entries.now ≡ length (fields_of texts.now) }
     requires few { length entries.now + 2 < 2 ^ 32 }
     requires short { IsShort (fields_of texts.now) }
-    requires counted { IsCounted (length names.now.positions) book.old }
-    ensures { Gives result (λ _. records_of book.new) (said_pass names.now 2 (records_of book.old) entries.now (fields_of texts.now)) }
+    requires none { book.old.variants.items ≡ [] }
+    requires grouped { IsGrouped (length names.now.positions) book.old }
+    ensures value { Leaves result (records_of book.new) (said_pass names.now 2 (records_of book.old) entries.now (fields_of texts.now)) }
+    ensures grouped { OnOk result (IsGrouped (length names.now.positions) book.new) }
 {
     for (k, entry) in entries.iter().enumerate() {
         match resolve(alloc, book, names, entry, field(texts, k)) {
             Ok(()) => {}
-            Err(Fail::Refused(kind)) => {
-                let row = k as u32 + 2;
-                return Err(Fail::Refused(BookFault { row, kind }));
-            }
-            Err(Fail::Memory) => return Err(Fail::Memory),
+            Err(fault) => return Err(at_row(k as u32 + 2, fault)),
         }
     }
     Ok(())
@@ -76,9 +77,11 @@ fn resolve(
     text: &[u8],
 ) -> Result<(), Fail<BookKind>>
     requires short { length text.now < 2 ^ 32 }
-    requires counted { IsCounted (length names.now.positions) book.old }
-    ensures value { Gives result (λ _. records_of book.new) (resolved names.now (records_of book.old) entry.now text.now) }
-    ensures counted { OnOk result (IsCounted (length names.now.positions) book.new) }
+    requires few { length book.old.variants.items < 2 ^ 32 }
+    requires grouped { IsGrouped (length names.now.positions) book.old }
+    ensures value { Leaves result (records_of book.new) (resolved names.now (records_of book.old) entry.now text.now) }
+    ensures grouped { OnOk result (IsGrouped (length names.now.positions) book.new) }
+    ensures more { OnOk result (length book.new.variants.items ≤ length book.old.variants.items + 1) }
 {
     match entry {
         Entry::Code { .. } => Ok(()),
@@ -119,50 +122,32 @@ fn resolve(
             days,
         } => {
             let record = variant_of(alloc, names, *id, position, *part, *quantity, *days, text)?;
-            add_variant(&mut book.variants, &mut book.choices, record)
+            add_variant(&mut book.variants, &mut book.groups, record)
         }
-    }
-}
-
-fn place_of_code(codes: &CodeTable, name: &CodeName) -> Result<u32, Fail<BookKind>>
-    ensures { Answers result (place_of codes.now name.now) }
-{
-    match codes.place_of(name) {
-        Some(place) => Ok(place),
-        None => Err(Fail::Refused(BookKind::UnknownName)),
-    }
-}
-
-fn place_of_id(ids: &IdTable, id: &Id) -> Result<u32, Fail<BookKind>>
-    ensures { Answers result (place_of ids.now id.now) }
-{
-    match ids.place_of(id) {
-        Some(place) => Ok(place),
-        None => Err(Fail::Refused(BookKind::UnknownName)),
     }
 }
 
 fn place_if_coded(codes: &CodeTable, name: &Option<CodeName>) -> Result<Option<u32>, Fail<BookKind>>
     ensures { Answers result (place_if_named codes.now name.now) }
 {
-    match name {
-        None => Ok(None),
-        Some(name) => {
-            let place = place_of_code(codes, name)?;
-            Ok(Some(place))
-        }
+    let Some(name) = name else {
+        return Ok(None);
+    };
+    match codes.place_of(name) {
+        Some(place) => Ok(Some(place)),
+        None => Err(Fail::Refused(BookKind::UnknownName)),
     }
 }
 
-fn place_if_named(ids: &IdTable, id: &Option<Id>) -> Result<Option<u32>, Fail<BookKind>>
+fn place_if_named(ids: &Table<Id>, id: &Option<Id>) -> Result<Option<u32>, Fail<BookKind>>
     ensures { Answers result (place_if_named ids.now id.now) }
 {
-    match id {
-        None => Ok(None),
-        Some(id) => {
-            let place = place_of_id(ids, id)?;
-            Ok(Some(place))
-        }
+    let Some(id) = id else {
+        return Ok(None);
+    };
+    match ids.place_of(id) {
+        Some(place) => Ok(Some(place)),
+        None => Err(Fail::Refused(BookKind::UnknownName)),
     }
 }
 
@@ -172,8 +157,7 @@ fn rule_in(alloc: Global, codes: &CodeTable, text: &[u8]) -> Result<Formula, Fai
 {
     match read_rule(alloc, text, codes) {
         Ok(rule) => Ok(rule),
-        Err(Fail::Refused(fault)) => Err(Fail::Refused(BookKind::BadRule(fault))),
-        Err(Fail::Memory) => Err(Fail::Memory),
+        Err(fault) => Err(fault.map(|fault| BookKind::BadRule(fault))),
     }
 }
 
@@ -189,7 +173,9 @@ fn supplement_of(
     requires { length text.now < 2 ^ 32 }
     ensures { Answers result (supplement_of codes.now id rank code.now days text.now) }
 {
-    let code = place_of_code(codes, code)?;
+    let Some(code) = codes.place_of(code) else {
+        return Err(Fail::Refused(BookKind::UnknownName));
+    };
     let rule = rule_in(alloc, codes, text)?;
     Ok(Supplement {
         id,
@@ -224,7 +210,7 @@ fn construct_of(
 }
 
 fn position_of(
-    modules: &IdTable,
+    modules: &Table<Id>,
     id: Id,
     group: &Option<Id>,
     mandatory: bool,
@@ -255,7 +241,9 @@ fn variant_of(
     requires { length text.now < 2 ^ 32 }
     ensures { Answers result (variant_of names.now id position.now part quantity days text.now) }
 {
-    let position = place_of_id(&names.positions, position)?;
+    let Some(position) = names.positions.place_of(position) else {
+        return Err(Fail::Refused(BookKind::UnknownName));
+    };
     let rule = rule_in(alloc, &names.codes, text)?;
     Ok(Variant {
         id,
@@ -268,22 +256,22 @@ fn variant_of(
     })
 }
 
-// Adds a variant and counts it at its position.
+// Adds a variant, and its place to those of its position.
 fn add_variant(
     variants: &mut Vec<Variant>,
-    choices: &mut [u32],
+    groups: &mut VariantGroups,
     variant: Variant,
 ) -> Result<(), Fail<BookKind>>
-    requires within { variant.position < length choices.old }
-    requires counted { AreCounted choices.old variants.old.items }
-    ensures value { Gives result (λ _. variants.new.items) (with_variant variants.old.items variant) }
-    ensures counted { OnOk result (AreCounted choices.new variants.new.items) }
+    requires within { variant.position < length groups.old }
+    requires few { length variants.old.items < 2 ^ 32 }
+    requires grouped { AreGroups (length groups.old) variants.old.items groups.old }
+    ensures value { Leaves result variants.new.items (with_variant variants.old.items variant) }
+    ensures grouped { OnOk result (AreGroups (length groups.old) variants.new.items groups.new) }
 {
-    let place = variant.position as usize;
-    if choices[place] >= 200 {
+    if groups.of_position(variant.position).len() >= MOST_CHOICES {
         return Err(Fail::Refused(BookKind::Limit(Which::Choices)));
     }
+    groups.add(variant.position, variants.len() as u32)?;
     variants.push(variant)?;
-    choices[place] += 1;
     Ok(())
 }

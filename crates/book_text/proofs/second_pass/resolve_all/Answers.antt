@@ -22,7 +22,8 @@ loop-k-preserved c =
           sym (said-more c.args.names.now c.loop-k.k (records_of c.loop-k.book) c.args.entries.now (fields_of c.args.texts.now) (records_of c.resolve.new.book) c.index-entries-k.result
           c.loop-k-test.true in_texts c.index-entries-k.is next)
           ∙ c.loop-k.invariant.rest;
-      counted = c.in-Ok.ensures.counted;
+      few = omega (arith, c.in-Ok.ensures.more, c.loop-k.invariant.few);
+      grouped = c.in-Ok.ensures.grouped;
     }
 
 pub returns : goal.returns
