@@ -1,5 +1,6 @@
-mod GroupLemmas
+pub mod GroupLemmas
 mod DayOrder
 mod Runs
 mod SliceCases
 pub mod SliceLaws
+pub mod DaysAlike
