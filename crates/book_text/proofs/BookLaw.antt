@@ -117,6 +117,12 @@ passes-book heading rows names records ordered first second =
     whole-book heading names records ordered (first_pass-fits heading.term rows names first)
     (second_pass-fits heading.term names rows records second) (passes-named heading.term names rows records first second)
 
+-- it has as many positions as their names are
+pub passes-positions : (term : Days) (rows : List Row) (names : Names) (records : Records)
+    → first_pass term rows ≡ Ok names → second_pass term names rows ≡ Ok records → length names.positions ≡ length records.positions
+passes-positions term rows names records first second =
+    sym (as-many (λ (p : Position). p.id) records.positions names.positions (passes-named term names rows records first second).positions)
+
 -- what the rows of a text read as, if they have no fault, is a book
 pub rows-book : (rows : List Row) (b : Contents) → book_of_rows rows ≡ Ok b → IsBook b
 rows-book [] b h = cc

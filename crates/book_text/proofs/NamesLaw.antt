@@ -118,7 +118,7 @@ no_names-fit : NamesFit no_names
 unfolding IsDistinct
 no_names-fit =
     let none : (limit : ℕ) → ListFits limit [] = λ limit. record { within = omega arith; distinct = tt } in
-    record { codes = none MOST_CODES; rules = record { supplements_within = omega arith; constructs_within = omega arith; distinct = tt }; modules = none MOST_MODULES; positions = none MOST_POSITIONS; variants = none MOST_CODES0 }
+    record { codes = none MOST_CODES; rules = record { supplements_within = omega arith; constructs_within = omega arith; distinct = tt }; modules = none MOST_MODULES; positions = none MOST_POSITIONS; variants = none MOST_VARIANTS }
 
 pub first_pass-fits : (term : Days) (rows : List Row) (names : Names) → first_pass term rows ≡ Ok names → NamesFit names
 first_pass-fits term rows names h =

@@ -1,9 +1,7 @@
 //! Why a text is no book.
 ghost use Rattle.std.specs.Prelude.{◌≡◌};
-ghost use Rattle.pb_base.specs.Answers.{Changes};
 ghost use Rattle.book_text.specs.Fault.{kind_number};
 
-use pb_base::Fail;
 use rule_text::RuleFault;
 
 /// The first fault of a book's text.
@@ -79,11 +77,4 @@ impl BookKind {
             BookKind::Limit(_) => 13,
         }
     }
-}
-
-/// The same refusal at a row.
-pub fn at_row(row: u32, fault: Fail<BookKind>) -> Fail<BookFault>
-    ensures { Changes fault (λ kind refusal. refusal ≡ record { row = row; kind = kind }) result }
-{
-    fault.map(|kind| BookFault { row, kind })
 }

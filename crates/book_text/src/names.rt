@@ -1,6 +1,7 @@
 //! The names that the rows of a text give, each told apart from those before it.
 ghost use Rattle.std.specs.Prelude.{◌≡◌, ◌+◌, ◌<◌, ◌^◌, is_some, if◌then◌else◌};
 ghost use Rattle.pb_base.specs.Answers.{Leaves};
+ghost use Rattle.pb_base.specs.Names.{place_in};
 ghost use Rattle.pb_base.specs.declared.limits.TheConstants.{MOST_CODES};
 ghost use Rattle.book_text.specs.Names.{no_names, added, entered};
 
@@ -44,22 +45,37 @@ impl Names {
         match entry {
             Entry::Code { name } => add_code(&mut self.codes, *name),
             Entry::Supplement { id, .. } => {
-                if self.constructs.place_of(id).is_some() {
+                if is_taken(&self.constructs, id) {
                     return Err(Fail::Refused(BookKind::Duplicate));
                 }
-                add_id(&mut self.supplements, *id, MOST_SUPPLEMENTS, Which::Supplements)
+                add_id(
+                    &mut self.supplements,
+                    *id,
+                    MOST_SUPPLEMENTS,
+                    Which::Supplements,
+                )
             }
             Entry::Construct { id, .. } => {
-                if self.supplements.place_of(id).is_some() {
+                if is_taken(&self.supplements, id) {
                     return Err(Fail::Refused(BookKind::Duplicate));
                 }
-                add_id(&mut self.constructs, *id, MOST_CONSTRUCTS, Which::Constructs)
+                add_id(
+                    &mut self.constructs,
+                    *id,
+                    MOST_CONSTRUCTS,
+                    Which::Constructs,
+                )
             }
             Entry::Module { id } => add_id(&mut self.modules, *id, MOST_MODULES, Which::Modules),
             Entry::Position { id, .. } => {
                 add_id(&mut self.positions, *id, MOST_POSITIONS, Which::Positions)
             }
-            Entry::Variant { id, .. } => add_id(&mut self.variants, *id, MOST_VARIANTS, Which::Variants),
+            Entry::Variant { id, .. } => add_id(
+                &mut self.variants,
+                *id,
+                MOST_VARIANTS,
+                Which::Variants,
+            ),
         }
     }
 }
@@ -69,7 +85,7 @@ fn add_code(codes: &mut CodeTable, name: CodeName) -> Result<(), Fail<BookKind>>
     ensures { Leaves result codes.new (added MOST_CODES Which.Codes codes.old name) }
 {
     if codes.len() as usize >= MOST_CODES {
-        return Err(Fail::Refused(full(codes.place_of(&name), Which::Codes)));
+        return Err(Fail::Refused(full(codes.place_of(&name).is_some(), Which::Codes)));
     }
     match codes.add(name) {
         Ok(_) => Ok(()),
@@ -82,7 +98,7 @@ fn add_id(ids: &mut Table<Id>, id: Id, limit: usize, which: Which) -> Result<(),
     ensures { Leaves result ids.new (added limit which ids.old id) }
 {
     if ids.len() as usize >= limit {
-        return Err(Fail::Refused(full(ids.place_of(&id), which)));
+        return Err(Fail::Refused(full(is_taken(ids, &id), which)));
     }
     match ids.add(id) {
         Ok(_) => Ok(()),
@@ -90,12 +106,19 @@ fn add_id(ids: &mut Table<Id>, id: Id, limit: usize, which: Which) -> Result<(),
     }
 }
 
-// The fault of a name where there is no room for another, by the place that it has already.
-fn full(place: Option<u32>, which: Which) -> BookKind
-    ensures { result ≡ (if is_some place then BookKind.Duplicate else BookKind.Limit which) }
+fn is_taken(ids: &Table<Id>, id: &Id) -> bool
+    ensures { result ≡ is_some (place_in ids.now id.now) }
 {
-    match place {
-        Some(_) => BookKind::Duplicate,
-        None => BookKind::Limit(which),
+    ids.place_of(id).is_some()
+}
+
+// The fault of a name where there is no room for another, by whether it is there already.
+fn full(has: bool, which: Which) -> BookKind
+    ensures { result ≡ (if has then BookKind.Duplicate else BookKind.Limit which) }
+{
+    if has {
+        BookKind::Duplicate
+    } else {
+        BookKind::Limit(which)
     }
 }

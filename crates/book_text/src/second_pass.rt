@@ -1,10 +1,9 @@
 //! The second pass, over what the rows say: names become places, and rules are read.
 ghost use Rattle.std.specs.Prelude.{◌≡◌, ◌+◌, ◌<◌, ◌≤◌, ◌^◌, [], IfOk, OnOk, length};
-ghost use Rattle.pb_base.specs.Answers.{Answers};
+ghost use Rattle.pb_base.specs.Answers.{Answers, Gives, Leaves};
 ghost use Rattle.csv.specs.Records.{fields_of};
 ghost use Rattle.book_model.specs.Groups.{AreGroups};
 ghost use Rattle.book_text.specs.PartialBook.{records_of, IsGrouped};
-ghost use Rattle.pb_base.specs.Answers.{Gives};
 ghost use Rattle.pb_base.specs.declared.limits.TheConstants.{MOST_TEXT_BYTES};
 ghost use Rattle.book_text.specs.SecondPass.{place_of, place_if_named, rule_in, supplement_of, construct_of, position_of, variant_of, with_variant, resolved};
 ghost use Rattle.book_text.specs.Said.{said_pass};
@@ -12,7 +11,7 @@ ghost use Rattle.book_text.specs.Records.{no_records};
 ghost use Rattle.book_text.specs.Rows.{IsShort};
 
 use crate::entry::Entry;
-use crate::fault::{BookFault, BookKind, Which, at_row};
+use crate::fault::{BookFault, BookKind, Which};
 use crate::fields::{Days, field};
 use crate::names::Names;
 use crate::partial_book::PartialBook;
@@ -62,7 +61,11 @@ fn resolve_all(
     for (k, entry) in entries.iter().enumerate() {
         match resolve(alloc, book, names, entry, field(texts, k)) {
             Ok(()) => {}
-            Err(fault) => return Err(at_row(k as u32 + 2, fault)),
+            Err(Fail::Refused(kind)) => {
+                let row = k as u32 + 2;
+                return Err(Fail::Refused(BookFault { row, kind }));
+            }
+            Err(Fail::Memory) => return Err(Fail::Memory),
         }
     }
     Ok(())

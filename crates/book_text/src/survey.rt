@@ -3,14 +3,14 @@ ghost use Rattle.std.specs.Prelude.{◌≡◌, ◌≤◌, [], Ok, IfOk, OnOk, le
 ghost use Rattle.csv.specs.Records.{fields_of, partial_of};
 ghost use Rattle.pb_base.specs.declared.limits.TheConstants.{MOST_TEXT_BYTES};
 ghost use Rattle.book_text.specs.Entry.{entry_of};
-ghost use Rattle.pb_base.specs.Answers.{Gives};
+ghost use Rattle.pb_base.specs.Answers.{Gives, Leaves};
 ghost use Rattle.book_text.specs.FirstPass.{entered_row, first_pass};
 ghost use Rattle.book_text.specs.Pass.{pass};
 ghost use Rattle.book_text.specs.Rows.{IsShort};
 ghost use Rattle.book_text.specs.Said.{AreSaid};
 
 use crate::entry::{Entry, entry_of, rule_text_of};
-use crate::fault::{BookFault, BookKind, at_row};
+use crate::fault::{BookFault, BookKind};
 use crate::fields::Days;
 use crate::names::Names;
 use crate::row_reader::RowReader;
@@ -71,7 +71,11 @@ fn enter_rows(
                 texts.push_field(rule_text_of(&entry, row))?;
                 entries.push(entry)?;
             }
-            Err(fault) => return Err(at_row(entries.len() as u32 + 2, fault)),
+            Err(Fail::Refused(kind)) => {
+                let number = entries.len() as u32 + 2;
+                return Err(Fail::Refused(BookFault { row: number, kind }));
+            }
+            Err(Fail::Memory) => return Err(Fail::Memory),
         }
     }
     Ok(())

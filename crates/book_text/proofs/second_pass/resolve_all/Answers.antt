@@ -4,8 +4,8 @@ use Rattle.book_text.specs.PartialBook.{records_of}
 use Rattle.book_text.proofs.PassLemmas.{said-more, said-fault, said-end}
 use Rattle.book_text.proofs.second_pass.resolve_all.Goals as goal
 
-pub returns-in-Err-Refused : goal.returns-in-Err-Refused
-returns-in-Err-Refused c =
+pub returns-in-Err-Refused-clause-value : goal.returns-in-Err-Refused-clause-value
+returns-in-Err-Refused-clause-value c =
     let in_texts : c.loop-k.k < length (fields_of c.args.texts.now) = omega arith in
     let fault = rw (c.in-Err-Refused.field-0-is, c.field.ensures) at c.in-Err-Refused.ensures.value in
     rw c.in-Err-Refused.field-0-is (
@@ -26,7 +26,7 @@ loop-k-preserved c =
       grouped = c.in-Ok.ensures.grouped;
     }
 
-pub returns : goal.returns
-returns c =
+pub returns-clause-value : goal.returns-clause-value
+returns-clause-value c =
     sym c.loop-k.invariant.rest
     ∙ said-end c.args.names.now c.loop-k.k (records_of c.loop-k.book) c.args.entries.now (fields_of c.args.texts.now) c.loop-k-test.false
