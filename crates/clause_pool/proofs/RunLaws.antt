@@ -11,7 +11,7 @@ use Rattle.clause_pool.specs.declared.chain.Pair.{Pair}
 use Rattle.clause_pool.specs.declared.chain.StepFault.{StepFault}
 use Rattle.clause_pool.specs.declared.chain.StepFault.TheVariants.{NoSuchStep, NoPivot}
 use Rattle.clause_pool.proofs.ChainLaws.{chain_from-fault}
-use Rattle.clause_pool.specs.Run.{Leaves}
+use Rattle.pb_base.specs.Answers.{Leaves}
 use Rattle.pb_base.specs.declared.answer.Fail.{Fail}
 use Rattle.pb_base.specs.declared.answer.Fail.TheVariants.{Refused, Memory}
 
@@ -74,6 +74,6 @@ running_ends clauses start pairs done running m h =
     sym m.so_far ∙ ap (λ (ps : List Pair). chain_from clauses (done + 1) ps (Ok running)) (drop_all done pairs h)
 
 -- a refusal is passed on, and want of memory too
-pub leaves_refusal : (e : Fail StepFault) (made right : Result (List ℕ) StepFault) (next running : List ℕ) → ((fault : StepFault) → made ≡ Err fault → right ≡ Err fault) → Leaves {A = Unit {0}} (Err e) made next → Leaves {A = Unit {0}} (Err e) right running
+pub leaves_refusal : (e : Fail StepFault) (made right : Result (List ℕ) StepFault) (next running : List ℕ) → ((fault : StepFault) → made ≡ Err fault → right ≡ Err fault) → Leaves {U = Unit {0}} (Err e) next made → Leaves {U = Unit {0}} (Err e) running right
 leaves_refusal (Refused fault) made right next running pass h = pass fault h
 leaves_refusal Memory made right next running pass h = tt
