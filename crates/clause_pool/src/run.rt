@@ -55,9 +55,7 @@ pub(crate) fn run_chain(
     running.clear();
     running.extend_from_slice(pool.lits(start))?;
     for (k, pair) in pairs.iter().enumerate() {
-        if let Err(fault) = step(pool, k + 1, *pair, running, next) {
-            return Err(fault);
-        }
+        step(pool, k + 1, *pair, running, next)?;
         std::mem::swap(running, next);
     }
     Ok(())
