@@ -1,5 +1,3 @@
-use Rattle.std.proofs.Common.{◌≤◌, ◌<◌, length, arith}
-use Rattle.pb_base.specs.declared.limits.TheConstants.{MOST_SLICES}
 use Rattle.book_model.proofs.Runs.{too_many, few_enough}
 use Rattle.book_model.proofs.slicing.runs_within.Goals as goal
 

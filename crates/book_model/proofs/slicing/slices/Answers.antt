@@ -1,8 +1,7 @@
 -- The days that were found are the book's change days, and the slices run from one to the next.
-use Rattle.std.proofs.Common.{◌≡◌, length, ap, ◌∙◌, List, ℕ}
+use Rattle.std.proofs.Common.{◌≡◌, ap, ◌∙◌}
 use Rattle.std.specs.List.{All, flat_map}
 use Rattle.book_model.specs.Slices.{change_days, runs_from, all_slices, days_in, days_of, IsOrdered, IsSteady}
-use Rattle.book_model.specs.declared.record.Slice.{Slice}
 use Rattle.book_model.proofs.Runs.{change_days-are, of_given, answers_slices}
 use Rattle.book_model.proofs.SliceLaws.{slices_ordered, slices_partition, slices_steady}
 use Rattle.book_model.proofs.slicing.slices.Goals as goal
