@@ -4,3 +4,4 @@ mod Runs
 mod SliceCases
 pub mod SliceLaws
 pub mod DaysAlike
+mod WorkedRows
