@@ -1,7 +1,6 @@
 -- Counting the variants of each position as they come.
-use Rattle.std.proofs.Common.{◌≡◌, ◌≢◌, ℕ, suc, ◌+◌, ◌<◌, ◌==◌, Bool, true, false, nat_eq, List, [], ◌∷◌, ◌++◌, length, get_or, set, refl, sym, ap, ◌∙◌, arith, get_or-set_same, get_or-set_other, if◌then◌else◌}
-use Rattle.std.proofs.lemmas.List.{length-set}
-use Rattle.book_model.specs.Parts.{variants_from, variants_of}
+use Rattle.std.proofs.Common.{◌≡◌, ℕ, suc, ◌+◌, ◌==◌, Bool, true, false, List, [], ◌∷◌, ◌++◌, length, refl, arith, if◌then◌else◌}
+use Rattle.book_model.specs.Parts.{variants_from}
 use Rattle.book_model.specs.declared.record.Variant.{Variant}
 
 longer-by : (b : Bool) (i n : ℕ) (xs ys : List ℕ) → length xs ≡ length ys + n → length (if b then i ∷ xs else xs) ≡ length (if b then i ∷ ys else ys) + n

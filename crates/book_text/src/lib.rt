@@ -14,6 +14,3 @@ mod survey;
 
 pub use fault::{BookFault, BookKind, Which};
 pub use read::read_book;
-
-#[cfg(test)]
-mod tests;
