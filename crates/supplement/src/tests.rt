@@ -3,9 +3,9 @@ ghost use Rattle.std.specs.Prelude.{◌≡◌, ◌<◌, ◌≤◌, IfOk, All, le
 ghost use Rattle.book_model.specs.Book.{RuleFits, SupplementFits};
 
 use crate::completed::{Added, Completed};
+use crate::completion::complete_by_worklist;
+use crate::occurrences::OccurrenceLists;
 use crate::plain::complete_by_trying;
-use crate::wake_index::WakeIndex;
-use crate::waking::complete_by_waking;
 use crate::{Completer, complete_plainly};
 use book_model::{Book, BookParts, Supplement, VariantGroups, fires};
 use pb_base::{CodeSet, CodeTable, Formula, Id, Memory};
@@ -71,9 +71,9 @@ fn agreed(alloc: Global, rules: &[Supplement], ordered: u32) -> Result<Option<Co
     requires is_code { ordered < 6 }
 {
     let set = only(alloc, ordered)?;
-    let index = WakeIndex::of(alloc, 6, rules, 1)?;
+    let index = OccurrenceLists::of(alloc, 6, rules, 1)?;
     let slow = complete_by_trying(alloc, rules, 1, set.copy(alloc)?)?;
-    let fast = complete_by_waking(alloc, rules, &index, 1, set)?;
+    let fast = complete_by_worklist(alloc, rules, &index, 1, set)?;
     Ok(if are_same(&slow, &fast) {
         Some(fast)
     } else {
