@@ -1,3 +1,4 @@
+pub mod ListLaws
 pub mod Truth
 pub mod FormulaLaws
 pub mod ItemLaws
@@ -9,4 +10,6 @@ pub mod CountLaws
 pub mod SteadyLaws
 pub mod CodedLaws
 pub mod QuestionLaws
+pub mod RangeLaws
+pub mod MeetLaws
 mod SmallBook
