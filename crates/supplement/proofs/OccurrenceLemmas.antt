@@ -155,10 +155,13 @@ notes_next a b d rule at ns node e inside is one two =
   where
     next : at + 1 ≡ suc at
     next = omega arith
+
     front : take (at + 1) ns ≡ take at ns ++ node ∷ []
     front = ap (λ k. take k ns) next ∙ take-suc ns at e inside ∙ ap (λ m. take at ns ++ m ∷ []) is
+
     same : (c : ℕ) → list_any (is_code c) (take (at + 1) ns) ≡ (list_any (is_code c) (take at ns) || (is_code c node || false))
     same c = ap (list_any (is_code c)) front ∙ list_any-append (is_code c) (take at ns) (node ∷ [])
+
     passes : (c : ℕ) → list_any (is_code c) (take (at + 1) ns) ≡ true → (list_any (is_code c) (take at ns) || is_code c node) ≡ true
     passes c on = ap (λ b. list_any (is_code c) (take at ns) || b) (sym (or-false (is_code c node))) ∙ sym (same c) ∙ on
 

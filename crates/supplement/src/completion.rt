@@ -2,6 +2,7 @@
 //!
 //! Each rule that fires is in the worklist. So the first in it that fires is the rule that fires first of all, and no other needs to be tried.
 ghost use Rattle.std.specs.Prelude.{◌≡◌, ◌≢◌, ◌≤◌, ℕ, true, Some, IfOk, IfSome, length, All, Contains, slice_get};
+ghost use Rattle.pb_base.specs.declared.limits.TheConstants.{MOST_SUPPLEMENTS};
 ghost use Rattle.book_model.specs.Book.{SupplementFits};
 ghost use Rattle.book_model.specs.Good.{fires};
 ghost use Rattle.book_model.specs.declared.record.Supplement.{Supplement};
@@ -26,7 +27,7 @@ pub fn complete_by_worklist(
     mut set: CodeSet,
 ) -> Result<Completed, Memory>
     requires fit { All (SupplementFits (length set)) supplements.now }
-    requires places { length supplements.now ≤ 5000 }
+    requires places { length supplements.now ≤ MOST_SUPPLEMENTS }
     requires occurrences { AreOccurrences (length set) supplements.now day occurrences.now }
     ensures { IfOk result (λ c. c ≡ completion_by supplements.now day set) }
 {
@@ -51,7 +52,7 @@ fn firing_rules(
     set: &CodeSet,
 ) -> Result<Worklist, Memory>
     requires fit { All (SupplementFits (length set.now)) supplements.now }
-    requires places { length supplements.now ≤ 5000 }
+    requires places { length supplements.now ≤ MOST_SUPPLEMENTS }
     ensures candidates { IfOk result (AreCandidates supplements.now) }
     ensures firing { IfOk result (HoldsFiring supplements.now day set.now) }
 {

@@ -2,6 +2,7 @@
 ghost use Rattle.std.specs.Prelude.{◌≡◌, ◌<◌, ◌≤◌, ℕ, [], length, replicate, slice_get, Contains, IfOk, OnOk, IsTrue, All};
 ghost use Rattle.pb_base.specs.Rule.{codes_below};
 ghost use Rattle.pb_base.specs.Node.{is_below};
+ghost use Rattle.pb_base.specs.declared.limits.TheConstants.{MOST_SUPPLEMENTS};
 ghost use Rattle.book_model.specs.Book.{SupplementFits};
 ghost use Rattle.book_model.specs.declared.record.Supplement.{Supplement};
 ghost use Rattle.supplement.specs.declared.worklist.Candidate.{Candidate};
@@ -39,7 +40,7 @@ impl OccurrenceLists {
         day: Day,
     ) -> Result<OccurrenceLists, Memory>
         requires fit { All (SupplementFits codes) supplements.now }
-        requires places { length supplements.now ≤ 5000 }
+        requires places { length supplements.now ≤ MOST_SUPPLEMENTS }
         ensures { IfOk result (AreOccurrences codes supplements.now day) }
     {
         let mut lists = empty_lists(alloc, codes)?;
