@@ -83,12 +83,12 @@ fn next_firing(
     ensures others { IfSome result (λ f. (p : ℕ) (s : Supplement) → slice_get supplements.now p ≡ Some s → fires day set.now s ≡ true → p ≢ f.rule → Contains worklist.new (candidate_of p s)) }
 {
     while let Some(candidate) = worklist.pop() {
-        let supplement = &supplements[candidate.rule as usize];
-        if fires(supplement, day, set) {
+        let tried = &supplements[candidate.rule as usize];
+        if fires(tried, day, set) {
             return Some(Firing {
-                rank: supplement.rank,
+                rank: tried.rank,
                 rule: candidate.rule,
-                code: supplement.code,
+                code: tried.code,
             });
         }
     }
