@@ -1,6 +1,7 @@
 pub mod ListLaws
 pub mod Truth
 pub mod FormulaLaws
+pub mod NodeLaws
 pub mod ItemLaws
 pub mod GoalLaws
 pub mod SliceLaws

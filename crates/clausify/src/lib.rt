@@ -7,6 +7,7 @@ mod counting;
 mod encoder;
 mod goals;
 mod items;
+mod parts;
 mod question;
 mod usage;
 
