@@ -1,3 +1,2 @@
-mod OrderedSets
-mod NameFaults
-mod SmallBook
+mod OrderFaults
+mod WorkedRows

@@ -1,7 +1,7 @@
 //! What is wrong with an order before it is judged.
-ghost use Rattle.std.specs.Prelude.{◌≡◌, ◌<◌, ◌^◌};
+ghost use Rattle.std.specs.Prelude.{◌≡◌, ◌+◌, ◌<◌, ◌^◌};
 ghost use Rattle.pb_base.specs.NamedSet.{place_of_fault};
-ghost use Rattle.parts_usage.specs.Fault.{fault_number, order_fault};
+ghost use Rattle.parts_usage.specs.Fault.{fault_number, fault_of_name};
 
 use pb_base::NameFault;
 
@@ -27,15 +27,15 @@ impl OrderFault {
             OrderFault::RepeatedCode(_) => 3,
         }
     }
-}
 
-// The fault of a name, with its place counted from 1.
-pub(crate) fn order_fault(fault: NameFault) -> OrderFault
-    requires { place_of_fault fault + 1 < 2 ^ 64 }
-    ensures { result ≡ order_fault fault }
-{
-    match fault {
-        NameFault::Unknown(place) => OrderFault::UnknownCode(place as u64 + 1),
-        NameFault::Repeated(place) => OrderFault::RepeatedCode(place as u64 + 1),
+    // The fault of the name at a place that is counted from 0.
+    pub(crate) fn of_name(fault: NameFault) -> OrderFault
+        requires { place_of_fault fault + 1 < 2 ^ 64 }
+        ensures { result ≡ fault_of_name fault }
+    {
+        match fault {
+            NameFault::Unknown(place) => OrderFault::UnknownCode(place as u64 + 1),
+            NameFault::Repeated(place) => OrderFault::RepeatedCode(place as u64 + 1),
+        }
     }
 }

@@ -1,8 +1,11 @@
 //! The set of the codes that an order names.
+ghost use Rattle.std.specs.Prelude.{Ok};
 ghost use Rattle.pb_base.specs.Answers.{Answers};
-ghost use Rattle.parts_usage.specs.Fault.{ordered_set};
+ghost use Rattle.pb_base.specs.NamedSet.{named};
+ghost use Rattle.pb_base.specs.Results.{unless};
+ghost use Rattle.parts_usage.specs.Fault.{order_fault};
 
-use crate::fault::{OrderFault, order_fault};
+use crate::fault::OrderFault;
 use book_model::{Book, active};
 use pb_base::{CodeName, CodeSet, Day, Fail};
 use std::alloc::Global;
@@ -14,7 +17,7 @@ pub fn ordered_set(
     day: Day,
     names: &[CodeName],
 ) -> Result<CodeSet, Fail<OrderFault>>
-    ensures { Answers result (ordered_set book.now day names.now) }
+    ensures { Answers result (unless (order_fault book.now day names.now) (Ok (named book.now.codes names.now))) }
 {
     let term = book.term();
     if !active(term.first, term.last, day) {
@@ -22,6 +25,6 @@ pub fn ordered_set(
     }
     match CodeSet::of_names(alloc, book.codes(), names) {
         Ok(set) => Ok(set),
-        Err(fail) => Err(fail.map(order_fault)),
+        Err(fail) => Err(fail.map(OrderFault::of_name)),
     }
 }
