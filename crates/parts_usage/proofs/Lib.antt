@@ -1,2 +1,1 @@
-mod OrderFaults
 mod WorkedRows

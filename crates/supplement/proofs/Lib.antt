@@ -4,3 +4,4 @@ mod Steps
 mod OccurrenceLemmas
 mod WorklistLemmas
 mod Cases
+mod WorkedRows

@@ -16,14 +16,14 @@ pub fires-requires : goal.fires-requires
 fires-requires c =
     let taken = candidate_taken c.args.supplements.now c.loop-candidate.worklist c.pop.new.self c.in-Some.candidate c.in-Some.ensures.moved c.loop-candidate.invariant.0 in
     let within = slice_get_within c.args.supplements.now c.in-Some.candidate.rule taken.0 taken.1 in
-    subst (λ (r : Supplement). SupplementFits (length c.args.set.now) r) (sym c.index-tried.is) (c.requires.fit c.in-Some.candidate.rule c.index-tried.result within)
+    subst (λ (r : Supplement). SupplementFits (length c.args.set.now) r) (sym c.index-supplements-candidate.is) (c.requires.fit c.in-Some.candidate.rule c.index-supplements-candidate.result within)
 
 pub returns-then-fires-clause-value : goal.returns-then-fires-clause-value
 returns-then-fires-clause-value c =
     let rules = c.args.supplements.now in
     let taken = candidate_taken rules c.loop-candidate.worklist c.pop.new.self c.in-Some.candidate c.in-Some.ensures.moved c.loop-candidate.invariant.0 in
-    let there = slice_get_read rules (length rules) c.in-Some.candidate.rule c.index-tried.result refl (slice_get_within rules c.in-Some.candidate.rule taken.0 taken.1) c.index-tried.is in
-    next_is_first rules c.args.day c.args.set.now c.loop-candidate.worklist c.pop.new.self c.in-Some.candidate c.index-tried.result there (sym c.fires.ensures ∙ c.if-fires.true)
+    let there = slice_get_read rules (length rules) c.in-Some.candidate.rule c.index-supplements-candidate.result refl (slice_get_within rules c.in-Some.candidate.rule taken.0 taken.1) c.index-supplements-candidate.is in
+    next_is_first rules c.args.day c.args.set.now c.loop-candidate.worklist c.pop.new.self c.in-Some.candidate c.index-supplements-candidate.result there (sym c.fires.ensures ∙ c.if-fires.true)
     c.in-Some.ensures.moved c.in-Some.ensures.first c.loop-candidate.invariant.0 c.loop-candidate.invariant.1
 
 pub returns-then-fires-clause-candidates : goal.returns-then-fires-clause-candidates
@@ -39,9 +39,9 @@ pub loop-candidate-preserved : goal.loop-candidate-preserved
 loop-candidate-preserved c =
     let rules = c.args.supplements.now in
     let taken = candidate_taken rules c.loop-candidate.worklist c.pop.new.self c.in-Some.candidate c.in-Some.ensures.moved c.loop-candidate.invariant.0 in
-    let there = slice_get_read rules (length rules) c.in-Some.candidate.rule c.index-tried.result refl (slice_get_within rules c.in-Some.candidate.rule taken.0 taken.1) c.index-tried.is in (
+    let there = slice_get_read rules (length rules) c.in-Some.candidate.rule c.index-supplements-candidate.result refl (slice_get_within rules c.in-Some.candidate.rule taken.0 taken.1) c.index-supplements-candidate.is in (
       candidates_left rules c.loop-candidate.worklist c.pop.new.self c.in-Some.candidate c.in-Some.ensures.moved c.loop-candidate.invariant.0,
-      still_held rules c.args.day c.args.set.now c.loop-candidate.worklist c.pop.new.self c.in-Some.candidate c.index-tried.result there (sym c.fires.ensures ∙ c.if-fires.false) c.in-Some.ensures.moved c.loop-candidate.invariant.1,
+      still_held rules c.args.day c.args.set.now c.loop-candidate.worklist c.pop.new.self c.in-Some.candidate c.index-supplements-candidate.result there (sym c.fires.ensures ∙ c.if-fires.false) c.in-Some.ensures.moved c.loop-candidate.invariant.1,
     )
 
 pub returns-clause-value : goal.returns-clause-value
