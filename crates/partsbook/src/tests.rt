@@ -1,11 +1,16 @@
-//! The answers of `run`, as a person would check them by hand, and the texts of faults.
+//! The answers of `run`, as a person would check them by hand, the texts of faults, and what the crates below answer at
+//! their limits.
 
+mod books;
 mod certificates;
+mod clauses;
 mod fault_texts;
+mod orders;
 mod outside;
 
 use crate::log::RunLog;
 use crate::run::run;
+use book_model::Book;
 use book_text::read_book;
 use pb_outside::{MemoryFiles, MemorySink, MemorySource, NamedFile};
 use std::alloc::Global;
@@ -92,8 +97,13 @@ fn orders(
     Ok(())
 }
 
-/// What threads may share and hand to one another.
-pub fn is_shared<T: Send + Sync>(_value: &T) {}
+/// The book of a text, which is one.
+fn book_of(alloc: Global, text: &[u8]) -> Result<Book, Fail> {
+    let Ok(book) = read_book(alloc, text) else {
+        return Err(Fail::from("no book"));
+    };
+    Ok(book)
+}
 
 #[test]
 fn orders_against_the_engine_book(rt: HostRuntime) -> Result<(), Fail> {
@@ -165,11 +175,6 @@ fn orders_against_the_engine_book(rt: HostRuntime) -> Result<(), Fail> {
             ),
         ],
     )?;
-    let book = joined(alloc, &ENGINE, "\n")?;
-    let Ok(book) = read_book(alloc, &book) else {
-        return Err(Fail::from("no book"));
-    };
-    is_shared(&book);
     Ok(())
 }
 
