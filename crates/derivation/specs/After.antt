@@ -1,0 +1,96 @@
+-- What each line of a certificate does where it may stand: the stage behind it, or what is wrong.
+--     after b slices stage line
+use Rattle.std.specs.Prelude.{ℕ, ◌+◌, Bool, ◌&&◌, ◌==◌, nat_lt, false, List, [], ◌∷◌, ◌++◌, Option, None, Some, Result, Ok, Err, length, slice_get, slice_set, if◌then◌else◌}
+use Rattle.std.specs.Option.{option_and_then, option_map_or}
+use Rattle.std.specs.List.{list_all}
+use Rattle.pb_base.specs.Names.{same_name, place_in}
+use Rattle.pb_base.specs.Sets.{has, none_of}
+use Rattle.book_model.specs.Contents.{Contents}
+use Rattle.book_model.specs.Good.{is_good}
+use Rattle.book_model.specs.declared.record.Slice.{Slice}
+use Rattle.clause_pool.specs.Literal.{complement}
+use Rattle.clause_pool.specs.Chain.{chain}
+use Rattle.clause_pool.specs.declared.chain.StepFault.{StepFault}
+use Rattle.clause_pool.specs.declared.chain.StepFault.TheVariants.{NoSuchStep as NoClause, NoPivot as NoHalf}
+use Rattle.clausify.specs.Coded.{slice_clauses, slice_asked}
+use Rattle.derivation.specs.declared.fault.CertKind.{CertKind}
+use Rattle.derivation.specs.declared.fault.CertKind.TheVariants.{Syntax, WrongBook, NoSuchStep, NoPivot, NotClosed, BadSet}
+use Rattle.derivation.specs.declared.closing.ToClose.{ToClose}
+use Rattle.derivation.specs.CertLine.{CertLine, head_line, book_line, slice_line, set_line, step_line, close_line, end_line}
+use Rattle.derivation.specs.Results.{and_then, unless}
+use Rattle.derivation.specs.Stage.{SliceSoFar, Stage, at_head, at_book, at_slices, at_set, within, at_end, to_close}
+
+-- no question may be left where a slice ends
+abbrev pub first_left : List ToClose → Option CertKind
+first_left [] = None
+first_left (w ∷ ws) = Some (NotClosed w.question)
+
+-- the book line names the book and the number of its slices
+abbrev pub after_book : Contents → ℕ → List ℕ → ℕ → Result Stage CertKind
+after_book b slices name count = if same_name name b.name && count == slices then Ok at_slices else Err WrongBook
+
+-- a slice line has the number of the next slice
+abbrev pub after_slice : ℕ → ℕ → List ToClose → ℕ → Result Stage CertKind
+after_slice slices next left number =
+    if number == next && nat_lt next slices then unless (first_left left) (Ok (at_set next)) else Err Syntax
+
+-- the end line stands behind the last slice
+abbrev pub after_end : ℕ → ℕ → List ToClose → Result Stage CertKind
+after_end slices next left = if next == slices then unless (first_left left) (Ok at_end) else Err Syntax
+
+-- the set of some names: each is a code, and none is in the set already
+abbrev pub with_code : List (List ℕ) → List Bool → List ℕ → Option (List Bool)
+with_code codes x name = option_and_then (λ place. if has x place then None else Some (slice_set x place Bool.true)) (place_in codes name)
+
+abbrev pub set_of : List (List ℕ) → List Bool → List (List ℕ) → Option (List Bool)
+set_of codes x [] = Some x
+set_of codes x (name ∷ names) = option_and_then (λ y. set_of codes y names) (with_code codes x name)
+
+abbrev pub is_good_set : Contents → ℕ → List (List ℕ) → Bool
+is_good_set b day names = option_map_or (is_good b day) (set_of b.codes (none_of (length b.codes)) names) false
+
+abbrev pub opened : Contents → ℕ → ℕ → SliceSoFar
+opened b day number = record { slice = number; clauses = slice_clauses b day; left = to_close 0 (slice_asked b day) }
+
+-- a set line names a good set
+abbrev pub after_set : Contents → ℕ → Option Slice → List (List ℕ) → Result Stage CertKind
+after_set b number None names = Err Syntax
+after_set b number (Some s) names = if is_good_set b s.first names then Ok (within (opened b s.first number)) else Err (BadSet number)
+
+-- a step line derives the next clause
+abbrev pub step_kind : StepFault → CertKind
+step_kind (NoClause place) = NoSuchStep
+step_kind (NoHalf place) = NoPivot
+
+abbrev pub with_clause : SliceSoFar → Result (List ℕ) StepFault → Result Stage CertKind
+with_clause s (Ok clause) = Ok (within (record s { clauses = s.clauses ++ clause ∷ [] }))
+with_clause s (Err fault) = Err (step_kind fault)
+
+-- a close line names the next question and a clause that has no literal but the complement of its goal
+abbrev pub closes : ℕ → List ℕ → Bool
+closes goal clause = list_all (λ l. l == complement goal) clause
+
+abbrev pub closed_by : SliceSoFar → ToClose → List ToClose → Option (List ℕ) → Result Stage CertKind
+closed_by s next left None = Err NoSuchStep
+closed_by s next left (Some clause) = if closes next.goal clause then Ok (within (record s { left = left })) else Err (NotClosed next.question)
+
+abbrev pub after_close : SliceSoFar → List ToClose → ℕ → ℕ → Result Stage CertKind
+after_close s [] question clause = Err Syntax
+after_close s (next ∷ left) question clause =
+    if question == next.question then closed_by s next left (slice_get s.clauses clause) else Err (NotClosed next.question)
+
+-- a line of a slice, or the line behind it
+abbrev pub after_within : ℕ → SliceSoFar → CertLine → Result Stage CertKind
+after_within slices s (step_line start pairs) = with_clause s (chain s.clauses start pairs)
+after_within slices s (close_line question clause) = after_close s s.left question clause
+after_within slices s (slice_line number) = after_slice slices (s.slice + 1) s.left number
+after_within slices s end_line = after_end slices (s.slice + 1) s.left
+after_within slices s _ = Err Syntax
+
+abbrev pub after : Contents → List Slice → Stage → CertLine → Result Stage CertKind
+after b slices at_head head_line = Ok at_book
+after b slices at_book (book_line name count) = after_book b (length slices) name count
+after b slices at_slices (slice_line number) = after_slice (length slices) 0 [] number
+after b slices (at_set number) (set_line names) = after_set b number (slice_get slices number) names
+after b slices (within s) line = after_within (length slices) s line
+after b slices _ _ = Err Syntax
