@@ -4,13 +4,13 @@ use Rattle.std.specs.List.{AllByRecursion, slice_get}
 use Rattle.std.proofs.lemmas.Bool.{cases_Bool, false≢true, or_left, or_right, and_from, cond-true}
 use Rattle.std.proofs.lemmas.List.{take_more, take_all}
 use Rattle.clause_pool.specs.Literal.{complement, is_true}
-use Rattle.clause_pool.specs.Clause.{has, without, IsRising, clause_true, Sat, Follows}
+use Rattle.clause_pool.specs.Clause.{has, without, IsRising, clause_true, Sat, Follows, IsBelow, AreBelow, KeepsBounds}
 use Rattle.clause_pool.specs.Chain.{resolved, step_on, chain_from, started, chain}
 use Rattle.clause_pool.specs.Derivation.{Derivation, IsDerived, AllFollow}
 use Rattle.clause_pool.specs.declared.chain.Pair.{Pair}
 use Rattle.clause_pool.specs.declared.chain.StepFault.{StepFault}
 use Rattle.clause_pool.proofs.LiteralLaws.{is_true-complement}
-use Rattle.clause_pool.proofs.ClauseLaws.{IsRising-clause_of, clause_true-clause_of, clause_true-append, clause_true-subset, has-without_other, has-append, has-clause_of, all_push}
+use Rattle.clause_pool.proofs.ClauseLaws.{IsRising-clause_of, clause_true-clause_of, clause_true-append, clause_true-subset, has-without_other, has-append, has-clause_of, all_push, all_found, IsBelow-without, IsBelow-append, IsBelow-clause_of}
 
 -- a fault stays the answer of the chain
 pub chain_from-fault : (clauses : List (List ℕ)) (place : ℕ) (pairs : List Pair) (fault : StepFault) → chain_from clauses place pairs (Err fault) ≡ Err fault
@@ -40,37 +40,45 @@ clause_true-resolved a running lit other hr ho =
           (without_false a lit running f hr)
     ]
 
--- a satisfied list makes each of its clauses true
-pub Sat-get : (clauses : List (List ℕ)) (a : ℕ → Bool) (k : ℕ) (c : List ℕ) → Sat clauses a → slice_get clauses k ≡ Some c → clause_true a c ≡ true
-Sat-get [] a k c s h = let none : None ≡ Some c = h in cc
-Sat-get (d ∷ ds) a zero c s h = let same : d ≡ c = cc in subst (λ (z : List ℕ). clause_true a z ≡ true) same s.0
-Sat-get (d ∷ ds) a (suc k) c s h = Sat-get ds a k c s.1 h
+-- a resolvent has no literal that is not below the bound of both clauses
+pub IsBelow-resolved : (bound : ℕ) (running : List ℕ) (lit : ℕ) (other : List ℕ) → IsBelow bound running → IsBelow bound other → IsBelow bound (resolved running lit other)
+IsBelow-resolved bound running lit other hr ho =
+    IsBelow-clause_of bound (without lit running ++ without (complement lit) other)
+    (IsBelow-append bound (without lit running) (without (complement lit) other) (IsBelow-without bound lit running hr) (IsBelow-without bound (complement lit) other ho))
 
 chosen : (b : Bool) (c d : List ℕ) (fault : StepFault) → cond b (Ok c) (Err fault) ≡ Ok d → c ≡ d
 chosen true c d fault h = cc
 chosen false c d fault h = cc
 
-step_true : (a : ℕ → Bool) (running : List ℕ) (place lit : ℕ) (found : Option (List ℕ)) → clause_true a running ≡ true → ((other : List ℕ) → found ≡ Some other → clause_true a other ≡ true) → (c : List ℕ) → step_on running place lit found ≡ Ok c → clause_true a c ≡ true
-step_true a running place lit None hr ho c h = cc
-step_true a running place lit (Some other) hr ho c h =
-    subst (λ (z : List ℕ). clause_true a z ≡ true) (chosen _ _ _ _ h) (clause_true-resolved a running lit other hr (ho other refl))
+-- what resolution keeps, a chain keeps
+module _ (P : List ℕ → Type 0) (keeps : (running : List ℕ) (lit : ℕ) (other : List ℕ) → P running → P other → P (resolved running lit other)) where
+  step_keeps : (running : List ℕ) (place lit : ℕ) (found : Option (List ℕ)) → P running → ((other : List ℕ) → found ≡ Some other → P other) → (c : List ℕ) → step_on running place lit found ≡ Ok c → P c
+  step_keeps running place lit None hr ho c h = cc
+  step_keeps running place lit (Some other) hr ho c h = subst P (chosen _ _ _ _ h) (keeps running lit other hr (ho other refl))
 
-chain_true : (clauses : List (List ℕ)) (a : ℕ → Bool) → Sat clauses a → (pairs : List Pair) (place : ℕ) (before : Result (List ℕ) StepFault) → ((c : List ℕ) → before ≡ Ok c → clause_true a c ≡ true) → (c : List ℕ) → chain_from clauses place pairs before ≡ Ok c → clause_true a c ≡ true
-chain_true clauses a s [] place before hb c h = hb c h
-chain_true clauses a s (p ∷ ps) place (Err fault) hb c h = cc
-chain_true clauses a s (p ∷ ps) place (Ok running) hb c h =
-    chain_true clauses a s ps (place + 1) (step_on running place p.lit (slice_get clauses p.with))
-    (step_true a running place p.lit (slice_get clauses p.with) (hb running refl) (λ other e. Sat-get clauses a p.with other s e)) c h
+  rest_keeps : (clauses : List (List ℕ)) → AllByRecursion P clauses → (pairs : List Pair) (place : ℕ) (before : Result (List ℕ) StepFault) → ((c : List ℕ) → before ≡ Ok c → P c) → (c : List ℕ) → chain_from clauses place pairs before ≡ Ok c → P c
+  rest_keeps clauses all [] place before hb c h = hb c h
+  rest_keeps clauses all (p ∷ ps) place (Err fault) hb c h = cc
+  rest_keeps clauses all (p ∷ ps) place (Ok running) hb c h =
+      rest_keeps clauses all ps (place + 1) (step_on running place p.lit (slice_get clauses p.with))
+      (step_keeps running place p.lit (slice_get clauses p.with) (hb running refl) (λ other e. all_found P clauses p.with other all e)) c h
 
-started_true : (a : ℕ → Bool) (found : Option (List ℕ)) → ((c : List ℕ) → found ≡ Some c → clause_true a c ≡ true) → (c : List ℕ) → started found ≡ Ok c → clause_true a c ≡ true
-started_true a None h c e = cc
-started_true a (Some d) h c e = let same : d ≡ c = cc in subst (λ (z : List ℕ). clause_true a z ≡ true) same (h d refl)
+  start_keeps : (found : Option (List ℕ)) → ((c : List ℕ) → found ≡ Some c → P c) → (c : List ℕ) → started found ≡ Ok c → P c
+  start_keeps None h c e = cc
+  start_keeps (Some d) h c e = let same : d ≡ c = cc in subst P same (h d refl)
+
+  pub chain_keeps : (clauses : List (List ℕ)) (start : ℕ) (pairs : List Pair) (c : List ℕ) → AllByRecursion P clauses → chain clauses start pairs ≡ Ok c → P c
+  chain_keeps clauses start pairs c all h =
+      rest_keeps clauses all pairs 1 (started (slice_get clauses start))
+      (start_keeps (slice_get clauses start) (λ d e. all_found P clauses start d all e)) c h
 
 -- the resolvent of a chain over some clauses follows from them
 pub Follows-chain : (clauses : List (List ℕ)) (start : ℕ) (pairs : List Pair) (c : List ℕ) → chain clauses start pairs ≡ Ok c → Follows clauses c
-Follows-chain clauses start pairs c h = λ a s.
-    chain_true clauses a s pairs 1 (started (slice_get clauses start))
-    (started_true a (slice_get clauses start) (λ d e. Sat-get clauses a start d s e)) c h
+Follows-chain clauses start pairs c h = λ a s. chain_keeps (λ d. clause_true a d ≡ true) (clause_true-resolved a) clauses start pairs c s h
+
+-- its literals are below each bound of theirs
+pub IsBelow-chain : (bound : ℕ) (clauses : List (List ℕ)) (start : ℕ) (pairs : List Pair) (c : List ℕ) → AreBelow bound clauses → chain clauses start pairs ≡ Ok c → IsBelow bound c
+IsBelow-chain bound clauses start pairs c all h = chain_keeps (IsBelow bound) (IsBelow-resolved bound) clauses start pairs c all h
 
 Sat-from_follows : (given clauses : List (List ℕ)) (a : ℕ → Bool) → Sat given a → AllByRecursion (Follows given) clauses → Sat clauses a
 Sat-from_follows given [] a s h = tt
@@ -137,3 +145,11 @@ step_on-resolved running place lit other h k = cond-true _ _ _ (and_from (has ru
 pub has-resolved : (running : List ℕ) (lit : ℕ) (other : List ℕ) (l : ℕ) → has (resolved running lit other) l ≡ (has (without lit running) l || has (without (complement lit) other) l)
 has-resolved running lit other l =
     has-clause_of (without lit running ++ without (complement lit) other) l ∙ has-append (without lit running) (without (complement lit) other) l
+
+-- one more resolvent keeps the bounds
+pub bounds-push : (clauses new : List (List ℕ)) (start : ℕ) (pairs : List Pair) (c : List ℕ) → chain clauses start pairs ≡ Ok c → new ≡ clauses ++ c ∷ [] → KeepsBounds clauses new
+bounds-push clauses new start pairs c h is = λ bound all.
+    subst (AreBelow bound) (sym is) (all_push (IsBelow bound) clauses c all (IsBelow-chain bound clauses start pairs c all h))
+
+pub bounds-same : (clauses new : List (List ℕ)) → new ≡ clauses → KeepsBounds clauses new
+bounds-same clauses new is = λ bound all. subst (AreBelow bound) (sym is) all

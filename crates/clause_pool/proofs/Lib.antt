@@ -1,7 +1,7 @@
 pub mod LiteralLaws
 pub mod ClauseLaws
 pub mod ChainLaws
-mod RegionLaws
+pub mod RegionLaws
 mod SortLaws
 mod MergeLaws
 mod RunLaws

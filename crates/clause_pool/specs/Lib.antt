@@ -1,7 +1,7 @@
 pub mod Literal
 pub mod Clause
 pub mod Region
-pub mod Contents
+pub mod PoolContents
 pub mod Chain
 pub mod Run
 pub mod Steps

@@ -2,7 +2,8 @@
 ghost use Rattle.std.specs.Prelude.{◌≡◌, ◌+◌, ◌-◌, ◌<◌, ◌≤◌, [], length, take, slice_index, slice_index_or, IfOk, OnOk, OnErr, Some, None, Ok};
 ghost use Rattle.pb_base.specs.Answers.{Answers};
 ghost use Rattle.clause_pool.specs.Chain.{chain};
-ghost use Rattle.clause_pool.specs.Derivation.{AllFollow, grown, kernel_of, placed};
+ghost use Rattle.clause_pool.specs.Clause.{KeepsBounds};
+ghost use Rattle.clause_pool.specs.Derivation.{AllFollow, IsDerived, grown, kernel_of, placed};
 
 use crate::chain::{Pair, StepFault};
 use crate::lit::Lit;
@@ -51,7 +52,8 @@ impl Kernel {
 
     /// The number of given clauses. They are the first.
     pub fn given(&self) -> usize
-        ensures { result ≡ self.now.given }
+        ensures value { result ≡ self.now.given }
+        ensures within { self.now.given ≤ length self.now.clauses }
     {
         self.given
     }
@@ -60,6 +62,7 @@ impl Kernel {
     #[tactic(auto, using(crate::proofs::ChainLaws::derived_follow))]
     pub fn pool(&self) -> &Pool
         ensures clauses { result.now.clauses ≡ self.now.clauses }
+        ensures derived { IsDerived self.now }
         ensures follow { AllFollow self.now }
     {
         &self.pool
@@ -97,6 +100,7 @@ impl Kernel {
         requires { 0 < length pairs.now }
         ensures answer { Answers result (placed (chain self.old.clauses start pairs.now) (length self.old.clauses)) }
         ensures ok { OnOk result (IfOk (chain self.old.clauses start pairs.now) (λ c. self.new ≡ grown self.old start pairs.now c)) }
+        ensures bounds { KeepsBounds self.old.clauses self.new.clauses }
         ensures unchanged { OnErr result (self.new ≡ self.old) }
     {
         if let Err(fault) = run_chain(&self.pool, start, pairs, &mut self.running, &mut self.next) {

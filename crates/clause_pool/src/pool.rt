@@ -25,10 +25,10 @@ impl Model for Pool {
     ghost use Rattle.std.specs.Prelude.{◌-◌, min, length, vec_len, vec_capacity};
     ghost use Rattle.std.specs.List.{AllByRecursion};
     ghost use Rattle.clause_pool.specs.Clause.{IsRising};
-    ghost use Rattle.clause_pool.specs.Contents.{Contents};
+    ghost use Rattle.clause_pool.specs.PoolContents.{PoolContents};
     ghost use Rattle.clause_pool.specs.Region.{region, IsRegion};
 
-    ghost Value = { Contents };
+    ghost Value = { PoolContents };
 
     ghost view = { λ p. record {
       clauses = region p.starts.items p.lits.items;

@@ -2,7 +2,7 @@ use Rattle.std.proofs.Common.{◌≡◌, List, ℕ, [], ◌∷◌, ◌++◌, len
 use Rattle.std.specs.List.{AllByRecursion}
 use Rattle.std.proofs.lemmas.Slice.{pushed}
 use Rattle.clause_pool.specs.Clause.{IsRising, clause_of}
-use Rattle.clause_pool.specs.Contents.{Contents}
+use Rattle.clause_pool.specs.PoolContents.{PoolContents}
 use Rattle.clause_pool.specs.Region.{region}
 use Rattle.clause_pool.proofs.ClauseLaws.{all_push, IsRising-clause_of}
 use Rattle.clause_pool.proofs.RegionLaws.{length_region}
@@ -20,7 +20,7 @@ scratch_is c =
 
 -- the clauses are the lists of the region
 clauses_are : (c : After-append) → region c.self.inside.starts.items c.self.inside.lits.items ≡ c.args.self.now.clauses
-clauses_are c = ap (λ (p : Contents). p.clauses) c.self.view_is
+clauses_are c = ap (λ (p : PoolContents). p.clauses) c.self.view_is
 
 appended : (c : After-append) → region c.append.new.starts.items c.append.new.items.items ≡ region c.self.inside.starts.items c.self.inside.lits.items ++ clause_of c.args.lits.now ∷ []
 appended c =

@@ -1,7 +1,7 @@
 use Rattle.std.proofs.Common.{◌≡◌, List, ℕ, [], ◌∷◌, ◌++◌, length, sym, ap, subst, ◌∙◌}
 use Rattle.std.specs.List.{AllByRecursion}
 use Rattle.clause_pool.specs.Clause.{IsRising}
-use Rattle.clause_pool.specs.Contents.{Contents}
+use Rattle.clause_pool.specs.PoolContents.{PoolContents}
 use Rattle.clause_pool.specs.Region.{region}
 use Rattle.clause_pool.proofs.ClauseLaws.{all_push}
 use Rattle.clause_pool.proofs.RegionLaws.{length_region}
@@ -10,7 +10,7 @@ use Rattle.clause_pool.proofs.pool.Pool.add_rising.Goals.{After-append}
 
 -- the clauses are the lists of the region
 clauses_are : (c : After-append) → region c.self.inside.starts.items c.self.inside.lits.items ≡ c.args.self.now.clauses
-clauses_are c = ap (λ (p : Contents). p.clauses) c.self.view_is
+clauses_are c = ap (λ (p : PoolContents). p.clauses) c.self.view_is
 
 pub returns-clause-place : goal.returns-clause-place
 returns-clause-place c =

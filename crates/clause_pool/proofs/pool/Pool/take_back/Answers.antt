@@ -2,7 +2,7 @@ use Rattle.std.proofs.Common.{◌≡◌, ◌<◌, ◌≤◌, List, ℕ, length, 
 use Rattle.std.specs.List.{AllByRecursion}
 use Rattle.std.proofs.lemmas.List.{take_all}
 use Rattle.clause_pool.specs.Clause.{IsRising}
-use Rattle.clause_pool.specs.Contents.{Contents}
+use Rattle.clause_pool.specs.PoolContents.{PoolContents}
 use Rattle.clause_pool.specs.Region.{region}
 use Rattle.clause_pool.proofs.ClauseLaws.{all_take}
 use Rattle.clause_pool.proofs.RegionLaws.{length_region, region_cut, IsRegion_cut}
@@ -26,11 +26,11 @@ invariant_of-self c =
 pub returns-then-mark-len-clause-clauses : goal.returns-then-mark-len-clause-clauses
 returns-then-mark-len-clause-clauses c =
     cut c ∙ ap (λ (n : ℕ). take n (region c.self.inside.starts.items c.self.inside.lits.items)) c.mark.view_is
-    ∙ ap (λ (p : Contents). take c.args.mark p.clauses) c.self.view_is
+    ∙ ap (λ (p : PoolContents). take c.args.mark p.clauses) c.self.view_is
 
 pub returns-else-mark-len-clause-clauses : goal.returns-else-mark-len-clause-clauses
 returns-else-mark-len-clause-clauses c =
-    let clauses = ap (λ (p : Contents). p.clauses) c.self.view_is in
+    let clauses = ap (λ (p : PoolContents). p.clauses) c.self.view_is in
     let all : length c.args.self.now.clauses ≤ c.args.mark =
     omega (arith, c.mark.view_is, c.len.ensures, c.self.inside.starts.ok.0, length_region c.self.inside.starts.items c.self.inside.lits.items, ap length clauses) in
     sym (take_all c.args.mark c.args.self.now.clauses all)

@@ -2,7 +2,7 @@
 -- them, for so many further clauses and for so many further literals.
 use Rattle.std.specs.Prelude.{ℕ, List}
 
-pub record Contents : Type 0 where
+pub record PoolContents : Type 0 where
   pub clauses : List (List ℕ)
   pub spare_clauses : ℕ
   pub spare_lits : ℕ
