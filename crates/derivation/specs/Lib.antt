@@ -2,6 +2,7 @@ pub mod Pieces
 pub mod Words
 pub mod CertLine
 pub mod Results
+pub mod Answers
 pub mod Stage
 pub mod After
 pub mod Limits

@@ -1,7 +1,5 @@
 -- What the reader of a certificate holds: the line that it read, and the stage that it stands at.
-use Rattle.std.specs.Prelude.{◌≡◌, Result, Ok, Err, List, drop}
-use Rattle.pb_base.specs.declared.answer.Fail.{Fail}
-use Rattle.pb_base.specs.declared.answer.Fail.TheVariants.{Refused, Memory}
+use Rattle.std.specs.Prelude.{ℕ, ◌<◌, List, length, drop}
 use Rattle.clause_pool.specs.declared.chain.Pair.{Pair}
 use Rattle.derivation.specs.declared.line.Line.{Line}
 use Rattle.derivation.specs.declared.line.Line.TheVariants.{Head, Book, Slice, Set, Step, Close, End}
@@ -31,3 +29,8 @@ stage_of Slices = at_slices
 stage_of (OfSet number) = at_set number
 stage_of (Within s) = within (so_far_of s)
 stage_of Done = at_end
+
+-- a step has at least one pair
+abbrev pub HasPairs : Line → List Pair → Type 0
+HasPairs (Step start) pairs = 0 < length pairs
+HasPairs line pairs = Unit {0}
