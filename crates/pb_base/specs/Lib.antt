@@ -2,8 +2,10 @@ pub mod Rule
 pub mod Names
 pub mod Sets
 pub mod Answers
+pub mod Results
 pub mod Node
 pub mod NodeDepth
 pub mod Padding
 pub mod Table
+pub mod NamedSet
 pub mod Digits

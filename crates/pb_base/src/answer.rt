@@ -1,4 +1,5 @@
 //! What a call answers that may refuse or find no memory.
+ghost use Rattle.pb_base.specs.Answers.{ForRefusal, Changes};
 
 use std::alloc::{AllocError, AllocFailed};
 
@@ -11,6 +12,19 @@ pub struct Memory;
 pub enum Fail<E> {
     Refused(E),
     Memory,
+}
+
+impl<E> Fail<E> {
+    /// The same with another refusal in place of this one. Want of memory stays what it is.
+    pub fn map<D, F: FnOnce(E) -> D>(self, change: F) -> Fail<D>
+        requires { ForRefusal self (F.pre change) }
+        ensures { Changes self (F.post change) result }
+    {
+        match self {
+            Fail::Refused(fault) => Fail::Refused(change(fault)),
+            Fail::Memory => Fail::Memory,
+        }
+    }
 }
 
 impl From<AllocError> for Memory {

@@ -2,25 +2,28 @@
 #![tactic(auto)]
 
 mod answer;
-mod body;
-mod code_list;
 mod code_set;
 mod code_table;
 mod day;
 mod digits;
 mod formula;
+pub mod limits;
+mod named_set;
 mod names;
 mod padded;
+mod sequence;
+mod text;
 
 pub use answer::{Fail, Memory};
-pub use body::Body;
-pub use code_list::CodeList;
 pub use code_set::CodeSet;
 pub use code_table::CodeTable;
 pub use day::Day;
-pub use digits::number_of;
+pub use digits::{number_within, short_number};
 pub use formula::{Formula, Node};
+pub use named_set::NameFault;
 pub use names::{CodeName, Id, Part};
+pub use sequence::{Body, CodeList, Sequence};
+pub use text::Text;
 
 #[cfg(test)]
 mod tests;

@@ -12,7 +12,7 @@ use std::hash::{Hash, Hasher};
 use std::marker::Model;
 
 /// The name of a book, a rule, a module, a position, a variant, a draft or a caller: 1 to 8 bytes of A to Z and 0 to 9.
-#[derive(Clone, Copy)]
+#[derive(Clone, Copy, PartialEq, Eq, PartialOrd, Ord, Hash)]
 pub struct Id(Padded<8>);
 
 impl Model for Id {
@@ -50,34 +50,8 @@ impl Id {
     }
 }
 
-impl PartialEq for Id {
-    ghost eq = { pointwise nat_eq };
-
-    ghost laws = { partial_equiv_from_equiv nat_list_eq_equiv };
-
-    #[inline]
-    fn eq(&self, other: &Id) -> bool {
-        self.bytes() == other.bytes()
-    }
-}
-
-impl Eq for Id {
-    ghost laws = { nat_list_eq_equiv };
-}
-
-impl Hash for Id {
-    ghost hash_input = { λ name. name ∷ [] };
-
-    ghost respects_eq = { Prim.search (hashing, rules) };
-
-    #[inline]
-    fn hash<H: Hasher>(&self, state: &mut H) {
-        state.write(self.bytes());
-    }
-}
-
 /// The name of a code: an `Id` other than TRUE and FALSE, which are the constants of a rule.
-#[derive(Clone, Copy)]
+#[derive(Clone, Copy, PartialEq, Eq, Hash)]
 pub struct CodeName(Padded<8>);
 
 impl Model for CodeName {
@@ -115,34 +89,8 @@ impl CodeName {
     }
 }
 
-impl PartialEq for CodeName {
-    ghost eq = { pointwise nat_eq };
-
-    ghost laws = { partial_equiv_from_equiv nat_list_eq_equiv };
-
-    #[inline]
-    fn eq(&self, other: &CodeName) -> bool {
-        self.bytes() == other.bytes()
-    }
-}
-
-impl Eq for CodeName {
-    ghost laws = { nat_list_eq_equiv };
-}
-
-impl Hash for CodeName {
-    ghost hash_input = { λ name. name ∷ [] };
-
-    ghost respects_eq = { Prim.search (hashing, rules) };
-
-    #[inline]
-    fn hash<H: Hasher>(&self, state: &mut H) {
-        state.write(self.bytes());
-    }
-}
-
 /// The number of a part: 1 to 16 bytes of A to Z and 0 to 9.
-#[derive(Clone, Copy)]
+#[derive(Clone, Copy, PartialEq, Eq, Hash)]
 pub struct Part(Padded<16>);
 
 impl Model for Part {
@@ -177,32 +125,6 @@ impl Part {
         ensures form { is_part self.now ≡ true }
     {
         self.0.bytes()
-    }
-}
-
-impl PartialEq for Part {
-    ghost eq = { pointwise nat_eq };
-
-    ghost laws = { partial_equiv_from_equiv nat_list_eq_equiv };
-
-    #[inline]
-    fn eq(&self, other: &Part) -> bool {
-        self.bytes() == other.bytes()
-    }
-}
-
-impl Eq for Part {
-    ghost laws = { nat_list_eq_equiv };
-}
-
-impl Hash for Part {
-    ghost hash_input = { λ name. name ∷ [] };
-
-    ghost respects_eq = { Prim.search (hashing, rules) };
-
-    #[inline]
-    fn hash<H: Hasher>(&self, state: &mut H) {
-        state.write(self.bytes());
     }
 }
 

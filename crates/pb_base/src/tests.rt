@@ -1,6 +1,9 @@
 //! Each call once with ample memory, on values from the rules of the trade.
 
-use crate::{Body, CodeList, CodeName, CodeSet, CodeTable, Fail, Formula, Id, Node, Part};
+use crate::{
+    Body, CodeList, CodeName, CodeSet, CodeTable, Fail, Formula, Id, NameFault, Node, Part, Text,
+    number_within, short_number,
+};
 use std::test::Fail as Failure;
 
 #[test]
@@ -63,15 +66,83 @@ fn a_formula_holds_by_its_connectives(rt: HostRuntime) -> Result<(), Failure> {
 }
 
 #[test]
-fn lists_and_bodies_are_copied_whole(rt: HostRuntime) -> Result<(), Failure> {
+fn lists_and_texts_are_written_and_copied_whole(rt: HostRuntime) -> Result<(), Failure> {
     let alloc = rt.alloc();
     let mut list = CodeList::new(alloc);
     let name = CodeName::of(b"G5").ok_or("a name")?;
     list.push(name)?;
     list.push(name)?;
-    let copy = list.copy(alloc)?;
-    assert_eq!(rt; copy.names().len(), 2);
-    let body = Body::of(b"book,T,1,9".to_vec(alloc)?);
-    assert_eq!(rt; body.copy(alloc)?.bytes(), b"book,T,1,9".as_slice());
+    assert_eq!(rt; list.copy(alloc)?.as_slice().len(), 2);
+    let mut text = Text::new(alloc);
+    text.put(b"book,T,")?;
+    text.put_number(0)?;
+    text.put(b",")?;
+    text.put_number(u64::MAX)?;
+    assert_eq!(rt; text.bytes(), b"book,T,0,18446744073709551615".as_slice());
+    let body = text.into_body();
+    assert_eq!(rt;
+        body.copy(alloc)?.as_slice(),
+        b"book,T,0,18446744073709551615".as_slice()
+    );
+    assert_eq!(rt; Body::of(b"ok".to_vec(alloc)?).as_slice(), b"ok".as_slice());
+    Ok(())
+}
+
+#[test]
+fn a_set_is_made_of_names_or_tells_the_first_at_fault(rt: HostRuntime) -> Result<(), Failure> {
+    let alloc = rt.alloc();
+    let mut table = CodeTable::new(alloc);
+    let first = CodeName::of(b"M1").ok_or("a name")?;
+    let second = CodeName::of(b"M2").ok_or("a name")?;
+    let unknown = CodeName::of(b"M3").ok_or("a name")?;
+    table.add(first)?;
+    table.add(second)?;
+    let set = CodeSet::of_names(alloc, &table, &[second])?;
+    assert!(rt; !set.has(0) && set.has(1));
+    assert!(rt;
+        matches!(
+            CodeSet::of_names(alloc, &table, &[second, first, second, unknown]),
+            Err(Fail::Refused(NameFault::Repeated(2)))
+        )
+    );
+    assert!(rt;
+        matches!(
+            CodeSet::of_names(alloc, &table, &[second, unknown, second]),
+            Err(Fail::Refused(NameFault::Unknown(1)))
+        )
+    );
+    let refused: Fail<NameFault> = Fail::Refused(NameFault::Unknown(1));
+    assert!(rt; matches!(refused.map(|_| true), Fail::Refused(true)));
+    let memory: Fail<NameFault> = Fail::Memory;
+    assert!(rt; matches!(memory.map(|_| true), Fail::Memory));
+    Ok(())
+}
+
+#[test]
+fn numbers_have_few_digits(rt: HostRuntime) {
+    for (text, short, longer) in [
+        ("", None, None),
+        ("0", Some(0), Some(0)),
+        ("00042", Some(42), Some(42)),
+        ("99999", Some(99_999), Some(99_999)),
+        ("000001", None, Some(1)),
+        ("9999999999", None, Some(9_999_999_999)),
+        ("00000000000", None, None),
+        ("-1", None, None),
+        ("1a", None, None),
+    ] {
+        assert_eq!(rt; short_number(text.as_bytes()), short, "short {text}");
+        assert_eq!(rt; number_within(text.as_bytes(), 10), longer, "longer {text}");
+    }
+}
+
+#[test]
+fn names_are_in_the_order_of_their_bytes(rt: HostRuntime) -> Result<(), Failure> {
+    let mut last = Id::of(b"0").ok_or("a name")?;
+    for text in ["00", "1", "A", "AA", "AB", "B", "Z9", "ZZ"] {
+        let next = Id::of(text.as_bytes()).ok_or("a name")?;
+        assert!(rt; last < next, "before {text}");
+        last = next;
+    }
     Ok(())
 }

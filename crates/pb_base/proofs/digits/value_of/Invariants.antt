@@ -8,6 +8,6 @@ abbrev pub invariant-loop-b : goal.invariant-loop-b
 invariant-loop-b l = record {
   rest : value_from l.value (drop l.b-index l.text) ≡ value_of l.text;
   digits : list_all is_digit (drop l.b-index l.text) ≡ true;
-  short : length l.text ≤ 5;
+  short : length l.text ≤ l.most;
   small : l.value < 10 ^ l.b-index;
 }

@@ -1,0 +1,3 @@
+pub mod NamedSets
+mod NameFaults
+mod DigitRoom
