@@ -1,7 +1,7 @@
 -- What is read of the words of a line, where some of them have been read.
 use Rattle.std.proofs.Common.{◌≡◌, ℕ, ◌&&◌, cond, Bool, true, false, List, [], ◌∷◌, ◌++◌, Option, None, Some, Result, Ok, Err, codes, refl, sym, ap, ◌∙◌, append_assoc, append-nil}
 use Rattle.std.specs.List.{list_all}
-use Rattle.std.specs.Option.{option_and_then, option_map}
+use Rattle.std.specs.Option.{option_and_then, option_map, IfSome}
 use Rattle.std.specs.Result.{IfOk}
 use Rattle.pb_base.specs.Names.{same_name, is_code_name}
 use Rattle.pb_base.specs.declared.answer.Memory.{Memory}
@@ -9,7 +9,7 @@ use Rattle.clause_pool.specs.declared.chain.Pair.{Pair}
 use Rattle.derivation.specs.CertLine.{CertLine, set_line, set_from, pair_from, pairs_from, step_from, other_from, line_from}
 use Rattle.derivation.specs.Kept.{number_kept, literal_kept, line_kept}
 use Rattle.derivation.specs.Pieces.{pieces}
-use Rattle.derivation.specs.Reading.{line_of}
+use Rattle.derivation.specs.Reading.{HasPairs, line_of}
 use Rattle.derivation.specs.declared.line.Line.{Line}
 
 -- the pairs that have been read, and those to come
@@ -56,3 +56,7 @@ other_read (Ok line) text keyword step words rest t pairs cut first tested is no
     ap (line_from number_kept literal_kept) (sym cut ∙ first)
     ∙ ap (λ b. cond b (step_from number_kept literal_kept rest) (other_from number_kept literal_kept keyword rest)) (ap (same_name keyword) (sym is) ∙ sym tested ∙ no)
     ∙ h pairs
+
+pub other_pairs : (r : Result (Option Line) Memory) (pairs : List Pair) → IfOk r (λ line. (ps : List Pair) → IfSome line (λ l. HasPairs l ps)) → IfOk r (λ line. IfSome line (λ l. HasPairs l pairs))
+other_pairs (Ok line) pairs h = h pairs
+other_pairs (Err e) pairs h = tt

@@ -1,10 +1,10 @@
 -- What each line of a certificate does where it may stand: the stage behind it, or what is wrong.
 --     after b slices stage line
-use Rattle.std.specs.Prelude.{ℕ, ◌+◌, Bool, ◌&&◌, ◌==◌, nat_lt, false, List, [], ◌∷◌, ◌++◌, Option, None, Some, Result, Ok, Err, length, slice_get, slice_set, if◌then◌else◌}
-use Rattle.std.specs.Option.{option_and_then, option_map_or}
+use Rattle.std.specs.Prelude.{ℕ, ◌+◌, Bool, ◌&&◌, ◌==◌, nat_lt, false, List, [], ◌∷◌, ◌++◌, Option, None, Some, Result, Ok, Err, length, slice_get, if◌then◌else◌}
 use Rattle.std.specs.List.{list_all}
-use Rattle.pb_base.specs.Names.{same_name, place_in}
-use Rattle.pb_base.specs.Sets.{has, none_of}
+use Rattle.pb_base.specs.Names.{same_name}
+use Rattle.pb_base.specs.NamedSet.{set_of_names}
+use Rattle.pb_base.specs.declared.named_set.NameFault.{NameFault}
 use Rattle.book_model.specs.Contents.{Contents}
 use Rattle.book_model.specs.Good.{is_good}
 use Rattle.book_model.specs.declared.record.Slice.{Slice}
@@ -17,7 +17,7 @@ use Rattle.derivation.specs.declared.fault.CertKind.{CertKind}
 use Rattle.derivation.specs.declared.fault.CertKind.TheVariants.{Syntax, WrongBook, NoSuchStep, NoPivot, NotClosed, BadSet, Trailing}
 use Rattle.derivation.specs.declared.closing.ToClose.{ToClose}
 use Rattle.derivation.specs.CertLine.{CertLine, head_line, book_line, slice_line, set_line, step_line, close_line, end_line}
-use Rattle.derivation.specs.Results.{and_then, unless}
+use Rattle.pb_base.specs.Results.{unless}
 use Rattle.derivation.specs.Stage.{SliceSoFar, Stage, at_head, at_book, at_slices, at_set, within, at_end, to_close}
 
 -- the first line
@@ -38,16 +38,10 @@ abbrev pub after_slices : ℕ → CertLine → Result Stage CertKind
 after_slices slices (slice_line number) = next_slice slices 0 None number
 after_slices slices _ = Err Syntax
 
--- the set of some names: each is a code, and none is in the set already
-abbrev pub with_code : List (List ℕ) → List Bool → List ℕ → Option (List Bool)
-with_code codes x name = option_and_then (λ place. if has x place then None else Some (slice_set x place Bool.true)) (place_in codes name)
-
-abbrev pub set_of : List (List ℕ) → List Bool → List (List ℕ) → Option (List Bool)
-set_of codes x [] = Some x
-set_of codes x (name ∷ names) = option_and_then (λ y. set_of codes y names) (with_code codes x name)
-
-abbrev pub is_good_set : Contents → ℕ → List (List ℕ) → Bool
-is_good_set b day names = option_map_or (is_good b day) (set_of b.codes (none_of (length b.codes)) names) false
+-- the names make a set, and it is good
+abbrev pub is_good_set : Contents → ℕ → Result (List Bool) NameFault → Bool
+is_good_set b day (Ok x) = is_good b day x
+is_good_set b day (Err fault) = false
 
 abbrev pub opened : Contents → ℕ → ℕ → SliceSoFar
 opened b day number = record { slice = number; clauses = slice_clauses b day; left = to_close 0 (slice_asked b day) }
@@ -55,7 +49,7 @@ opened b day number = record { slice = number; clauses = slice_clauses b day; le
 -- a set line names a good set
 abbrev pub good_then : Contents → ℕ → Option Slice → List (List ℕ) → Result Stage CertKind
 good_then b number None names = Err Syntax
-good_then b number (Some s) names = if is_good_set b s.first names then Ok (within (opened b s.first number)) else Err (BadSet number)
+good_then b number (Some s) names = if is_good_set b s.first (set_of_names b.codes names) then Ok (within (opened b s.first number)) else Err (BadSet number)
 
 abbrev pub after_number : Contents → List Slice → ℕ → CertLine → Result Stage CertKind
 after_number b slices number (set_line names) = good_then b number (slice_get slices number) names

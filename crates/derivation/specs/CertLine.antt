@@ -37,6 +37,11 @@ abbrev pub end_from : List (List ℕ) → Option CertLine
 end_from [] = Some end_line
 end_from _ = None
 
+-- a step has at least one pair
+abbrev pub step_with : Option ℕ → Option (List Pair) → Option CertLine
+step_with (Some start) (Some (p ∷ ps)) = Some (step_line start (p ∷ ps))
+step_with _ _ = None
+
 -- the other lines, where these two read the numbers and the literals
 module _ (number literal : List ℕ → Option ℕ) where
   -- `book NAME SLICES`
@@ -58,10 +63,10 @@ module _ (number literal : List ℕ → Option ℕ) where
   pairs_from (lit ∷ []) = None
   pairs_from (lit ∷ other ∷ words) = option_and_then (λ p. option_map (λ ps. p ∷ ps) (pairs_from words)) (pair_from lit other)
 
-  -- `step START LIT WITH LIT WITH ..`: it has at least one pair
+  -- `step START LIT WITH LIT WITH ..`
   abbrev pub step_from : List (List ℕ) → Option CertLine
-  step_from (start ∷ lit ∷ words) = option_map (λ z. step_line z.0 z.1) (option_zip (number start) (pairs_from (lit ∷ words)))
-  step_from _ = None
+  step_from [] = None
+  step_from (start ∷ words) = step_with (number start) (pairs_from words)
 
   -- `close QUESTION CLAUSE`
   abbrev pub close_from : List (List ℕ) → Option CertLine

@@ -1,7 +1,7 @@
 -- What a certificate is answered: the numbers of its slices and of its steps, or its first fault.
 --     cert_answer b text     over a book and the bytes of the text
 --     cert_fault b text      the fault, where there is one
-use Rattle.std.specs.Prelude.{ℕ, ◌+◌, List, [], ◌∷◌, Option, Result, Ok, Err, length}
+use Rattle.std.specs.Prelude.{ℕ, ◌+◌, Bool, true, false, List, [], ◌∷◌, Option, None, Some, Result, Ok, Err, length}
 use Rattle.std.specs.Option.{ok_or}
 use Rattle.std.specs.Result.{result_err}
 use Rattle.book_model.specs.Contents.{Contents}
@@ -15,7 +15,7 @@ use Rattle.derivation.specs.After.{after}
 use Rattle.derivation.specs.CertLine.{CertLine, step_line, cert_line}
 use Rattle.derivation.specs.Limits.{slices_within}
 use Rattle.derivation.specs.Pieces.{pieces}
-use Rattle.derivation.specs.Results.{and_then}
+use Rattle.pb_base.specs.Results.{and_then, unless}
 use Rattle.derivation.specs.Stage.{Stage, at_head, at_end}
 
 -- what is wrong with a line, and the line's number
@@ -24,9 +24,20 @@ at_line line (Ok value) = Ok value
 at_line line (Err kind) = Err (record { line = line; kind = kind })
 
 -- no line may stand behind the end line
-abbrev pub line_at : Stage → List ℕ → Result CertLine CertKind
-line_at at_end text = Err Trailing
-line_at stage text = ok_or (cert_line text) Syntax
+abbrev pub past_end : Stage → Option CertKind
+past_end at_end = Some Trailing
+past_end _ = None
+
+abbrev pub line_at : Stage → Option CertLine → Result CertLine CertKind
+line_at stage line = unless (past_end stage) (ok_or line Syntax)
+
+abbrev pub is_step : CertLine → Bool
+is_step (step_line start pairs) = true
+is_step _ = false
+
+-- the stage behind a line, and whether the line is a step
+abbrev pub taken_line : Contents → List Slice → Stage → Option CertLine → Result (Stage × Bool) CertKind
+taken_line b slices stage line = and_then (line_at stage line) (λ l. and_then (after b slices stage l) (λ behind. Ok (behind, is_step l)))
 
 -- nothing may stand behind the last line feed, which ends the end line
 abbrev pub after_last : Certified → Stage → List ℕ → Result Certified CertKind
@@ -34,19 +45,18 @@ after_last so_far at_end [] = Ok so_far
 after_last so_far at_end (b ∷ bs) = Err Trailing
 after_last so_far stage rest = Err Syntax
 
--- the number of step lines is counted along
-abbrev pub with_line : Certified → CertLine → Certified
-with_line so_far (step_line start pairs) = record so_far { steps = so_far.steps + 1 }
-with_line so_far line = so_far
+-- the number of steps is counted along
+abbrev pub with_line : Certified → Bool → Certified
+with_line so_far true = record so_far { steps = so_far.steps + 1 }
+with_line so_far false = so_far
 
 -- the lines from a stage on, of which the first has the number n
 abbrev pub read_lines : Contents → List Slice → Stage → ℕ → Certified → List (List ℕ) → Result Certified CertFault
 read_lines b slices stage n so_far [] = at_line n (Err Syntax)
 read_lines b slices stage n so_far (rest ∷ []) = at_line n (after_last so_far stage rest)
 read_lines b slices stage n so_far (text ∷ next ∷ texts) =
-    and_then (at_line n (line_at stage text)) (λ line.
-    and_then (at_line n (after b slices stage line)) (λ behind.
-    read_lines b slices behind (n + 1) (with_line so_far line) (next ∷ texts)))
+    and_then (at_line n (taken_line b slices stage (cert_line text))) (λ taken.
+    read_lines b slices taken.0 (n + 1) (with_line so_far taken.1) (next ∷ texts))
 
 abbrev pub read_cert : Contents → List ℕ → List Slice → Result Certified CertFault
 read_cert b text slices = read_lines b slices at_head 1 (record { slices = length slices; steps = 0 }) (pieces 10 text)

@@ -7,6 +7,7 @@ use Rattle.std.specs.Option.{option_map}
 use Rattle.pb_base.specs.Digits.{is_digit}
 use Rattle.std.specs.List.{AllByRecursion}
 use Rattle.clause_pool.specs.Literal.{literal}
+use Rattle.clause_pool.specs.Clause.{AreBelow}
 use Rattle.clause_pool.specs.declared.chain.Pair.{Pair}
 use Rattle.derivation.specs.CertLine.{CertLine, line_from, head_line, book_line, slice_line, set_line, step_line, close_line, end_line}
 use Rattle.derivation.specs.Pieces.{pieces}
@@ -64,7 +65,7 @@ kept_line end_line = end_line
 pub record NamesKept (s : SliceSoFar) : Type 0 where
   pub slice : s.slice + 1 < highest
   pub clauses : length s.clauses ≤ highest
-  pub literals : AllByRecursion (λ c. AllByRecursion (λ l. l < 2 * highest_variable) c) s.clauses
+  pub literals : AreBelow (2 * highest_variable) s.clauses
   pub questions : AllByRecursion (λ w. w.question < highest) s.left
 
 abbrev pub AllNamed : Stage → Type 0

@@ -1,11 +1,11 @@
 pub mod Pieces
 pub mod Words
 pub mod CertLine
-pub mod Results
-pub mod Answers
 pub mod Stage
 pub mod After
 pub mod Limits
 pub mod Certificate
 pub mod Kept
 pub mod Reading
+pub mod Showing
+pub mod Written

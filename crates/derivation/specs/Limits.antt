@@ -7,8 +7,8 @@ use Rattle.book_model.specs.declared.record.Slice.{Slice}
 use Rattle.book_model.specs.declared.slicing.LimitFault.{LimitFault}
 use Rattle.book_model.specs.declared.slicing.LimitFault.TheVariants.{Questions}
 use Rattle.clausify.specs.Questions.{questions}
-use Rattle.clausify.specs.Limit.{most_questions}
-use Rattle.derivation.specs.Results.{and_then, unless}
+use Rattle.pb_base.specs.declared.limits.TheConstants.{MOST_QUESTIONS}
+use Rattle.pb_base.specs.Results.{and_then, unless}
 
 abbrev pub asked_of : Contents → Slice → ℕ
 asked_of b s = length (questions b s.first)
@@ -16,10 +16,10 @@ asked_of b s = length (questions b s.first)
 -- the first slice with too many questions, where the first of the list has the number k
 abbrev pub first_over : ℕ → Contents → List Slice → Option LimitFault
 first_over k b [] = None
-first_over k b (s ∷ ss) = if nat_lt most_questions (asked_of b s) then Some (Questions k (asked_of b s)) else first_over (suc k) b ss
+first_over k b (s ∷ ss) = if nat_lt MOST_QUESTIONS (asked_of b s) then Some (Questions k (asked_of b s)) else first_over (suc k) b ss
 
 abbrev pub slices_within : Contents → Result (List Slice) LimitFault
 slices_within b = and_then (slices_of b) (λ slices. unless (first_over 0 b slices) (Ok slices))
 
 abbrev pub AreWithin : Contents → List Slice → Type 0
-AreWithin b slices = All (λ s. asked_of b s ≤ most_questions) slices
+AreWithin b slices = All (λ s. asked_of b s ≤ MOST_QUESTIONS) slices

@@ -1,6 +1,11 @@
 -- What the reader of a certificate holds: the line that it read, and the stage that it stands at.
-use Rattle.std.specs.Prelude.{ℕ, ◌<◌, List, length, drop}
+use Rattle.std.specs.Prelude.{ℕ, ◌<◌, Bool, List, length, drop}
+use Rattle.pb_base.specs.declared.answer.Fail.{Fail}
+use Rattle.pb_base.specs.declared.answer.Fail.TheVariants.{Refused, Memory}
 use Rattle.clause_pool.specs.declared.chain.Pair.{Pair}
+use Rattle.derivation.specs.declared.check.Taken.{Taken}
+use Rattle.derivation.specs.declared.fault.CertFault.{CertFault}
+use Rattle.derivation.specs.declared.fault.CertKind.{CertKind}
 use Rattle.derivation.specs.declared.line.Line.{Line}
 use Rattle.derivation.specs.declared.line.Line.TheVariants.{Head, Book, Slice, Set, Step, Close, End}
 use Rattle.derivation.specs.declared.stage.OpenSlice.{OpenSlice}
@@ -34,3 +39,10 @@ stage_of Done = at_end
 abbrev pub HasPairs : Line → List Pair → Type 0
 HasPairs (Step start) pairs = 0 < length pairs
 HasPairs line pairs = Unit {0}
+
+abbrev pub seen : Taken → Stage × Bool
+seen taken = (stage_of taken.stage, taken.is_step)
+
+abbrev pub fault_at : ℕ → Fail CertKind → Fail CertFault
+fault_at line (Refused kind) = Refused (record { line = line; kind = kind })
+fault_at line Memory = Memory

@@ -2,10 +2,9 @@
 --     SliceSoFar           a slice of which the set line has been read
 --     Stage                what may stand on the next line
 --     to_close i asked     the questions that a certificate has to close, in order
-use Rattle.std.specs.Prelude.{ℕ, suc, Bool, true, false, List, [], ◌∷◌, if◌then◌else◌}
+use Rattle.std.specs.Prelude.{ℕ, suc, List, [], ◌∷◌, if◌then◌else◌}
 use Rattle.clausify.specs.declared.question.Asked.{Asked}
-use Rattle.clausify.specs.declared.question.Question.{Question}
-use Rattle.clausify.specs.declared.question.Question.TheVariants.{Void, Necessary, Inadmissible, Superfluous, Ambiguous, Uncovered}
+use Rattle.clausify.specs.Questions.{is_to_close}
 use Rattle.derivation.specs.declared.closing.ToClose.{ToClose}
 
 -- its number, its clauses so far, and its questions that are left to close
@@ -23,15 +22,6 @@ pub data Stage : Type 0 where
   at_set : ℕ → Stage
   within : SliceSoFar → Stage
   at_end : Stage
-
--- two variants together, or none at all: a good set that meets the goal is a fault of the book
-abbrev pub is_to_close : Question → Bool
-is_to_close Void = false
-is_to_close (Necessary code) = false
-is_to_close (Inadmissible code) = false
-is_to_close (Superfluous variant) = false
-is_to_close (Ambiguous position first second) = true
-is_to_close (Uncovered position) = true
 
 -- each question has its number, where the first of the list has the number i
 abbrev pub to_close : ℕ → List Asked → List ToClose

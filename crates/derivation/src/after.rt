@@ -1,10 +1,12 @@
 //! What each line of a certificate does where it may stand.
-ghost use Rattle.std.specs.Prelude.{◌≡◌, ◌+◌, ◌<◌, ◌≤◌, ◌^◌, List, IfOk, length};
+ghost use Rattle.std.specs.Prelude.{◌≡◌, ◌+◌, ◌<◌, ◌≤◌, ◌^◌, List, IfOk, OnOk, length};
 ghost use Rattle.clause_pool.specs.Chain.{chain};
 ghost use Rattle.clause_pool.specs.declared.chain.Pair.{Pair};
-ghost use Rattle.clausify.specs.Limit.{most_questions};
+ghost use Rattle.pb_base.specs.declared.limits.TheConstants.{MOST_QUESTIONS};
 ghost use Rattle.derivation.specs.After.{after, after_head, after_name, after_number, after_slices, after_within, close_next, closes, end_behind, first_left, is_good_set, next_slice, opened, step_kind, with_clause};
-ghost use Rattle.derivation.specs.Answers.{Gives, Leaves};
+ghost use Rattle.pb_base.specs.Answers.{Gives, Leaves};
+ghost use Rattle.pb_base.specs.NamedSet.{set_of_names};
+ghost use Rattle.derivation.specs.Kept.{AllNamed, NamesKept};
 ghost use Rattle.derivation.specs.Limits.{AreWithin, asked_of};
 ghost use Rattle.derivation.specs.Reading.{HasPairs, line_of, so_far_of, stage_of};
 ghost use Rattle.derivation.specs.Stage.{within};
@@ -12,12 +14,11 @@ ghost use Rattle.derivation.specs.Stage.{within};
 use crate::closing::to_close;
 use crate::fault::CertKind;
 use crate::line::Line;
-use crate::names::set_of;
 use crate::stage::{OpenSlice, Stage};
 use book_model::{Book, Slice, is_good};
 use clause_pool::{Kernel, Lit, Pair, Ref, StepFault};
-use clausify::clauses_of;
-use pb_base::{CodeList, Day, Fail, Memory};
+use clausify::coded_slice;
+use pb_base::{CodeList, CodeSet, Day, Fail, Memory};
 use std::alloc::Global;
 
 /// The stage behind a line, or what is wrong with the line. The pairs are those of a step.
@@ -32,7 +33,9 @@ pub(crate) fn after(
     requires few { length slices.now < 2 ^ 32 }
     requires within { AreWithin book.now slices.now }
     requires pairs { HasPairs line.now pairs.now }
-    ensures { Gives result stage_of (after book.now slices.now (stage_of stage) (line_of line.now pairs.now)) }
+    requires named { AllNamed (stage_of stage) }
+    ensures answer { Gives result stage_of (after book.now slices.now (stage_of stage) (line_of line.now pairs.now)) }
+    ensures named { IfOk result (λ behind. AllNamed (stage_of behind)) }
 {
     let count = slices.len() as u32;
     match stage {
@@ -46,7 +49,8 @@ pub(crate) fn after(
 }
 
 fn after_head(line: &Line) -> Result<Stage, Fail<CertKind>>
-    ensures { (pairs : List Pair) → Gives result stage_of (after_head (line_of line.now pairs)) }
+    ensures answer { (pairs : List Pair) → Gives result stage_of (after_head (line_of line.now pairs)) }
+    ensures named { IfOk result (λ behind. AllNamed (stage_of behind)) }
 {
     match line {
         Line::Head => Ok(Stage::Book),
@@ -55,7 +59,8 @@ fn after_head(line: &Line) -> Result<Stage, Fail<CertKind>>
 }
 
 fn after_name(book: &Book, count: u32, line: &Line) -> Result<Stage, Fail<CertKind>>
-    ensures { (pairs : List Pair) → Gives result stage_of (after_name book.now count (line_of line.now pairs)) }
+    ensures answer { (pairs : List Pair) → Gives result stage_of (after_name book.now count (line_of line.now pairs)) }
+    ensures named { IfOk result (λ behind. AllNamed (stage_of behind)) }
 {
     match line {
         Line::Book { name, slices } => {
@@ -72,7 +77,8 @@ fn after_name(book: &Book, count: u32, line: &Line) -> Result<Stage, Fail<CertKi
 }
 
 fn after_slices(count: u32, line: &Line) -> Result<Stage, Fail<CertKind>>
-    ensures { (pairs : List Pair) → Gives result stage_of (after_slices count (line_of line.now pairs)) }
+    ensures answer { (pairs : List Pair) → Gives result stage_of (after_slices count (line_of line.now pairs)) }
+    ensures named { IfOk result (λ behind. AllNamed (stage_of behind)) }
 {
     match line {
         Line::Slice(number) => next_slice(count, 0, None, *number),
@@ -87,7 +93,8 @@ fn next_slice(
     left: Option<CertKind>,
     number: u64,
 ) -> Result<Stage, Fail<CertKind>>
-    ensures { Gives result stage_of (next_slice count next left number) }
+    ensures answer { Gives result stage_of (next_slice count next left number) }
+    ensures named { IfOk result (λ behind. AllNamed (stage_of behind)) }
 {
     if number != next {
         return Err(Fail::Refused(CertKind::Syntax));
@@ -109,14 +116,15 @@ fn after_number(
     line: &Line,
 ) -> Result<Stage, Fail<CertKind>>
     requires within { AreWithin book.now slices.now }
-    ensures { (pairs : List Pair) → Gives result stage_of (after_number book.now slices.now number (line_of line.now pairs)) }
+    ensures answer { (pairs : List Pair) → Gives result stage_of (after_number book.now slices.now number (line_of line.now pairs)) }
+    ensures named { IfOk result (λ behind. AllNamed (stage_of behind)) }
 {
     match line {
         Line::Set(names) => {
             if number as usize >= slices.len() {
                 return Err(Fail::Refused(CertKind::Syntax));
             }
-            let slice = slices[number as usize];
+            let slice = &slices[number as usize];
             if !is_good_set(alloc, book, slice.first, names)? {
                 return Err(Fail::Refused(CertKind::BadSet(number)));
             }
@@ -127,29 +135,30 @@ fn after_number(
     }
 }
 
+// Whether the names make a set, and it is good on a day.
 fn is_good_set(alloc: Global, book: &Book, day: Day, names: &CodeList) -> Result<bool, Memory>
-    ensures { IfOk result (λ good. good ≡ is_good_set book.now day names.now) }
+    ensures { IfOk result (λ good. good ≡ is_good_set book.now day (set_of_names book.now.codes names.now)) }
 {
-    match set_of(alloc, book.codes(), names.names())? {
-        Some(set) => Ok(is_good(book, day, &set)),
-        None => Ok(false),
+    match CodeSet::of_names(alloc, book.codes(), names.as_slice()) {
+        Ok(set) => Ok(is_good(book, day, &set)),
+        Err(Fail::Refused(_)) => Ok(false),
+        Err(Fail::Memory) => Err(Memory),
     }
 }
 
 // A slice of which the set line has been read, with its clauses and nothing closed.
-fn open_slice(alloc: Global, book: &Book, slice: Slice, number: u32) -> Result<OpenSlice, Memory>
-    requires { asked_of book.now slice ≤ most_questions }
-    ensures { IfOk result (λ s. so_far_of s ≡ opened book.now slice.first number) }
+fn open_slice(alloc: Global, book: &Book, slice: &Slice, number: u32) -> Result<OpenSlice, Memory>
+    requires { asked_of book.now slice.now ≤ MOST_QUESTIONS }
+    ensures opened { IfOk result (λ s. so_far_of s ≡ opened book.now slice.now.first number) }
+    ensures named { IfOk result (λ s. NamesKept (so_far_of s)) }
 {
-    let coded = match clauses_of(alloc, book, slice) {
-        Ok(coded) => coded,
-        Err(Fail::Refused(_)) => unreachable!(),
-        Err(Fail::Memory) => return Err(Memory),
-    };
+    let coded = coded_slice(alloc, book, slice)?;
     let to_close = to_close(alloc, &coded.questions)?;
+    let kernel = Kernel::of(alloc, coded.pool);
+    let _countable = clause_count(&kernel);
     Ok(OpenSlice {
         slice: number,
-        kernel: Kernel::of(alloc, coded.pool),
+        kernel,
         to_close,
         closed: 0,
     })
@@ -161,8 +170,10 @@ fn after_within(
     line: &Line,
     pairs: &[Pair],
 ) -> Result<Stage, Fail<CertKind>>
-    requires { HasPairs line.now pairs.now }
-    ensures { Gives result stage_of (after_within count (so_far_of slice) (line_of line.now pairs.now)) }
+    requires pairs { HasPairs line.now pairs.now }
+    requires named { NamesKept (so_far_of slice) }
+    ensures answer { Gives result stage_of (after_within count (so_far_of slice) (line_of line.now pairs.now)) }
+    ensures named { IfOk result (λ behind. AllNamed (stage_of behind)) }
 {
     match line {
         Line::Step { start } => {
@@ -185,13 +196,23 @@ fn after_within(
 // Appends the resolvent of a chain.
 fn derive(slice: &mut OpenSlice, start: Ref, pairs: &[Pair]) -> Result<(), Fail<CertKind>>
     requires { 0 < length pairs.now }
-    ensures { Leaves result (within (so_far_of slice.new)) (with_clause (so_far_of slice.old) (chain slice.old.kernel.clauses start pairs.now)) }
+    ensures answer { Leaves result (within (so_far_of slice.new)) (with_clause (so_far_of slice.old) (chain slice.old.kernel.clauses start pairs.now)) }
+    ensures named { NamesKept (so_far_of slice.old) → OnOk result (NamesKept (so_far_of slice.new)) }
 {
     match slice.kernel.resolve(start, pairs) {
-        Ok(_) => Ok(()),
+        Ok(_) => {
+            let _countable = clause_count(&slice.kernel);
+            Ok(())
+        }
         Err(Fail::Refused(fault)) => Err(Fail::Refused(step_kind(fault))),
         Err(Fail::Memory) => Err(Fail::Memory),
     }
+}
+
+fn clause_count(kernel: &Kernel) -> usize
+    ensures { result ≡ length kernel.now.clauses }
+{
+    kernel.pool().len()
 }
 
 fn step_kind(fault: StepFault) -> CertKind
@@ -205,7 +226,8 @@ fn step_kind(fault: StepFault) -> CertKind
 
 // Closes the next question by a clause.
 fn close_next(slice: &mut OpenSlice, question: u64, clause: Ref) -> Result<(), Fail<CertKind>>
-    ensures { Leaves result (within (so_far_of slice.new)) (close_next (so_far_of slice.old) (so_far_of slice.old).left question clause) }
+    ensures named { NamesKept (so_far_of slice.old) → OnOk result (NamesKept (so_far_of slice.new)) }
+    ensures answer { Leaves result (within (so_far_of slice.new)) (close_next (so_far_of slice.old) (so_far_of slice.old).left question clause) }
 {
     if slice.closed >= slice.to_close.len() {
         return Err(Fail::Refused(CertKind::Syntax));
@@ -244,7 +266,8 @@ fn first_left(slice: &OpenSlice) -> Option<CertKind>
 }
 
 fn end_behind(count: u32, slice: &OpenSlice) -> Result<Stage, Fail<CertKind>>
-    ensures { Gives result stage_of (end_behind count ((so_far_of slice.now).slice + 1) (first_left (so_far_of slice.now).left)) }
+    ensures answer { Gives result stage_of (end_behind count ((so_far_of slice.now).slice + 1) (first_left (so_far_of slice.now).left)) }
+    ensures named { IfOk result (λ behind. AllNamed (stage_of behind)) }
 {
     if u64::from(slice.slice) + 1 != u64::from(count) {
         return Err(Fail::Refused(CertKind::Syntax));

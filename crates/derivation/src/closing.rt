@@ -1,9 +1,9 @@
 //! The questions of a slice that a certificate has to close, and what closes them.
 ghost use Rattle.std.specs.Prelude.{◌≡◌, ◌<◌, ◌^◌, ◌++◌, [], ◌∷◌, IfOk, OnOk, length};
-ghost use Rattle.derivation.specs.Stage.{is_to_close, to_close};
+ghost use Rattle.derivation.specs.Stage.{to_close};
 
 use clause_pool::{Lit, Ref};
-use clausify::{Asked, Question};
+use clausify::Asked;
 use pb_base::Memory;
 use std::alloc::Global;
 
@@ -36,7 +36,7 @@ pub fn to_close(alloc: Global, asked: &[Asked]) -> Result<Vec<ToClose>, Memory>
 fn add(all: &mut Vec<ToClose>, number: u32, asked: &Asked) -> Result<(), Memory>
     ensures { OnOk result (all.new.items ≡ all.old.items ++ to_close number (asked.now ∷ [])) }
 {
-    if !is_to_close(asked.question) {
+    if !asked.question.is_to_close() {
         return Ok(());
     }
     all.push(ToClose {
@@ -44,16 +44,4 @@ fn add(all: &mut Vec<ToClose>, number: u32, asked: &Asked) -> Result<(), Memory>
         goal: asked.goal,
     })?;
     Ok(())
-}
-fn is_to_close(question: Question) -> bool
-    ensures { result ≡ is_to_close question }
-{
-    match question {
-        Question::Void => false,
-        Question::Necessary(_) => false,
-        Question::Inadmissible(_) => false,
-        Question::Superfluous(_) => false,
-        Question::Ambiguous { .. } => true,
-        Question::Uncovered(_) => true,
-    }
 }

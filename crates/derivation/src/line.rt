@@ -1,10 +1,10 @@
 //! The lines of a certificate, each read once from its words.
-ghost use Rattle.std.specs.Prelude.{◌≡◌, None, Some, List, IfOk, if◌then◌else◌};
+ghost use Rattle.std.specs.Prelude.{◌≡◌, None, Some, List, IfOk, IfSome, if◌then◌else◌};
 ghost use Rattle.std.specs.Option.{option_map};
 ghost use Rattle.derivation.specs.CertLine.{book_from, close_from, end_from, head_from, other_from, pair_from, pairs_from, set_from, slice_from, step_from};
 ghost use Rattle.clause_pool.specs.declared.chain.Pair.{Pair};
 ghost use Rattle.derivation.specs.Kept.{line_kept, literal_kept, number_kept};
-ghost use Rattle.derivation.specs.Reading.{line_of};
+ghost use Rattle.derivation.specs.Reading.{HasPairs, line_of};
 
 use crate::pieces::Pieces;
 use crate::word::{literal, number};
@@ -37,7 +37,8 @@ pub(crate) fn read_line(
     text: &[u8],
     pairs: &mut Vec<Pair>,
 ) -> Result<Option<Line>, Memory>
-    ensures { IfOk result (λ line. line_kept text.now ≡ option_map (λ l. line_of l pairs.new.items) line) }
+    ensures line { IfOk result (λ line. line_kept text.now ≡ option_map (λ l. line_of l pairs.new.items) line) }
+    ensures pairs { IfOk result (λ line. IfSome line (λ l. HasPairs l pairs.new.items)) }
 {
     let mut words = Pieces::of(text, b' ');
     let Some(keyword) = words.next() else {
@@ -51,7 +52,8 @@ pub(crate) fn read_line(
 
 // Reads a line other than a step.
 fn read_other(alloc: Global, keyword: &[u8], words: Pieces) -> Result<Option<Line>, Memory>
-    ensures { IfOk result (λ line. (pairs : List Pair) → other_from number_kept literal_kept keyword.now words.entry ≡ option_map (λ l. line_of l pairs) line) }
+    ensures line { IfOk result (λ line. (pairs : List Pair) → other_from number_kept literal_kept keyword.now words.entry ≡ option_map (λ l. line_of l pairs) line) }
+    ensures pairs { IfOk result (λ line. (pairs : List Pair) → IfSome line (λ l. HasPairs l pairs)) }
 {
     if keyword == b"close".as_slice() {
         return Ok(read_close(words));
@@ -75,19 +77,20 @@ fn read_other(alloc: Global, keyword: &[u8], words: Pieces) -> Result<Option<Lin
 }
 
 fn read_step(mut words: Pieces, pairs: &mut Vec<Pair>) -> Result<Option<Line>, Memory>
-    ensures { IfOk result (λ line. step_from number_kept literal_kept words.entry ≡ option_map (λ l. line_of l pairs.new.items) line) }
+    ensures line { IfOk result (λ line. step_from number_kept literal_kept words.entry ≡ option_map (λ l. line_of l pairs.new.items) line) }
+    ensures pairs { IfOk result (λ line. IfSome line (λ l. HasPairs l pairs.new.items)) }
 {
     let Some(start) = words.next() else {
         return Ok(None);
     };
-    if words.is_done() {
-        return Ok(None);
-    }
     let Some(start) = number(start) else {
         return Ok(None);
     };
     let are_pairs = read_pairs(words, pairs)?;
     if !are_pairs {
+        return Ok(None);
+    }
+    if pairs.is_empty() {
         return Ok(None);
     }
     Ok(Some(Line::Step {
@@ -122,7 +125,8 @@ fn read_pair(lit: &[u8], other: &[u8]) -> Option<Pair>
 }
 
 fn read_close(mut words: Pieces) -> Option<Line>
-    ensures { (pairs : List Pair) → close_from number_kept literal_kept words.entry ≡ option_map (λ l. line_of l pairs) result }
+    ensures line { (pairs : List Pair) → close_from number_kept literal_kept words.entry ≡ option_map (λ l. line_of l pairs) result }
+    ensures pairs { (pairs : List Pair) → IfSome result (λ l. HasPairs l pairs) }
 {
     let question = words.next()?;
     let clause = words.next()?;
@@ -136,7 +140,8 @@ fn read_close(mut words: Pieces) -> Option<Line>
 
 #[tactic(auto, using(crate::proofs::ReadLaws::name_read, crate::proofs::ReadLaws::all_names_read))]
 fn read_set(alloc: Global, mut words: Pieces) -> Result<Option<Line>, Memory>
-    ensures { IfOk result (λ line. (pairs : List Pair) → set_from words.entry ≡ option_map (λ l. line_of l pairs) line) }
+    ensures line { IfOk result (λ line. (pairs : List Pair) → set_from words.entry ≡ option_map (λ l. line_of l pairs) line) }
+    ensures pairs { IfOk result (λ line. (pairs : List Pair) → IfSome line (λ l. HasPairs l pairs)) }
 {
     let mut names = CodeList::new(alloc);
     while let Some(word) = words.next() {
@@ -149,7 +154,8 @@ fn read_set(alloc: Global, mut words: Pieces) -> Result<Option<Line>, Memory>
 }
 
 fn read_slice(mut words: Pieces) -> Option<Line>
-    ensures { (pairs : List Pair) → slice_from number_kept literal_kept words.entry ≡ option_map (λ l. line_of l pairs) result }
+    ensures line { (pairs : List Pair) → slice_from number_kept literal_kept words.entry ≡ option_map (λ l. line_of l pairs) result }
+    ensures pairs { (pairs : List Pair) → IfSome result (λ l. HasPairs l pairs) }
 {
     let word = words.next()?;
     if !words.is_done() {
@@ -159,7 +165,8 @@ fn read_slice(mut words: Pieces) -> Option<Line>
 }
 
 fn read_book(mut words: Pieces) -> Option<Line>
-    ensures { (pairs : List Pair) → book_from number_kept literal_kept words.entry ≡ option_map (λ l. line_of l pairs) result }
+    ensures line { (pairs : List Pair) → book_from number_kept literal_kept words.entry ≡ option_map (λ l. line_of l pairs) result }
+    ensures pairs { (pairs : List Pair) → IfSome result (λ l. HasPairs l pairs) }
 {
     let name = words.next()?;
     let slices = words.next()?;
@@ -172,7 +179,8 @@ fn read_book(mut words: Pieces) -> Option<Line>
 }
 
 fn read_end(words: &Pieces) -> Option<Line>
-    ensures { (pairs : List Pair) → end_from words.now ≡ option_map (λ l. line_of l pairs) result }
+    ensures line { (pairs : List Pair) → end_from words.now ≡ option_map (λ l. line_of l pairs) result }
+    ensures pairs { (pairs : List Pair) → IfSome result (λ l. HasPairs l pairs) }
 {
     if words.is_done() {
         Some(Line::End)
@@ -182,7 +190,8 @@ fn read_end(words: &Pieces) -> Option<Line>
 }
 
 fn read_head(mut words: Pieces) -> Option<Line>
-    ensures { (pairs : List Pair) → head_from words.entry ≡ option_map (λ l. line_of l pairs) result }
+    ensures line { (pairs : List Pair) → head_from words.entry ≡ option_map (λ l. line_of l pairs) result }
+    ensures pairs { (pairs : List Pair) → IfSome result (λ l. HasPairs l pairs) }
 {
     let subject = words.next()?;
     let version = words.next()?;
