@@ -3,6 +3,7 @@ use Rattle.std.proofs.Common.{◌≡◌, ℕ, suc, ◌+◌, ◌-◌, ◌<◌, �
 use Rattle.std.specs.List.{filter, range_with_len}
 use Rattle.std.proofs.lemmas.Bool.{le-leb, lt-leb}
 use Rattle.std.proofs.lemmas.List.{drop_more}
+use Rattle.pb_base.specs.declared.limits.TheConstants.{MOST_SLICES}
 use Rattle.book_model.specs.Contents.{Contents}
 use Rattle.book_model.specs.Slices.{days_from_to, end_before, runs_from, periods_of, changes_at, days_of, change_days, all_slices, slices_of}
 use Rattle.book_model.specs.declared.record.Slice.{Slice}
@@ -27,18 +28,18 @@ change_days-are b first last periods days f l p is =
     ∙ ap (λ n. filter (changes_at b.first periods) (range_with_len b.first (suc (n - b.first)))) l
     ∙ ap (λ ps. filter (changes_at b.first ps) (days_of b)) p
 
-pub too_many : (b : Contents) (days : List ℕ) → days ≡ change_days b → 64 < length days → slices_of b ≡ Err (Slices (length days))
+pub too_many : (b : Contents) (days : List ℕ) → days ≡ change_days b → MOST_SLICES < length days → slices_of b ≡ Err (Slices (length days))
 unfolding slices_of
 too_many b days is many =
     let n : length (all_slices b) ≡ length days = length-runs_from (change_days b) b.last ∙ sym (ap length is) in
-    ap (λ c. cond c (Ok (all_slices b)) (Err (Slices (length (all_slices b))))) (lt-leb (length (all_slices b)) 64 (omega (arith, n))) ∙ ap (λ k. Err (Slices k)) n
+    ap (λ c. cond c (Ok (all_slices b)) (Err (Slices (length (all_slices b))))) (lt-leb (length (all_slices b)) MOST_SLICES (omega (arith, n))) ∙ ap (λ k. Err (Slices k)) n
 
 pub found : (b : Contents) (days : List ℕ) (last : ℕ) (slices : List Slice) → days ≡ change_days b → last ≡ b.last → slices ≡ runs_from days last → slices ≡ all_slices b
 found b days last slices is l runs = runs ∙ ap (λ k. runs_from days k) l ∙ ap (λ ds. runs_from ds b.last) is
 
-pub few_enough : (b : Contents) (days : List ℕ) (last : ℕ) (slices : List Slice) → days ≡ change_days b → last ≡ b.last → length days ≤ 64 → slices ≡ runs_from days last → slices_of b ≡ Ok slices
+pub few_enough : (b : Contents) (days : List ℕ) (last : ℕ) (slices : List Slice) → days ≡ change_days b → last ≡ b.last → length days ≤ MOST_SLICES → slices ≡ runs_from days last → slices_of b ≡ Ok slices
 unfolding slices_of
 few_enough b days last slices is l few runs =
     let n : length (all_slices b) ≡ length days = length-runs_from (change_days b) b.last ∙ sym (ap length is) in
     let same : all_slices b ≡ slices = sym (found b days last slices is l runs) in
-    ap (λ c. cond c (Ok (all_slices b)) (Err (Slices (length (all_slices b))))) (le-leb (length (all_slices b)) 64 (omega (arith, n))) ∙ ap (λ s. Ok s) same
+    ap (λ c. cond c (Ok (all_slices b)) (Err (Slices (length (all_slices b))))) (le-leb (length (all_slices b)) MOST_SLICES (omega (arith, n))) ∙ ap (λ s. Ok s) same

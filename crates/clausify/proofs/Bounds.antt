@@ -20,10 +20,11 @@ use Rattle.clausify.specs.Formulas.{connectives}
 use Rattle.clausify.specs.Items.{Item, variables_of, supplement_item, construct_item, usage_item, rule_items, usage_items}
 use Rattle.clausify.specs.Choices.{Choice, choices, choices_from, usage, active_variants, is_active_variant}
 use Rattle.clausify.specs.Questions.{pairs}
-use Rattle.clausify.specs.Goals.{usages_from, choice_variables, choices_variables}
-use Rattle.clausify.specs.Coded.{usages_start, slice_variables}
+use Rattle.clausify.specs.Goals.{usages_from, choice_variables, numbered_from, goals_variables}
+use Rattle.clausify.specs.Coded.{usages_start, goals_start, slice_variables}
 use Rattle.clausify.specs.declared.usage.Usage.{Usage}
 use Rattle.clausify.proofs.ItemLaws.{variables_of-append}
+use Rattle.clausify.proofs.ListLaws.{all_weaker}
 use Rattle.clausify.proofs.Remaining.{length-usages_from}
 
 connectives_below : (f : Rule) → connectives f ≤ nodes f
@@ -50,10 +51,6 @@ module _ {X : Type 0} where
         | inl e ↦ omega (arith, ap (λ (ys : List X). variables_of (map f ys)) (cond-true (w x) (x ∷ filter w xs) (filter w xs) e), variables_below w f xs h.1, h.0)
         | inr e ↦ omega (arith, ap (λ (ys : List X). variables_of (map f ys)) (cond-false (w x) (x ∷ filter w xs) (filter w xs) e), variables_below w f xs h.1)
       ]
-
-  all_weaker : (P Q : X → Type 0) → ((x : X) → P x → Q x) → (xs : List X) → AllByRecursion P xs → AllByRecursion Q xs
-  all_weaker P Q gives [] h = tt
-  all_weaker P Q gives (x ∷ xs) h = (gives x h.0, all_weaker P Q gives xs h.1)
 
 fitting_below : (n : ℕ) (f : Rule) → RuleFits n f → connectives f ≤ 512
 fitting_below n f h = omega (arith, connectives_below f, h.size)
@@ -125,13 +122,13 @@ choice_below : (mandatory : Bool) (us : List Usage) → length us ≤ 200 → ch
 choice_below true us h = omega (arith, length-pairs_below us h)
 choice_below false us h = omega (arith, length-pairs_below us h)
 
-choices_below : (b : Contents) (n v : ℕ) (cs : List Choice) → AllSmall cs → choices_variables b n v cs ≤ 40200 * length cs
-choices_below b n v [] h = omega arith
-choices_below b n v (c ∷ cs) h =
+choices_below : (b : Contents) (n v w : ℕ) (cs : List Choice) → AllSmall cs → goals_variables (numbered_from b n v w cs) ≤ 40200 * length cs
+choices_below b n v w [] h = omega arith
+choices_below b n v w (c ∷ cs) h =
     omega (
       arith,
       choice_below c.mandatory (usages_from b n v c.variants) (omega (arith, length-usages_from b n v c.variants, h.0)),
-      choices_below b n (v + variables_of (map (usage_item b) c.variants)) cs h.1,
+      choices_below b n (v + variables_of (map (usage_item b) c.variants)) (w + choice_variables c.mandatory (usages_from b n v c.variants)) cs h.1,
     )
 
 -- the variables of a slice are numbers of 32 bits
@@ -143,7 +140,7 @@ variables_fit b day book =
       rule_items_below b day book,
       usage_items_below b book (choices b day) (choices_from_small 0 b day book b.positions),
       length-choices_from 0 b day b.positions,
-      choices_below b (length b.codes) (usages_start b day) (choices b day) (choices_from_small 0 b day book b.positions),
+      choices_below b (length b.codes) (usages_start b day) (goals_start b day) (choices b day) (choices_from_small 0 b day book b.positions),
       book.positions_limit,
       book.codes_limit,
     )

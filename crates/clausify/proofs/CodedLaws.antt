@@ -6,10 +6,10 @@ use Rattle.clause_pool.specs.Literal.{literal}
 use Rattle.clause_pool.specs.Clause.{clause_of}
 use Rattle.clausify.specs.Items.{Item, item_clauses, variables_of, rule_items, usage_items, items}
 use Rattle.clausify.specs.Choices.{choices}
-use Rattle.clausify.specs.Goals.{all_usages, choices_variables, choices_clauses, choices_asked, codes_asked_from, void_asked}
-use Rattle.clausify.specs.Coded.{usages_start, goals_start, IsCoded}
-use Rattle.clausify.specs.Making.{Makes}
-use Rattle.clausify.specs.declared.maker.Maker.{Maker}
+use Rattle.clausify.specs.Goals.{all_usages, goals_variables, goals_clauses, goals_asked, codes_asked_from, void_asked}
+use Rattle.clausify.specs.Coded.{usages_start, goals_start, numbered_at, numbered_choices, IsCoded}
+use Rattle.clausify.specs.Encoding.{Encodes}
+use Rattle.clausify.specs.declared.encoder.Encoder.{Encoder}
 use Rattle.clausify.specs.declared.usage.Usage.{Usage}
 use Rattle.clausify.specs.declared.question.Asked.{Asked}
 use Rattle.clausify.specs.declared.question.Coded.{Coded}
@@ -17,7 +17,7 @@ use Rattle.clausify.proofs.ItemLaws.{item_clauses-append, variables_of-append}
 use Rattle.clausify.proofs.Bounds.{variables_fit}
 
 -- items made one list after another
-pub items_then : (m0 m1 m2 : Maker) (is js : List Item) → Makes m0 m1 (item_clauses m0.truth m0.next is) (variables_of is) → Makes m1 m2 (item_clauses m1.truth m1.next js) (variables_of js) → Makes m0 m2 (item_clauses m0.truth m0.next (is ++ js)) (variables_of (is ++ js))
+pub items_then : (m0 m1 m2 : Encoder) (is js : List Item) → Encodes m0 m1 (item_clauses m0.truth m0.next is) (variables_of is) → Encodes m1 m2 (item_clauses m1.truth m1.next js) (variables_of js) → Encodes m0 m2 (item_clauses m0.truth m0.next (is ++ js)) (variables_of (is ++ js))
 items_then m0 m1 m2 is js first second = record {
   clauses =
       second.clauses
@@ -30,13 +30,13 @@ items_then m0 m1 m2 is js first second = record {
   truth = second.truth ∙ first.truth;
 }
 
--- a maker over the codes of a book, with the first clause alone
-pub record Begun (b : Contents) (m : Maker) : Type 0 where
+-- a encoder over the codes of a book, with the first clause alone
+pub record Begun (b : Contents) (m : Encoder) : Type 0 where
   pub clauses : m.pool.clauses ≡ clause_of (literal (length b.codes) true ∷ []) ∷ []
   pub truth : m.truth ≡ length b.codes
   pub next : m.next ≡ length b.codes + 1
 
-pub begun : (b : Contents) (m : Maker) (codes : ℕ) → codes ≡ length b.codes → m.pool.clauses ≡ clause_of (literal codes true ∷ []) ∷ [] → m.truth ≡ codes → m.next ≡ codes + 1 → Begun b m
+pub begun : (b : Contents) (m : Encoder) (codes : ℕ) → codes ≡ length b.codes → m.pool.clauses ≡ clause_of (literal codes true ∷ []) ∷ [] → m.truth ≡ codes → m.next ≡ codes + 1 → Begun b m
 begun b m codes counted clauses truth next = record {
   clauses = clauses ∙ ap (λ (n : ℕ). clause_of (literal n true ∷ []) ∷ []) counted;
   truth = truth ∙ counted;
@@ -44,39 +44,42 @@ begun b m codes counted clauses truth next = record {
 }
 
 -- after the rules, after the usages
-abbrev pub RulesMade : Contents → ℕ → Maker → Maker → Type 0
-RulesMade b day m0 m1 = Makes m0 m1 (item_clauses m0.truth m0.next (rule_items b day)) (variables_of (rule_items b day))
+abbrev pub RulesMade : Contents → ℕ → Encoder → Encoder → Type 0
+RulesMade b day m0 m1 = Encodes m0 m1 (item_clauses m0.truth m0.next (rule_items b day)) (variables_of (rule_items b day))
 
-abbrev pub UsagesMade : Contents → ℕ → Maker → Maker → Type 0
-UsagesMade b day m1 m2 = Makes m1 m2 (item_clauses m1.truth m1.next (usage_items b (choices b day))) (variables_of (usage_items b (choices b day)))
+abbrev pub UsagesMade : Contents → ℕ → Encoder → Encoder → Type 0
+UsagesMade b day m1 m2 = Encodes m1 m2 (item_clauses m1.truth m1.next (usage_items b (choices b day))) (variables_of (usage_items b (choices b day)))
 
-pub rules_room : (b : Contents) (day : ℕ) (m0 : Maker) → IsBook b → Begun b m0 → m0.next + variables_of (rule_items b day) < 4294967296
+pub rules_room : (b : Contents) (day : ℕ) (m0 : Encoder) → IsBook b → Begun b m0 → m0.next + variables_of (rule_items b day) < 4294967296
 rules_room b day m0 book begin = omega (arith, begin.next, variables_fit b day book, variables_of-append (rule_items b day) (usage_items b (choices b day)))
 
-pub usages_begin : (b : Contents) (day : ℕ) (m0 m1 : Maker) → Begun b m0 → RulesMade b day m0 m1 → m1.next ≡ usages_start b day
+pub usages_begin : (b : Contents) (day : ℕ) (m0 m1 : Encoder) → Begun b m0 → RulesMade b day m0 m1 → m1.next ≡ usages_start b day
 usages_begin b day m0 m1 begin rules = rules.next ∙ ap (λ (v : ℕ). v + variables_of (rule_items b day)) begin.next
 
-pub goals_begin : (b : Contents) (day : ℕ) (m0 m1 m2 : Maker) → Begun b m0 → RulesMade b day m0 m1 → UsagesMade b day m1 m2 → m2.next ≡ goals_start b day
+pub goals_begin : (b : Contents) (day : ℕ) (m0 m1 m2 : Encoder) → Begun b m0 → RulesMade b day m0 m1 → UsagesMade b day m1 m2 → m2.next ≡ goals_start b day
 goals_begin b day m0 m1 m2 begin rules usages =
     omega (arith, begin.next, rules.next, usages.next, variables_of-append (rule_items b day) (usage_items b (choices b day)))
 
-pub usages_room : (b : Contents) (day : ℕ) (m0 m1 : Maker) → IsBook b → Begun b m0 → RulesMade b day m0 m1 → m1.next + variables_of (usage_items b (choices b day)) < 4294967296
+pub usages_room : (b : Contents) (day : ℕ) (m0 m1 : Encoder) → IsBook b → Begun b m0 → RulesMade b day m0 m1 → m1.next + variables_of (usage_items b (choices b day)) < 4294967296
 usages_room b day m0 m1 book begin rules =
     omega (arith, begin.next, rules.next, variables_fit b day book, variables_of-append (rule_items b day) (usage_items b (choices b day)))
 
-pub goals_room : (b : Contents) (day : ℕ) (m0 m1 m2 : Maker) → IsBook b → Begun b m0 → RulesMade b day m0 m1 → UsagesMade b day m1 m2 → m2.next + choices_variables b (length b.codes) (usages_start b day) (choices b day) < 4294967296
-goals_room b day m0 m1 m2 book begin rules usages = omega (arith, goals_begin b day m0 m1 m2 begin rules usages, variables_fit b day book)
+pub goals_room : (b : Contents) (day : ℕ) (m0 m1 m2 : Encoder) → IsBook b → Begun b m0 → RulesMade b day m0 m1 → UsagesMade b day m1 m2 → m2.next + goals_variables (numbered_at b day m2.next) < 4294967296
+goals_room b day m0 m1 m2 book begin rules usages =
+    let begins : m2.next ≡ goals_start b day = goals_begin b day m0 m1 m2 begin rules usages in
+    let same : goals_variables (numbered_at b day m2.next) ≡ goals_variables (numbered_choices b day) = ap (λ (w : ℕ). goals_variables (numbered_at b day w)) begins in
+    omega (arith, begins, same, variables_fit b day book)
 
-pub usages_are : (b : Contents) (day : ℕ) (m0 m1 : Maker) (us : List Usage) → Begun b m0 → RulesMade b day m0 m1 → us ≡ all_usages b m1.truth m1.next (choices b day) → us ≡ all_usages b (length b.codes) (usages_start b day) (choices b day)
+pub usages_are : (b : Contents) (day : ℕ) (m0 m1 : Encoder) (us : List Usage) → Begun b m0 → RulesMade b day m0 m1 → us ≡ all_usages b m1.truth m1.next (choices b day) → us ≡ all_usages b (length b.codes) (usages_start b day) (choices b day)
 usages_are b day m0 m1 us begin rules are =
     are ∙ ap (λ (t : ℕ). all_usages b t m1.next (choices b day)) (rules.truth ∙ begin.truth)
     ∙ ap (λ (v : ℕ). all_usages b (length b.codes) v (choices b day)) (usages_begin b day m0 m1 begin rules)
 
-pub is_coded : (b : Contents) (day void : ℕ) (m0 m1 m2 : Maker) (c : Coded) (asked0 asked1 : List Asked) → Begun b m0 → RulesMade b day m0 m1 → UsagesMade b day m1 m2
-    → c.pool.clauses ≡ m2.pool.clauses ++ choices_clauses b (length b.codes) (usages_start b day) m2.next (choices b day)
-    → c.vars ≡ m2.next + choices_variables b (length b.codes) (usages_start b day) (choices b day)
+pub is_coded : (b : Contents) (day void : ℕ) (m0 m1 m2 : Encoder) (c : Coded) (asked0 asked1 : List Asked) → Begun b m0 → RulesMade b day m0 m1 → UsagesMade b day m1 m2
+    → c.pool.clauses ≡ m2.pool.clauses ++ goals_clauses (numbered_at b day m2.next)
+    → c.vars ≡ m2.next + goals_variables (numbered_at b day m2.next)
     → void ≡ literal m2.truth true → asked0 ≡ record (void_asked (length b.codes)) { goal = void } ∷ [] → asked1 ≡ asked0 ++ codes_asked_from 0 b.codes
-    → c.questions.items ≡ asked1 ++ choices_asked b (length b.codes) (usages_start b day) m2.next (choices b day)
+    → c.questions.items ≡ asked1 ++ goals_asked (length b.codes) (numbered_at b day m2.next)
     → IsCoded b day c
 is_coded b day void m0 m1 m2 c asked0 asked1 begin rules usages clauses vars void_is first second third =
     let n : ℕ = length b.codes in
@@ -86,15 +89,15 @@ is_coded b day void m0 m1 m2 c asked0 asked1 begin rules usages clauses vars voi
     record {
       clauses =
           clauses
-          ∙ ap (λ (v : ℕ). m2.pool.clauses ++ choices_clauses b n (usages_start b day) v (choices b day)) begins
-          ∙ ap (λ (cs : List (List ℕ)). cs ++ choices_clauses b n (usages_start b day) (goals_start b day) (choices b day))
+          ∙ ap (λ (v : ℕ). m2.pool.clauses ++ goals_clauses (numbered_at b day v)) begins
+          ∙ ap (λ (cs : List (List ℕ)). cs ++ goals_clauses (numbered_choices b day))
           (made.clauses ∙ ap (λ (cs : List (List ℕ)). cs ++ item_clauses m0.truth m0.next (items b day)) begin.clauses
           ∙ ap (λ (t : ℕ). clause_of (literal n true ∷ []) ∷ item_clauses t m0.next (items b day)) begin.truth
           ∙ ap (λ (v : ℕ). clause_of (literal n true ∷ []) ∷ item_clauses n v (items b day)) begin.next);
-      variables = vars ∙ ap (λ (v : ℕ). v + choices_variables b n (usages_start b day) (choices b day)) begins;
+      variables = vars ∙ ap (λ (w : ℕ). w + goals_variables (numbered_at b day w)) begins;
       asked =
           third
-          ∙ ap (λ (v : ℕ). asked1 ++ choices_asked b n (usages_start b day) v (choices b day)) begins
-          ∙ ap (λ (qs : List Asked). qs ++ choices_asked b n (usages_start b day) (goals_start b day) (choices b day))
+          ∙ ap (λ (v : ℕ). asked1 ++ goals_asked n (numbered_at b day v)) begins
+          ∙ ap (λ (qs : List Asked). qs ++ goals_asked n (numbered_choices b day))
           (second ∙ ap (λ (qs : List Asked). qs ++ codes_asked_from 0 b.codes) (first ∙ ap (λ (l : ℕ). record (void_asked n) { goal = l } ∷ []) void_literal));
     }

@@ -7,8 +7,9 @@ use Rattle.pb_base.specs.Sets.{has}
 use Rattle.clause_pool.specs.Literal.{is_true}
 use Rattle.clause_pool.specs.Clause.{Sat}
 use Rattle.clause_pool.proofs.LiteralLaws.{is_true-complement}
-use Rattle.clausify.specs.Formulas.{connectives, literal_of, formula_clauses}
-use Rattle.clausify.proofs.Truth.{all-append, all_first, all_last, true_positive, true_negative, both_from_sat, sat_from_both, either_from_sat, sat_from_either}
+use Rattle.clausify.specs.Formulas.{connectives, formula_literal, formula_clauses}
+use Rattle.clausify.proofs.ListLaws.{all-append, all_first, all_last}
+use Rattle.clausify.proofs.Truth.{true_positive, true_negative, both_from_sat, sat_from_both, either_from_sat, sat_from_either}
 
 -- the parts of a formula that take a variable, in the order in which they take it
 abbrev pub named_in : Rule → List Rule
@@ -79,9 +80,9 @@ join_names a x v f g j h =
     (ap a (let e : v + length (named_in f ++ named_in g) ≡ v + connectives f + connectives g = omega (arith, length-append (named_in f) (named_in g), length-named_in f, length-named_in g) in e) ∙ h.joined, tt)
 
 -- the literal of a formula is then its truth
-pub denotes : (n : ℕ) (x : List Bool) (a : ℕ → Bool) → Begins n x a → (v : ℕ) (f : Rule) → codes_below n f ≡ true → Names a x v (named_in f) → is_true a (literal_of n v f) ≡ holds f x
+pub denotes : (n : ℕ) (x : List Bool) (a : ℕ → Bool) → Begins n x a → (v : ℕ) (f : Rule) → codes_below n f ≡ true → Names a x v (named_in f) → is_true a (formula_literal n v f) ≡ holds f x
 denotes n x a b v (code place) fit h = true_positive a place ∙ b.codes place (ltb-true place n fit)
-denotes n x a b v (negation f) fit h = is_true-complement a (literal_of n v f) ∙ ap not (denotes n x a b v f fit h)
+denotes n x a b v (negation f) fit h = is_true-complement a (formula_literal n v f) ∙ ap not (denotes n x a b v f fit h)
 denotes n x a b v (both f g) fit h = true_positive a (v + connectives f + connectives g) ∙ (join_parts a x v f g (both f g) h).joined
 denotes n x a b v (either f g) fit h = true_positive a (v + connectives f + connectives g) ∙ (join_parts a x v f g (either f g) h).joined
 denotes n x a b v always fit h = true_positive a n ∙ b.truth
@@ -96,14 +97,14 @@ sat_from_names n x a b v (both f g) fit h =
     let parts = join_parts a x v f g (both f g) h in
     all-append _ (formula_clauses n v f ++ formula_clauses n (v + connectives f) g) _
     (all-append _ (formula_clauses n v f) _ (sat_from_names n x a b v f fits.0 parts.left) (sat_from_names n x a b (v + connectives f) g fits.1 parts.right))
-    (sat_from_both a (v + connectives f + connectives g) (literal_of n v f) (literal_of n (v + connectives f) g) (holds f x) (holds g x)
+    (sat_from_both a (v + connectives f + connectives g) (formula_literal n v f) (formula_literal n (v + connectives f) g) (holds f x) (holds g x)
     (denotes n x a b v f fits.0 parts.left) (denotes n x a b (v + connectives f) g fits.1 parts.right) parts.joined)
 sat_from_names n x a b v (either f g) fit h =
     let fits = and_parts (codes_below n f) (codes_below n g) fit in
     let parts = join_parts a x v f g (either f g) h in
     all-append _ (formula_clauses n v f ++ formula_clauses n (v + connectives f) g) _
     (all-append _ (formula_clauses n v f) _ (sat_from_names n x a b v f fits.0 parts.left) (sat_from_names n x a b (v + connectives f) g fits.1 parts.right))
-    (sat_from_either a (v + connectives f + connectives g) (literal_of n v f) (literal_of n (v + connectives f) g) (holds f x) (holds g x)
+    (sat_from_either a (v + connectives f + connectives g) (formula_literal n v f) (formula_literal n (v + connectives f) g) (holds f x) (holds g x)
     (denotes n x a b v f fits.0 parts.left) (denotes n x a b (v + connectives f) g fits.1 parts.right) parts.joined)
 sat_from_names n x a b v always fit h = tt
 sat_from_names n x a b v never fit h = tt
@@ -120,7 +121,7 @@ names_from_sat n x a b v (both f g) fit h =
     join_names a x v f g (both f g) (record {
       left = left;
       right = right;
-      joined = both_from_sat a (v + connectives f + connectives g) (literal_of n v f) (literal_of n (v + connectives f) g) (holds f x) (holds g x)
+      joined = both_from_sat a (v + connectives f + connectives g) (formula_literal n v f) (formula_literal n (v + connectives f) g) (holds f x) (holds g x)
           (denotes n x a b v f fits.0 left) (denotes n x a b (v + connectives f) g fits.1 right)
           (all_last _ (formula_clauses n v f ++ formula_clauses n (v + connectives f) g) _ h);
     })
@@ -132,7 +133,7 @@ names_from_sat n x a b v (either f g) fit h =
     join_names a x v f g (either f g) (record {
       left = left;
       right = right;
-      joined = either_from_sat a (v + connectives f + connectives g) (literal_of n v f) (literal_of n (v + connectives f) g) (holds f x) (holds g x)
+      joined = either_from_sat a (v + connectives f + connectives g) (formula_literal n v f) (formula_literal n (v + connectives f) g) (holds f x) (holds g x)
           (denotes n x a b v f fits.0 left) (denotes n x a b (v + connectives f) g fits.1 right)
           (all_last _ (formula_clauses n v f ++ formula_clauses n (v + connectives f) g) _ h);
     })

@@ -20,11 +20,12 @@ use Rattle.clausify.specs.Formulas.{connectives, both_clauses}
 use Rattle.clausify.specs.Items.{variables_of, usage_item, usage_items}
 use Rattle.clausify.specs.Choices.{Choice, choices, choices_from, usage, active_variants}
 use Rattle.clausify.specs.Questions.{pairs, none_rule, and_none}
-use Rattle.clausify.specs.Goals.{usages_from, pair_clauses, pairs_asked, none_clauses, none_literal, uncovered_clauses, uncovered_literal, choice_variables, choice_clauses, superfluous_asked, choice_asked, choices_variables, choices_clauses, choices_asked, codes_asked_from}
+use Rattle.clausify.specs.Goals.{usages_from, pair_clauses, pairs_asked, none_clauses, none_literal, uncovered_clauses, uncovered_literal, choice_variables, choice_clauses, superfluous_asked, choice_asked, numbered_from, goals_variables, goals_clauses, goals_asked, codes_asked_from}
 use Rattle.clausify.specs.Lifting.{GoalsTrue}
 use Rattle.clausify.specs.declared.question.Question.TheVariants.{Uncovered}
 use Rattle.clausify.specs.declared.usage.Usage.{Usage}
-use Rattle.clausify.proofs.Truth.{all-append, all_first, all_last, true_positive, true_negative, both_from_sat, sat_from_both}
+use Rattle.clausify.proofs.ListLaws.{all-append, all_first, all_last, all_pairs}
+use Rattle.clausify.proofs.Truth.{true_positive, true_negative, both_from_sat, sat_from_both}
 use Rattle.clausify.proofs.FormulaLaws.{named_in, Names, Begins, length-named_in, names-append, names_first, names_last, denotes}
 use Rattle.clausify.proofs.ItemLaws.{items_named, length-items_named, items_named-append, AllFit}
 
@@ -73,13 +74,8 @@ together b p = both (usage b p.0.variant) (usage b p.1.variant)
 abbrev pub PairsRight : Contents → List Bool → (ℕ → Bool) → List (Usage × Usage) → Type 0
 PairsRight b x a ps = AllByRecursion (λ p. IsRight b x a p.0 × IsRight b x a p.1) ps
 
-pairs_with : (b : Contents) (x : List Bool) (a : ℕ → Bool) (u : Usage) (us : List Usage) → IsRight b x a u → AllRight b x a us → PairsRight b x a (map (λ (y : Usage). (u, y)) us)
-pairs_with b x a u [] h k = tt
-pairs_with b x a u (y ∷ us) h k = ((h, k.0), pairs_with b x a u us h k.1)
-
 pub pairs_right : (b : Contents) (x : List Bool) (a : ℕ → Bool) (us : List Usage) → AllRight b x a us → PairsRight b x a (pairs us)
-pairs_right b x a [] h = tt
-pairs_right b x a (u ∷ us) h = all-append _ (map (λ (y : Usage). (u, y)) us) (pairs us) (pairs_with b x a u us h.0 h.1) (pairs_right b x a us h.1)
+pairs_right b x a us h = all_pairs (IsRight b x a) us h
 
 pub sat_from_pairs : (b : Contents) (x : List Bool) (a : ℕ → Bool) (v : ℕ) (ps : List (Usage × Usage)) → PairsRight b x a ps → Names a x v (map (together b) ps) → Sat (pair_clauses v ps) a
 sat_from_pairs b x a v [] right h = tt
@@ -211,13 +207,13 @@ choices_named b n v [] = []
 choices_named b n v (c ∷ cs) =
     choice_named b c.mandatory (usages_from b n v c.variants) ++ choices_named b n (v + variables_of (map (usage_item b) c.variants)) cs
 
-pub length-choices_named : (b : Contents) (n v : ℕ) (cs : List Choice) → length (choices_named b n v cs) ≡ choices_variables b n v cs
-length-choices_named b n v [] = refl
-length-choices_named b n v (c ∷ cs) =
+pub length-choices_named : (b : Contents) (n v w : ℕ) (cs : List Choice) → length (choices_named b n v cs) ≡ goals_variables (numbered_from b n v w cs)
+length-choices_named b n v w [] = refl
+length-choices_named b n v w (c ∷ cs) =
     let more : ℕ = variables_of (map (usage_item b) c.variants) in
     length-append (choice_named b c.mandatory (usages_from b n v c.variants)) (choices_named b n (v + more) cs)
     ∙ ap (λ (k : ℕ). k + length (choices_named b n (v + more) cs)) (length-choice_named b c.mandatory (usages_from b n v c.variants))
-    ∙ ap (λ (k : ℕ). choice_variables c.mandatory (usages_from b n v c.variants) + k) (length-choices_named b n (v + more) cs)
+    ∙ ap (λ (k : ℕ). choice_variables c.mandatory (usages_from b n v c.variants) + k) (length-choices_named b n (v + more) (w + choice_variables c.mandatory (usages_from b n v c.variants)) cs)
 
 -- the names of the usages, and of the goals, of the first choice and of the later ones
 later_usages : (b : Contents) (x : List Bool) (a : ℕ → Bool) (v : ℕ) (c : Choice) (cs : List Choice) → Names a x v (items_named (usage_items b (c ∷ cs)))
@@ -235,7 +231,7 @@ later_goals b x a n v w c cs h =
     subst (λ (k : ℕ). Names a x (w + k) (choices_named b n (v + variables_of (map (usage_item b) c.variants)) cs)) (length-choice_named b c.mandatory (usages_from b n v c.variants))
     (names_last a x w (choice_named b c.mandatory (usages_from b n v c.variants)) _ h)
 
-pub sat_from_choices : (b : Contents) → UsagesFit b → (x : List Bool) (a : ℕ → Bool) → Begins (length b.codes) x a → (v w : ℕ) (cs : List Choice) → Names a x v (items_named (usage_items b cs)) → Names a x w (choices_named b (length b.codes) v cs) → Sat (choices_clauses b (length b.codes) v w cs) a
+pub sat_from_choices : (b : Contents) → UsagesFit b → (x : List Bool) (a : ℕ → Bool) → Begins (length b.codes) x a → (v w : ℕ) (cs : List Choice) → Names a x v (items_named (usage_items b cs)) → Names a x w (choices_named b (length b.codes) v cs) → Sat (goals_clauses (numbered_from b (length b.codes) v w cs)) a
 sat_from_choices b fit x a begins v w [] us h = tt
 sat_from_choices b fit x a begins v w (c ∷ cs) us h =
     let usages = later_usages b x a v c cs us in
@@ -245,7 +241,7 @@ sat_from_choices b fit x a begins v w (c ∷ cs) us h =
     (sat_from_choices b fit x a begins (v + variables_of (map (usage_item b) c.variants)) (w + choice_variables c.mandatory (usages_from b (length b.codes) v c.variants)) cs usages.1
     (later_goals b x a (length b.codes) v w c cs h))
 
-pub names_from_choices : (b : Contents) → UsagesFit b → (x : List Bool) (a : ℕ → Bool) → Begins (length b.codes) x a → (v w : ℕ) (cs : List Choice) → Names a x v (items_named (usage_items b cs)) → Sat (choices_clauses b (length b.codes) v w cs) a → Names a x w (choices_named b (length b.codes) v cs)
+pub names_from_choices : (b : Contents) → UsagesFit b → (x : List Bool) (a : ℕ → Bool) → Begins (length b.codes) x a → (v w : ℕ) (cs : List Choice) → Names a x v (items_named (usage_items b cs)) → Sat (goals_clauses (numbered_from b (length b.codes) v w cs)) a → Names a x w (choices_named b (length b.codes) v cs)
 names_from_choices b fit x a begins v w [] us h = tt
 names_from_choices b fit x a begins v w (c ∷ cs) us h =
     let usages = later_usages b x a v c cs us in
@@ -271,7 +267,7 @@ choices_from_active i b day (p ∷ ps) =
 pub choices_active : (b : Contents) (day : ℕ) → AreActive b day (choices b day)
 choices_active b day = choices_from_active 0 b day b.positions
 
-pub choices_goals : (b : Contents) (day : ℕ) → UsagesFit b → (x : List Bool) (a : ℕ → Bool) → Begins (length b.codes) x a → (v w : ℕ) (cs : List Choice) → AreActive b day cs → Names a x v (items_named (usage_items b cs)) → Names a x w (choices_named b (length b.codes) v cs) → GoalsTrue b day x a (choices_asked b (length b.codes) v w cs)
+pub choices_goals : (b : Contents) (day : ℕ) → UsagesFit b → (x : List Bool) (a : ℕ → Bool) → Begins (length b.codes) x a → (v w : ℕ) (cs : List Choice) → AreActive b day cs → Names a x v (items_named (usage_items b cs)) → Names a x w (choices_named b (length b.codes) v cs) → GoalsTrue b day x a (goals_asked (length b.codes) (numbered_from b (length b.codes) v w cs))
 choices_goals b day fit x a begins v w [] active us h = tt
 choices_goals b day fit x a begins v w (c ∷ cs) active us h =
     let usages = later_usages b x a v c cs us in

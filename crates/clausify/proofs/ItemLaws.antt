@@ -16,9 +16,10 @@ use Rattle.book_model.specs.declared.record.Construct.{Construct}
 use Rattle.clause_pool.specs.Literal.{literal, complement, is_true}
 use Rattle.clause_pool.specs.Clause.{Sat}
 use Rattle.clause_pool.proofs.LiteralLaws.{is_true-complement}
-use Rattle.clausify.specs.Formulas.{connectives, literal_of, formula_clauses}
+use Rattle.clausify.specs.Formulas.{connectives, formula_literal, formula_clauses}
 use Rattle.clausify.specs.Items.{Demand, adds, needed_by, needed, free, Item, demand_clauses, variables_of, item_clauses, demand_on, supplement_item, construct_item, rule_items}
-use Rattle.clausify.proofs.Truth.{all-append, all_first, all_last, true_positive, true_negative, one_true, two_true}
+use Rattle.clausify.proofs.ListLaws.{all-append, all_first, all_last}
+use Rattle.clausify.proofs.Truth.{true_positive, true_negative, one_true, two_true}
 use Rattle.clausify.proofs.FormulaLaws.{named_in, Names, Begins, length-named_in, names-append, names_first, names_last, denotes, sat_from_names, names_from_sat}
 
 -- the demand is met where the formula has this truth
@@ -90,8 +91,8 @@ variables_of-append (i ∷ is) js = omega (arith, variables_of-append is js)
 pub item_clauses-append : (n v : ℕ) (is js : List Item) → item_clauses n v (is ++ js) ≡ item_clauses n v is ++ item_clauses n (v + variables_of is) js
 item_clauses-append n v [] js = ap (λ (w : ℕ). item_clauses n w js) (let e : v ≡ v + 0 = omega arith in e)
 item_clauses-append n v (i ∷ is) js =
-    ap (λ (cs : List (List ℕ)). formula_clauses n v i.rule ++ demand_clauses i.demand (literal_of n v i.rule) ++ cs) (item_clauses-append n (v + connectives i.rule) is js)
-    ∙ sym (append_assoc (formula_clauses n v i.rule ++ demand_clauses i.demand (literal_of n v i.rule)) (item_clauses n (v + connectives i.rule) is) _)
+    ap (λ (cs : List (List ℕ)). formula_clauses n v i.rule ++ demand_clauses i.demand (formula_literal n v i.rule) ++ cs) (item_clauses-append n (v + connectives i.rule) is js)
+    ∙ sym (append_assoc (formula_clauses n v i.rule ++ demand_clauses i.demand (formula_literal n v i.rule)) (item_clauses n (v + connectives i.rule) is) _)
     ∙ ap (λ (w : ℕ). item_clauses n v (i ∷ is) ++ item_clauses n w js) (let e : v + connectives i.rule + variables_of is ≡ v + variables_of (i ∷ is) = omega arith in e)
 
 first_names : (a : ℕ → Bool) (x : List Bool) (v : ℕ) (i : Item) (is : List Item) → Names a x v (items_named (i ∷ is)) → Names a x v (named_in i.rule)
@@ -105,17 +106,17 @@ sat_from_items n x a b v [] fit names met = tt
 sat_from_items n x a b v (i ∷ is) fit names met =
     let fits = and_parts (codes_below n i.rule) (demand_fits n i.demand) fit.0 in
     let here = first_names a x v i is names in
-    all-append _ (formula_clauses n v i.rule ++ demand_clauses i.demand (literal_of n v i.rule)) _
+    all-append _ (formula_clauses n v i.rule ++ demand_clauses i.demand (formula_literal n v i.rule)) _
     (all-append _ (formula_clauses n v i.rule) _ (sat_from_names n x a b v i.rule fits.0 here)
-    (sat_from_demand n x a b i.demand (literal_of n v i.rule) (holds i.rule x) fits.1 (denotes n x a b v i.rule fits.0 here) met.0))
+    (sat_from_demand n x a b i.demand (formula_literal n v i.rule) (holds i.rule x) fits.1 (denotes n x a b v i.rule fits.0 here) met.0))
     (sat_from_items n x a b (v + connectives i.rule) is fit.1 (later_names a x v i is names) met.1)
 
 pub names_from_items : (n : ℕ) (x : List Bool) (a : ℕ → Bool) → Begins n x a → (v : ℕ) (is : List Item) → AllFit n is → Sat (item_clauses n v is) a → Names a x v (items_named is)
 names_from_items n x a b v [] fit h = tt
 names_from_items n x a b v (i ∷ is) fit h =
     let fits = and_parts (codes_below n i.rule) (demand_fits n i.demand) fit.0 in
-    let own = all_first _ (formula_clauses n v i.rule ++ demand_clauses i.demand (literal_of n v i.rule)) _ h in
-    let rest = all_last _ (formula_clauses n v i.rule ++ demand_clauses i.demand (literal_of n v i.rule)) _ h in
+    let own = all_first _ (formula_clauses n v i.rule ++ demand_clauses i.demand (formula_literal n v i.rule)) _ h in
+    let rest = all_last _ (formula_clauses n v i.rule ++ demand_clauses i.demand (formula_literal n v i.rule)) _ h in
     names-append a x v (named_in i.rule) (items_named is)
     (names_from_sat n x a b v i.rule fits.0 (all_first _ (formula_clauses n v i.rule) _ own))
     (subst (λ (k : ℕ). Names a x (v + k) (items_named is)) (sym (length-named_in i.rule)) (names_from_items n x a b (v + connectives i.rule) is fit.1 rest))
@@ -124,10 +125,10 @@ pub meets_from_items : (n : ℕ) (x : List Bool) (a : ℕ → Bool) → Begins n
 meets_from_items n x a b v [] fit h = tt
 meets_from_items n x a b v (i ∷ is) fit h =
     let fits = and_parts (codes_below n i.rule) (demand_fits n i.demand) fit.0 in
-    let own = all_first _ (formula_clauses n v i.rule ++ demand_clauses i.demand (literal_of n v i.rule)) _ h in
-    let rest = all_last _ (formula_clauses n v i.rule ++ demand_clauses i.demand (literal_of n v i.rule)) _ h in
+    let own = all_first _ (formula_clauses n v i.rule ++ demand_clauses i.demand (formula_literal n v i.rule)) _ h in
+    let rest = all_last _ (formula_clauses n v i.rule ++ demand_clauses i.demand (formula_literal n v i.rule)) _ h in
     let names = names_from_sat n x a b v i.rule fits.0 (all_first _ (formula_clauses n v i.rule) _ own) in (
-      demand_from_sat n x a b i.demand (literal_of n v i.rule) (holds i.rule x) fits.1 (denotes n x a b v i.rule fits.0 names) (all_last _ (formula_clauses n v i.rule) _ own),
+      demand_from_sat n x a b i.demand (formula_literal n v i.rule) (holds i.rule x) fits.1 (denotes n x a b v i.rule fits.0 names) (all_last _ (formula_clauses n v i.rule) _ own),
       meets_from_items n x a b (v + connectives i.rule) is fit.1 rest,
     )
 

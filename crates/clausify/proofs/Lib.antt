@@ -1,5 +1,7 @@
+pub mod ListLaws
 pub mod Truth
 pub mod FormulaLaws
+pub mod NodeLaws
 pub mod ItemLaws
 pub mod GoalLaws
 pub mod SliceLaws
@@ -9,4 +11,6 @@ pub mod CountLaws
 pub mod SteadyLaws
 pub mod CodedLaws
 pub mod QuestionLaws
+pub mod RangeLaws
+pub mod MeetLaws
 mod SmallBook

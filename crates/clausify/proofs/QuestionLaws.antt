@@ -7,7 +7,7 @@ use Rattle.clausify.specs.Formulas.{connectives}
 use Rattle.clausify.specs.Items.{variables_of, usage_item}
 use Rattle.clausify.specs.Choices.{Choice, choices, usage}
 use Rattle.clausify.specs.Questions.{pairs, questions, choice_questions, uncovered_question, code_questions_from}
-use Rattle.clausify.specs.Goals.{usages_from, pairs_asked, superfluous_asked, uncovered_asked, choice_asked, choice_variables, choices_asked, codes_asked_from}
+use Rattle.clausify.specs.Goals.{usages_from, pairs_asked, superfluous_asked, uncovered_asked, choice_asked, choice_variables, numbered_from, goals_asked, codes_asked_from}
 use Rattle.clausify.specs.Coded.{usages_start, goals_start, slice_asked}
 use Rattle.clausify.specs.declared.question.Asked.{Asked}
 use Rattle.clausify.specs.declared.question.Question.{Question}
@@ -67,18 +67,18 @@ choice_in_order n w c us are =
     (pairs_in_order c.position w (pairs us) ∙ ap (map (ambiguous c.position)) (pairs_of_variants us ∙ ap (λ (vs : List ℕ). pairs vs) are))
     ∙ ap (λ (qs : List Question). map Superfluous c.variants ++ map (ambiguous c.position) (pairs c.variants) ++ qs) (uncovered_in_order n (w + length (pairs us)) c.position c.mandatory us)
 
-choices_in_order : (b : Contents) (n v w : ℕ) (cs : List Choice) → map question_of (choices_asked b n v w cs) ≡ flat_map choice_questions cs
+choices_in_order : (b : Contents) (n v w : ℕ) (cs : List Choice) → map question_of (goals_asked n (numbered_from b n v w cs)) ≡ flat_map choice_questions cs
 choices_in_order b n v w [] = refl
 choices_in_order b n v w (c ∷ cs) =
     let us : List Usage = usages_from b n v c.variants in
-    let rest : List Asked = choices_asked b n (v + variables_of (map (usage_item b) c.variants)) (w + choice_variables c.mandatory us) cs in
+    let rest : List Asked = goals_asked n (numbered_from b n (v + variables_of (map (usage_item b) c.variants)) (w + choice_variables c.mandatory us) cs) in
     map-append question_of (choice_asked n w c.position c.mandatory us) rest
     ∙ ap (λ (qs : List Question). qs ++ map question_of rest) (choice_in_order n w c us (variants_in_order b n v c.variants))
     ∙ ap (λ (qs : List Question). choice_questions c ++ qs) (choices_in_order b n (v + variables_of (map (usage_item b) c.variants)) (w + choice_variables c.mandatory us) cs)
 
 pub asked_in_order : (b : Contents) (day : ℕ) → map (λ (q : Asked). q.question) (slice_asked b day) ≡ questions b day
 asked_in_order b day =
-    let rest : List Asked = choices_asked b (length b.codes) (usages_start b day) (goals_start b day) (choices b day) in
+    let rest : List Asked = goals_asked (length b.codes) (numbered_from b (length b.codes) (usages_start b day) (goals_start b day) (choices b day)) in
     ap (λ (qs : List Question). Void ∷ qs)
     (map-append question_of (codes_asked_from 0 b.codes) rest
     ∙ ap (λ (qs : List Question). qs ++ map question_of rest) (codes_in_order 0 b.codes)

@@ -12,24 +12,24 @@ use Rattle.clausify.specs.Items.{Item, item_clauses, variables_of, usage_item, u
 use Rattle.clausify.specs.Choices.{Choice, choices_from, active_variants, usage}
 use Rattle.clause_pool.specs.Literal.{literal}
 use Rattle.clausify.specs.Questions.{pairs}
-use Rattle.clausify.specs.Goals.{usages_from, all_usages, codes_asked_from, pair_clauses, pairs_asked, choice_variables, choice_clauses, choice_asked, choices_variables, choices_clauses, choices_asked}
+use Rattle.clausify.specs.Goals.{usages_from, all_usages, codes_asked_from, pair_clauses, pairs_asked, choice_variables, choice_clauses, choice_asked, numbered_from, goals_variables, goals_clauses, goals_asked}
 use Rattle.clausify.specs.declared.question.Asked.{Asked}
 use Rattle.clausify.specs.declared.question.Question.TheVariants.{Necessary, Inadmissible, Ambiguous}
 use Rattle.clausify.specs.declared.usage.Usage.{Usage}
 use Rattle.clausify.proofs.ItemLaws.{item_clauses-append, variables_of-append}
-use Rattle.clausify.specs.Making.{Makes}
-use Rattle.clausify.specs.declared.maker.Maker.{Maker}
+use Rattle.clausify.specs.Encoding.{Encodes}
+use Rattle.clausify.specs.declared.encoder.Encoder.{Encoder}
 
-pub record ItemsLeft (start m : Maker) (all rest : List Item) : Type 0 where
+pub record ItemsLeft (start m : Encoder) (all rest : List Item) : Type 0 where
   pub clauses : m.pool.clauses ++ item_clauses start.truth m.next rest ≡ start.pool.clauses ++ item_clauses start.truth start.next all
   pub next : m.next + variables_of rest ≡ start.next + variables_of all
   pub truth : m.truth ≡ start.truth
 
 -- a loop over records: the items of the active ones that are left
-abbrev pub ActiveLeft : {X : Type 0} → (X → Bool) → (X → Item) → Maker → Maker → List X → ℕ → Type 0
+abbrev pub ActiveLeft : {X : Type 0} → (X → Bool) → (X → Item) → Encoder → Encoder → List X → ℕ → Type 0
 ActiveLeft w f start m xs i = ItemsLeft start m (map f (filter w xs)) (map f (filter w (drop i xs)))
 
-pub items_many : (start m more : Maker) (all is rest : List Item) → ItemsLeft start m all (is ++ rest) → Makes m more (item_clauses m.truth m.next is) (variables_of is) → ItemsLeft start more all rest
+pub items_many : (start m more : Encoder) (all is rest : List Item) → ItemsLeft start m all (is ++ rest) → Encodes m more (item_clauses m.truth m.next is) (variables_of is) → ItemsLeft start more all rest
 items_many start m more all is rest left made = record {
   clauses =
       ap (λ (cs : List (List ℕ)). cs ++ item_clauses start.truth more.next rest) made.clauses
@@ -62,12 +62,12 @@ choices_passed b day ps i p within read e =
     ∙ ap (choices_left b day ps) (let s : suc i ≡ i + 1 = omega arith in s)
 
 -- how far the usages have come
-pub record UsagesLeft (b : Contents) (start m : Maker) (us : List Usage) (all rest : List Choice) : Type 0 where
+pub record UsagesLeft (b : Contents) (start m : Encoder) (us : List Usage) (all rest : List Choice) : Type 0 where
   pub items : ItemsLeft start m (usage_items b all) (usage_items b rest)
   pub usages : us ++ all_usages b start.truth m.next rest ≡ all_usages b start.truth start.next all
 
-pub usages_step : (b : Contents) (start m more : Maker) (us us' : List Usage) (all rest rest' : List Choice) (c : Choice) → UsagesLeft b start m us all rest → rest ≡ c ∷ rest'
-    → Makes m more (item_clauses m.truth m.next (map (usage_item b) c.variants)) (variables_of (map (usage_item b) c.variants))
+pub usages_step : (b : Contents) (start m more : Encoder) (us us' : List Usage) (all rest rest' : List Choice) (c : Choice) → UsagesLeft b start m us all rest → rest ≡ c ∷ rest'
+    → Encodes m more (item_clauses m.truth m.next (map (usage_item b) c.variants)) (variables_of (map (usage_item b) c.variants))
     → us' ≡ us ++ usages_from b m.truth m.next c.variants → UsagesLeft b start more us' all rest'
 usages_step b start m more us us' all rest rest' c left is made added =
     let items : ItemsLeft start m (usage_items b all) (map (usage_item b) c.variants ++ usage_items b rest') =
@@ -84,7 +84,7 @@ usages_step b start m more us us' all rest rest' c left is made added =
     }
 
 -- there is room for the variables of the next choice
-pub usages_room : (b : Contents) (start m : Maker) (us : List Usage) (all rest rest' : List Choice) (c : Choice) (limit : ℕ) → UsagesLeft b start m us all rest → rest ≡ c ∷ rest'
+pub usages_room : (b : Contents) (start m : Encoder) (us : List Usage) (all rest rest' : List Choice) (c : Choice) (limit : ℕ) → UsagesLeft b start m us all rest → rest ≡ c ∷ rest'
     → start.next + variables_of (usage_items b all) < limit → m.next + variables_of (map (usage_item b) c.variants) < limit
 usages_room b start m us all rest rest' c limit left is room =
     let items : ItemsLeft start m (usage_items b all) (map (usage_item b) c.variants ++ usage_items b rest') =
@@ -125,14 +125,14 @@ pairs_asked_split position v (p ∷ ps) qs =
     ∙ ap (λ (w : ℕ). pairs_asked position v (p ∷ ps) ++ pairs_asked position w qs) (let e : v + 1 + length ps ≡ v + length (p ∷ ps) = omega arith in e)
 
 -- how far the pairs have come
-pub record PairsLeft (start m : Maker) (asked0 asked : List Asked) (position : ℕ) (all rest : List (Usage × Usage)) : Type 0 where
+pub record PairsLeft (start m : Encoder) (asked0 asked : List Asked) (position : ℕ) (all rest : List (Usage × Usage)) : Type 0 where
   pub clauses : m.pool.clauses ++ pair_clauses m.next rest ≡ start.pool.clauses ++ pair_clauses start.next all
   pub next : m.next + length rest ≡ start.next + length all
   pub truth : m.truth ≡ start.truth
   pub asked_then : asked ++ pairs_asked position m.next rest ≡ asked0 ++ pairs_asked position start.next all
 
-pub pairs_step : (start m more : Maker) (asked0 asked asked' : List Asked) (position : ℕ) (all rest ps qs : List (Usage × Usage)) → PairsLeft start m asked0 asked position all rest → rest ≡ ps ++ qs
-    → Makes m more (pair_clauses m.next ps) (length ps) → asked' ≡ asked ++ pairs_asked position m.next ps → PairsLeft start more asked0 asked' position all qs
+pub pairs_step : (start m more : Encoder) (asked0 asked asked' : List Asked) (position : ℕ) (all rest ps qs : List (Usage × Usage)) → PairsLeft start m asked0 asked position all rest → rest ≡ ps ++ qs
+    → Encodes m more (pair_clauses m.next ps) (length ps) → asked' ≡ asked ++ pairs_asked position m.next ps → PairsLeft start more asked0 asked' position all qs
 pairs_step start m more asked0 asked asked' position all rest ps qs left is made added = record {
   clauses =
       ap (λ (cs : List (List ℕ)). cs ++ pair_clauses more.next qs) made.clauses
@@ -151,13 +151,13 @@ pairs_step start m more asked0 asked asked' position all rest ps qs left is made
 }
 
 -- one usage with the later ones
-pub pairs_with_step : (start m more : Maker) (asked0 asked asked' : List Asked) (position i : ℕ) (us later : List Usage) (first : Usage) → PairsLeft start m asked0 asked position (pairs us) (pairs (drop i us)) → i < length us → first ≡ get_or us i first → later ≡ drop (i + 1) us
-    → Makes m more (pair_clauses m.next (map (λ (u : Usage). (first, u)) later)) (length later) → asked' ≡ asked ++ pairs_asked position m.next (map (λ (u : Usage). (first, u)) later)
+pub pairs_with_step : (start m more : Encoder) (asked0 asked asked' : List Asked) (position i : ℕ) (us later : List Usage) (first : Usage) → PairsLeft start m asked0 asked position (pairs us) (pairs (drop i us)) → i < length us → first ≡ get_or us i first → later ≡ drop (i + 1) us
+    → Encodes m more (pair_clauses m.next (map (λ (u : Usage). (first, u)) later)) (length later) → asked' ≡ asked ++ pairs_asked position m.next (map (λ (u : Usage). (first, u)) later)
     → PairsLeft start more asked0 asked' position (pairs us) (pairs (drop (i + 1) us))
 pairs_with_step start m more asked0 asked asked' position i us later first left within read is made added =
     pairs_step start m more asked0 asked asked' position (pairs us) (pairs (drop i us)) (map (λ (u : Usage). (first, u)) later) (pairs (drop (i + 1) us)) left
     (pairs_next us i first within read ∙ ap (λ (xs : List Usage). map (λ (u : Usage). (first, u)) xs ++ pairs (drop (i + 1) us)) (sym is))
-    (subst (λ (k : ℕ). Makes m more (pair_clauses m.next (map (λ (u : Usage). (first, u)) later)) k) (sym (length-map later (λ (u : Usage). (first, u)))) made)
+    (subst (λ (k : ℕ). Encodes m more (pair_clauses m.next (map (λ (u : Usage). (first, u)) later)) k) (sym (length-map later (λ (u : Usage). (first, u)))) made)
     added
 
 pub length-usages_from : (b : Contents) (n v : ℕ) (variants : List ℕ) → length (usages_from b n v variants) ≡ length variants
@@ -165,12 +165,12 @@ length-usages_from b n v [] = refl
 length-usages_from b n v (variant ∷ variants) = ap suc (length-usages_from b n (v + connectives (usage b variant)) variants)
 
 -- how far the choices have come: the usages of those that are left begin at some variable
-pub record ChoicesLeft (b : Contents) (n : ℕ) (start m : Maker) (asked0 asked : List Asked) (us : List Usage) (first : ℕ) (all rest : List Choice) : Type 0 where
+pub record ChoicesLeft (b : Contents) (n : ℕ) (start m : Encoder) (asked0 asked : List Asked) (us : List Usage) (first : ℕ) (all rest : List Choice) : Type 0 where
   pub at : ℕ
   pub usages : us ≡ all_usages b n at rest
-  pub clauses : m.pool.clauses ++ choices_clauses b n at m.next rest ≡ start.pool.clauses ++ choices_clauses b n first start.next all
-  pub next : m.next + choices_variables b n at rest ≡ start.next + choices_variables b n first all
-  pub asked_then : asked ++ choices_asked b n at m.next rest ≡ asked0 ++ choices_asked b n first start.next all
+  pub clauses : m.pool.clauses ++ goals_clauses (numbered_from b n at m.next rest) ≡ start.pool.clauses ++ goals_clauses (numbered_from b n first start.next all)
+  pub next : m.next + goals_variables (numbered_from b n at m.next rest) ≡ start.next + goals_variables (numbered_from b n first start.next all)
+  pub asked_then : asked ++ goals_asked n (numbered_from b n at m.next rest) ≡ asked0 ++ goals_asked n (numbered_from b n first start.next all)
   pub truth : m.truth ≡ n
 
 -- the usages of the first choice, and those of the later ones
@@ -191,19 +191,20 @@ own_usages b n at us c all rest count are is counted =
       later = ap (drop count) split ∙ ap (λ (k : ℕ). drop k (own ++ later)) len ∙ drop_at own later (length own) refl;
     }
 
-pub choices_room : (b : Contents) (n : ℕ) (start m : Maker) (asked0 asked : List Asked) (us own : List Usage) (first limit : ℕ) (all rest rest' : List Choice) (c : Choice) (count : ℕ)
+pub choices_room : (b : Contents) (n : ℕ) (start m : Encoder) (asked0 asked : List Asked) (us own : List Usage) (first limit : ℕ) (all rest rest' : List Choice) (c : Choice) (count : ℕ)
     → (left : ChoicesLeft b n start m asked0 asked us first all rest) → rest ≡ c ∷ rest' → count ≡ length c.variants → own ≡ take count us
-    → start.next + choices_variables b n first all < limit → m.next + choice_variables c.mandatory own < limit
+    → start.next + goals_variables (numbered_from b n first start.next all) < limit → m.next + choice_variables c.mandatory own < limit
 choices_room b n start m asked0 asked us own first limit all rest rest' c count left is counted taken room =
     let parts = own_usages b n left.at us c rest rest' count left.usages is counted in
-    let total : choices_variables b n left.at rest ≡ choice_variables c.mandatory (usages_from b n left.at c.variants) + choices_variables b n (left.at + variables_of (map (usage_item b) c.variants)) rest' =
-    ap (choices_variables b n left.at) is in
+    let taken_own : ℕ = choice_variables c.mandatory (usages_from b n left.at c.variants) in
+    let total : goals_variables (numbered_from b n left.at m.next rest) ≡ taken_own + goals_variables (numbered_from b n (left.at + variables_of (map (usage_item b) c.variants)) (m.next + taken_own) rest') =
+    ap (λ (cs : List Choice). goals_variables (numbered_from b n left.at m.next cs)) is in
     let same : choice_variables c.mandatory own ≡ choice_variables c.mandatory (usages_from b n left.at c.variants) = ap (choice_variables c.mandatory) (taken ∙ parts.own) in
     omega (arith, left.next, total, same)
 
-pub choices_step : (b : Contents) (n : ℕ) (start m more : Maker) (asked0 asked asked' : List Asked) (us own later : List Usage) (first : ℕ) (all rest rest' : List Choice) (c : Choice) (count : ℕ)
+pub choices_step : (b : Contents) (n : ℕ) (start m more : Encoder) (asked0 asked asked' : List Asked) (us own later : List Usage) (first : ℕ) (all rest rest' : List Choice) (c : Choice) (count : ℕ)
     → ChoicesLeft b n start m asked0 asked us first all rest → rest ≡ c ∷ rest' → count ≡ length c.variants → own ≡ take count us → later ≡ drop count us
-    → Makes m more (choice_clauses m.next c.mandatory own) (choice_variables c.mandatory own)
+    → Encodes m more (choice_clauses m.next c.mandatory own) (choice_variables c.mandatory own)
     → asked' ≡ asked ++ choice_asked m.truth m.next c.position c.mandatory own
     → ChoicesLeft b n start more asked0 asked' later first all rest'
 choices_step b n start m more asked0 asked asked' us own later first all rest rest' c count left is counted taken dropped made added =
@@ -215,22 +216,24 @@ choices_step b n start m more asked0 asked asked' us own later first all rest re
       at = after;
       usages = dropped ∙ parts.later;
       clauses =
-          ap (λ (cs : List (List ℕ)). cs ++ choices_clauses b n after more.next rest') made.clauses
-          ∙ ap (λ (vs : List Usage). m.pool.clauses ++ choice_clauses m.next c.mandatory vs ++ choices_clauses b n after more.next rest') own_is
-          ∙ ap (λ (v : ℕ). m.pool.clauses ++ choice_clauses m.next c.mandatory (usages_from b n left.at c.variants) ++ choices_clauses b n after v rest') next_is
+          ap (λ (cs : List (List ℕ)). cs ++ goals_clauses (numbered_from b n after more.next rest')) made.clauses
+          ∙ ap (λ (vs : List Usage). m.pool.clauses ++ choice_clauses m.next c.mandatory vs ++ goals_clauses (numbered_from b n after more.next rest')) own_is
+          ∙ ap (λ (v : ℕ). m.pool.clauses ++ choice_clauses m.next c.mandatory (usages_from b n left.at c.variants) ++ goals_clauses (numbered_from b n after v rest')) next_is
           ∙ append_assoc m.pool.clauses (choice_clauses m.next c.mandatory (usages_from b n left.at c.variants)) _
-          ∙ ap (λ (cs : List Choice). m.pool.clauses ++ choices_clauses b n left.at m.next cs) (sym is)
+          ∙ ap (λ (cs : List Choice). m.pool.clauses ++ goals_clauses (numbered_from b n left.at m.next cs)) (sym is)
           ∙ left.clauses;
       next =
-          let total : choices_variables b n left.at rest ≡ choice_variables c.mandatory (usages_from b n left.at c.variants) + choices_variables b n after rest' = ap (choices_variables b n left.at) is in
+          let total : goals_variables (numbered_from b n left.at m.next rest) ≡ choice_variables c.mandatory (usages_from b n left.at c.variants) + goals_variables (numbered_from b n after more.next rest') =
+          ap (λ (cs : List Choice). goals_variables (numbered_from b n left.at m.next cs)) is
+          ∙ ap (λ (w : ℕ). choice_variables c.mandatory (usages_from b n left.at c.variants) + goals_variables (numbered_from b n after w rest')) (sym next_is) in
           omega (arith, next_is, left.next, total);
       asked_then =
-          ap (λ (qs : List Asked). qs ++ choices_asked b n after more.next rest') added
-          ∙ ap (λ (t : ℕ). asked ++ choice_asked t m.next c.position c.mandatory own ++ choices_asked b n after more.next rest') left.truth
-          ∙ ap (λ (vs : List Usage). asked ++ choice_asked n m.next c.position c.mandatory vs ++ choices_asked b n after more.next rest') own_is
-          ∙ ap (λ (v : ℕ). asked ++ choice_asked n m.next c.position c.mandatory (usages_from b n left.at c.variants) ++ choices_asked b n after v rest') next_is
+          ap (λ (qs : List Asked). qs ++ goals_asked n (numbered_from b n after more.next rest')) added
+          ∙ ap (λ (t : ℕ). asked ++ choice_asked t m.next c.position c.mandatory own ++ goals_asked n (numbered_from b n after more.next rest')) left.truth
+          ∙ ap (λ (vs : List Usage). asked ++ choice_asked n m.next c.position c.mandatory vs ++ goals_asked n (numbered_from b n after more.next rest')) own_is
+          ∙ ap (λ (v : ℕ). asked ++ choice_asked n m.next c.position c.mandatory (usages_from b n left.at c.variants) ++ goals_asked n (numbered_from b n after v rest')) next_is
           ∙ append_assoc asked (choice_asked n m.next c.position c.mandatory (usages_from b n left.at c.variants)) _
-          ∙ ap (λ (cs : List Choice). asked ++ choices_asked b n left.at m.next cs) (sym is)
+          ∙ ap (λ (cs : List Choice). asked ++ goals_asked n (numbered_from b n left.at m.next cs)) (sym is)
           ∙ left.asked_then;
       truth = made.truth ∙ left.truth;
     }

@@ -10,10 +10,11 @@ use Rattle.clause_pool.specs.Literal.{literal}
 use Rattle.clause_pool.specs.Clause.{Sat}
 use Rattle.clausify.specs.Items.{rule_items, usage_items, items, item_clauses, variables_of, usage_item}
 use Rattle.clausify.specs.Choices.{Choice, choices}
-use Rattle.clausify.specs.Goals.{choices_variables, codes_asked_from}
-use Rattle.clausify.specs.Coded.{usages_start, goals_start, slice_clauses, slice_variables, slice_asked}
+use Rattle.clausify.specs.Goals.{goals_variables, codes_asked_from}
+use Rattle.clausify.specs.Coded.{usages_start, goals_start, numbered_choices, slice_clauses, slice_variables, slice_asked}
 use Rattle.clausify.specs.Lifting.{BeginsWith, GoalsTrue, CodesGoodSets}
-use Rattle.clausify.proofs.Truth.{all-append, all_first, all_last, true_positive, one_true}
+use Rattle.clausify.proofs.ListLaws.{all-append, all_first, all_last}
+use Rattle.clausify.proofs.Truth.{true_positive, one_true}
 use Rattle.clausify.proofs.FormulaLaws.{Names, Begins, names-append, names_first, names_last}
 use Rattle.clausify.proofs.ItemLaws.{AllFit, AllMeet, items_named, items_named-append, length-items_named, rule_items_fit, sat_from_items, names_from_items, meets_from_items, good_from_meets, meets_from_good, length_from_good}
 use Rattle.clausify.proofs.GoalLaws.{UsagesFit, usages_fit, all_usage_items_fit, choices_named, length-choices_named, sat_from_choices, names_from_choices, choices_active, choices_goals, codes_goals}
@@ -127,10 +128,10 @@ goals_from_names b day book x a begins h =
 
 length-slice_named : (b : Contents) (day : ℕ) → length b.codes + 1 + length (slice_named b day) ≡ slice_variables b day
 length-slice_named b day =
-    let total : length (slice_named b day) ≡ variables_of (items b day) + choices_variables b (length b.codes) (usages_start b day) (choices b day) =
+    let total : length (slice_named b day) ≡ variables_of (items b day) + goals_variables (numbered_choices b day) =
     length-append (items_named (items b day)) (choices_named b (length b.codes) (usages_start b day) (choices b day))
     ∙ ap (λ (k : ℕ). k + length (choices_named b (length b.codes) (usages_start b day) (choices b day))) (length-items_named (items b day))
-    ∙ ap (λ (k : ℕ). variables_of (items b day) + k) (length-choices_named b (length b.codes) (usages_start b day) (choices b day)) in
+    ∙ ap (λ (k : ℕ). variables_of (items b day) + k) (length-choices_named b (length b.codes) (usages_start b day) (goals_start b day) (choices b day)) in
     omega (arith, total)
 
 alone_from_names : (b : Contents) (day : ℕ) (x : List Bool) (a c : ℕ → Bool) → Begins (length b.codes) x a → Begins (length b.codes) x c → Names a x (length b.codes + 1) (slice_named b day) → Names c x (length b.codes + 1) (slice_named b day) → (v : ℕ) → v < slice_variables b day → c v ≡ a v

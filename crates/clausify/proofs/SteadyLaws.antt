@@ -24,7 +24,7 @@ use Rattle.clausify.specs.declared.question.Asked.{Asked}
 use Rattle.clausify.specs.declared.question.Coded.{Coded}
 use Rattle.clausify.specs.declared.question.Question.{Question}
 use Rattle.clausify.specs.declared.question.Question.TheVariants.{Void, Necessary, Inadmissible, Superfluous, Ambiguous, Uncovered}
-use Rattle.clausify.proofs.Truth.{all_first, all_last}
+use Rattle.clausify.proofs.ListLaws.{all_first, all_last, all_mapped, all_weaker}
 use Rattle.clausify.proofs.SliceLaws.{codes_good_sets}
 
 -- the period is as on the other day
@@ -32,10 +32,6 @@ abbrev AsOn : ℕ → ℕ → Slice → Type 0
 AsOn day other period = is_within period.first period.last day ≡ is_within period.first period.last other
 
 module _ {X : Type 0} where
-  all_mapped : (P : Slice → Type 0) (f : X → Slice) (xs : List X) → AllByRecursion P (map f xs) → AllByRecursion (λ x. P (f x)) xs
-  all_mapped P f [] h = tt
-  all_mapped P f (x ∷ xs) h = (h.0, all_mapped P f xs h.1)
-
   any_same : (p q : X → Bool) (xs : List X) → AllByRecursion (λ x. p x ≡ q x) xs → list_any p xs ≡ list_any q xs
   any_same p q [] h = refl
   any_same p q (x ∷ xs) h = ap (λ (t : Bool). t || list_any p xs) h.0 ∙ ap (λ (t : Bool). q x || t) (any_same p q xs h.1)
@@ -43,10 +39,6 @@ module _ {X : Type 0} where
   filter_same : (p q : X → Bool) → ((x : X) → p x ≡ q x) → (xs : List X) → filter p xs ≡ filter q xs
   filter_same p q h [] = refl
   filter_same p q h (x ∷ xs) = ap (λ (t : Bool). cond t (x ∷ filter p xs) (filter p xs)) (h x) ∙ ap (λ (ys : List X). cond (q x) (x ∷ ys) ys) (filter_same p q h xs)
-
-  all_gives : (P Q : X → Type 0) → ((x : X) → P x → Q x) → (xs : List X) → AllByRecursion P xs → AllByRecursion Q xs
-  all_gives P Q gives [] h = tt
-  all_gives P Q gives (x ∷ xs) h = (gives x h.0, all_gives P Q gives xs h.1)
 
 -- the records of each kind are as on the other day
 record SameDays (b : Contents) (day other : ℕ) : Type 0 where
@@ -72,9 +64,9 @@ same_days b s steady day within =
 good_same : (b : Contents) (day other : ℕ) (x : List Bool) → SameDays b day other → is_good b day x ≡ is_good b other x
 good_same b day other x h =
     let closed = any_same (fires day x) (fires other x) b.supplements
-    (all_gives (λ (s : Supplement). is_within s.from s.until day ≡ is_within s.from s.until other) (λ s. fires day x s ≡ fires other x s) (λ s e. ap (λ (t : Bool). t && holds s.rule x && not (has x s.code)) e) b.supplements h.supplements) in
+    (all_weaker (λ (s : Supplement). is_within s.from s.until day ≡ is_within s.from s.until other) (λ s. fires day x s ≡ fires other x s) (λ s e. ap (λ (t : Bool). t && holds s.rule x && not (has x s.code)) e) b.supplements h.supplements) in
     let constructible = any_same (breaks day x) (breaks other x) b.constructs
-    (all_gives (λ (c : Construct). is_within c.from c.until day ≡ is_within c.from c.until other) (λ c. breaks day x c ≡ breaks other x c) (λ c e. ap (λ (t : Bool). t && applies c.on x && not (holds c.rule x)) e) b.constructs h.constructs) in
+    (all_weaker (λ (c : Construct). is_within c.from c.until day ≡ is_within c.from c.until other) (λ c. breaks day x c ≡ breaks other x c) (λ c e. ap (λ (t : Bool). t && applies c.on x && not (holds c.rule x)) e) b.constructs h.constructs) in
     ap (λ (t : Bool). not t && not (list_any (breaks day x) b.constructs) && (length x == length b.codes)) closed
     ∙ ap (λ (t : Bool). not (list_any (fires other x) b.supplements) && not t && (length x == length b.codes)) constructible
 

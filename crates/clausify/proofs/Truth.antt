@@ -1,24 +1,10 @@
 -- Lists of clauses that are satisfied, and clauses that tie a variable to two literals.
-use Rattle.std.proofs.Common.{◌≡◌, ℕ, ◌+◌, ◌*◌, Bool, true, false, not, ◌&&◌, ◌||◌, List, [], ◌∷◌, ◌++◌, refl, sym, ap, ◌∙◌, arith}
-use Rattle.std.specs.List.{AllByRecursion}
+use Rattle.std.proofs.Common.{◌≡◌, ℕ, ◌+◌, ◌*◌, Bool, true, false, not, ◌&&◌, ◌||◌, [], ◌∷◌, refl, sym, ap, ◌∙◌, arith}
 use Rattle.clause_pool.specs.Literal.{literal, complement, is_true}
 use Rattle.clause_pool.specs.Clause.{clause_of, clause_true, Sat}
 use Rattle.clause_pool.proofs.LiteralLaws.{is_true-positive, is_true-negative, is_true-complement}
 use Rattle.clause_pool.proofs.ClauseLaws.{clause_true-clause_of}
 use Rattle.clausify.specs.Formulas.{both_clauses, either_clauses}
-
-module _ {X : Type 0} where
-  pub all-append : (P : X → Type 0) (xs ys : List X) → AllByRecursion P xs → AllByRecursion P ys → AllByRecursion P (xs ++ ys)
-  all-append P [] ys h k = k
-  all-append P (x ∷ xs) ys h k = (h.0, all-append P xs ys h.1 k)
-
-  pub all_first : (P : X → Type 0) (xs ys : List X) → AllByRecursion P (xs ++ ys) → AllByRecursion P xs
-  all_first P [] ys h = tt
-  all_first P (x ∷ xs) ys h = (h.0, all_first P xs ys h.1)
-
-  pub all_last : (P : X → Type 0) (xs ys : List X) → AllByRecursion P (xs ++ ys) → AllByRecursion P ys
-  all_last P [] ys h = h
-  all_last P (x ∷ xs) ys h = all_last P xs ys h.1
 
 -- a variable's literals
 pub true_positive : (a : ℕ → Bool) (v : ℕ) → is_true a (literal v true) ≡ a v

@@ -6,7 +6,7 @@ use Rattle.clause_pool.specs.Literal.{literal}
 use Rattle.clause_pool.specs.Clause.{clause_of}
 use Rattle.clausify.specs.Choices.{choices}
 use Rattle.clausify.specs.Items.{rule_items, items, item_clauses, variables_of}
-use Rattle.clausify.specs.Goals.{choices_clauses, choices_variables, choices_asked, codes_asked_from, void_asked}
+use Rattle.clausify.specs.Goals.{NumberedChoice, numbered_from, goals_clauses, goals_variables, goals_asked, codes_asked_from, void_asked}
 use Rattle.clausify.specs.declared.question.Asked.{Asked}
 use Rattle.clausify.specs.declared.question.Coded.{Coded}
 
@@ -18,19 +18,24 @@ usages_start b day = length b.codes + 1 + variables_of (rule_items b day)
 abbrev pub goals_start : Contents → ℕ → ℕ
 goals_start b day = length b.codes + 1 + variables_of (items b day)
 
+-- the choices of the day numbered, where w is the first variable of their goals
+abbrev pub numbered_at : Contents → ℕ → ℕ → List NumberedChoice
+numbered_at b day w = numbered_from b (length b.codes) (usages_start b day) w (choices b day)
+
+abbrev pub numbered_choices : Contents → ℕ → List NumberedChoice
+numbered_choices b day = numbered_at b day (goals_start b day)
+
 abbrev pub slice_clauses : Contents → ℕ → List (List ℕ)
 slice_clauses b day =
     clause_of (literal (length b.codes) true ∷ [])
-    ∷ (item_clauses (length b.codes) (length b.codes + 1) (items b day)
-    ++ choices_clauses b (length b.codes) (usages_start b day) (goals_start b day) (choices b day))
+    ∷ (item_clauses (length b.codes) (length b.codes + 1) (items b day) ++ goals_clauses (numbered_choices b day))
 
 abbrev pub slice_variables : Contents → ℕ → ℕ
-slice_variables b day = goals_start b day + choices_variables b (length b.codes) (usages_start b day) (choices b day)
+slice_variables b day = goals_start b day + goals_variables (numbered_choices b day)
 
 abbrev pub slice_asked : Contents → ℕ → List Asked
 slice_asked b day =
-    void_asked (length b.codes)
-    ∷ (codes_asked_from 0 b.codes ++ choices_asked b (length b.codes) (usages_start b day) (goals_start b day) (choices b day))
+    void_asked (length b.codes) ∷ (codes_asked_from 0 b.codes ++ goals_asked (length b.codes) (numbered_choices b day))
 
 pub record IsCoded (b : Contents) (day : ℕ) (c : Coded) : Type 0 where
   pub clauses : c.pool.clauses ≡ slice_clauses b day

@@ -1,7 +1,7 @@
 -- The clauses that give a formula a literal, true just where the formula is. Variable i below n is code i, variable n is
 -- always true, and each `+` and `/` takes the next variable once both its sides have theirs.
 --     connectives f          how many variables the formula takes
---     literal_of n v f       its literal, where v is the first variable that it takes
+--     formula_literal n v f       its literal, where v is the first variable that it takes
 --     formula_clauses n v f     the clauses that tie the variables to what they stand for
 use Rattle.std.specs.Prelude.{ℕ, ◌+◌, true, false, List, [], ◌∷◌, ◌++◌}
 use Rattle.pb_base.specs.Rule.{Rule, code, negation, both, either, always, never}
@@ -16,13 +16,13 @@ connectives (either f g) = connectives f + connectives g + 1
 connectives always = 0
 connectives never = 0
 
-abbrev pub literal_of : ℕ → ℕ → Rule → ℕ
-literal_of n v (code place) = literal place true
-literal_of n v (negation f) = complement (literal_of n v f)
-literal_of n v (both f g) = literal (v + connectives f + connectives g) true
-literal_of n v (either f g) = literal (v + connectives f + connectives g) true
-literal_of n v always = literal n true
-literal_of n v never = literal n false
+abbrev pub formula_literal : ℕ → ℕ → Rule → ℕ
+formula_literal n v (code place) = literal place true
+formula_literal n v (negation f) = complement (formula_literal n v f)
+formula_literal n v (both f g) = literal (v + connectives f + connectives g) true
+formula_literal n v (either f g) = literal (v + connectives f + connectives g) true
+formula_literal n v always = literal n true
+formula_literal n v never = literal n false
 
 -- the variable v stands for both literals
 abbrev pub both_clauses : ℕ → ℕ → ℕ → List (List ℕ)
@@ -39,10 +39,10 @@ either_clauses v a b =
 abbrev pub formula_clauses : ℕ → ℕ → Rule → List (List ℕ)
 formula_clauses n v (both f g) =
     formula_clauses n v f ++ formula_clauses n (v + connectives f) g
-    ++ both_clauses (v + connectives f + connectives g) (literal_of n v f) (literal_of n (v + connectives f) g)
+    ++ both_clauses (v + connectives f + connectives g) (formula_literal n v f) (formula_literal n (v + connectives f) g)
 formula_clauses n v (either f g) =
     formula_clauses n v f ++ formula_clauses n (v + connectives f) g
-    ++ either_clauses (v + connectives f + connectives g) (literal_of n v f) (literal_of n (v + connectives f) g)
+    ++ either_clauses (v + connectives f + connectives g) (formula_literal n v f) (formula_literal n (v + connectives f) g)
 formula_clauses n v (negation f) = formula_clauses n v f
 formula_clauses n v (code place) = []
 formula_clauses n v always = []

@@ -1,9 +1,10 @@
 -- The literals of the goals, and the clauses of those that take variables of their own: the goals of two variants together,
 -- and of none of a position's variants.
 use Rattle.std.specs.Prelude.{ℕ, suc, ◌+◌, ◌-◌, Bool, true, false, List, [], ◌∷◌, ◌++◌, length, map, if◌then◌else◌}
+use Rattle.std.specs.List.{flat_map}
 use Rattle.book_model.specs.Contents.{Contents}
 use Rattle.clause_pool.specs.Literal.{literal, complement}
-use Rattle.clausify.specs.Formulas.{connectives, literal_of, both_clauses}
+use Rattle.clausify.specs.Formulas.{connectives, formula_literal, both_clauses}
 use Rattle.clausify.specs.Items.{variables_of, usage_item}
 use Rattle.clausify.specs.Choices.{Choice, usage}
 use Rattle.clausify.specs.Questions.{pairs}
@@ -15,7 +16,7 @@ use Rattle.clausify.specs.declared.usage.Usage.{Usage}
 abbrev pub usages_from : Contents → ℕ → ℕ → List ℕ → List Usage
 usages_from b n v [] = []
 usages_from b n v (variant ∷ variants) =
-    record { variant = variant; literal = literal_of n v (usage b variant) } ∷ usages_from b n (v + connectives (usage b variant)) variants
+    record { variant = variant; literal = formula_literal n v (usage b variant) } ∷ usages_from b n (v + connectives (usage b variant)) variants
 
 -- each pair takes the next variable
 abbrev pub pair_clauses : ℕ → List (Usage × Usage) → List (List ℕ)
@@ -62,28 +63,36 @@ abbrev pub choice_asked : ℕ → ℕ → ℕ → Bool → List Usage → List A
 choice_asked n v position mandatory us =
     map superfluous_asked us ++ pairs_asked position v (pairs us) ++ uncovered_asked n (v + length (pairs us)) position mandatory us
 
--- those of all choices, where v is the first variable of their usages and w the first of their goals
-abbrev pub choices_variables : Contents → ℕ → ℕ → List Choice → ℕ
-choices_variables b n v [] = 0
-choices_variables b n v (c ∷ cs) =
-    choice_variables c.mandatory (usages_from b n v c.variants) + choices_variables b n (v + variables_of (map (usage_item b) c.variants)) cs
-
--- the usages of all choices
+-- the usages of all choices, where v is the first variable that they take
 abbrev pub all_usages : Contents → ℕ → ℕ → List Choice → List Usage
 all_usages b n v [] = []
 all_usages b n v (c ∷ cs) = usages_from b n v c.variants ++ all_usages b n (v + variables_of (map (usage_item b) c.variants)) cs
 
-abbrev pub choices_clauses : Contents → ℕ → ℕ → ℕ → List Choice → List (List ℕ)
-choices_clauses b n v w [] = []
-choices_clauses b n v w (c ∷ cs) =
-    choice_clauses w c.mandatory (usages_from b n v c.variants)
-    ++ choices_clauses b n (v + variables_of (map (usage_item b) c.variants)) (w + choice_variables c.mandatory (usages_from b n v c.variants)) cs
+-- a choice with its variants' usages and the first variable of its goals
+pub record NumberedChoice : Type 0 where
+  pub position : ℕ
+  pub mandatory : Bool
+  pub usages : List Usage
+  pub goals_from : ℕ
 
-abbrev pub choices_asked : Contents → ℕ → ℕ → ℕ → List Choice → List Asked
-choices_asked b n v w [] = []
-choices_asked b n v w (c ∷ cs) =
-    choice_asked n w c.position c.mandatory (usages_from b n v c.variants)
-    ++ choices_asked b n (v + variables_of (map (usage_item b) c.variants)) (w + choice_variables c.mandatory (usages_from b n v c.variants)) cs
+-- the choices numbered, where v is the first variable of their usages and w the first of their goals
+abbrev pub numbered_from : Contents → ℕ → ℕ → ℕ → List Choice → List NumberedChoice
+numbered_from b n v w [] = []
+numbered_from b n v w (c ∷ cs) =
+    let us = usages_from b n v c.variants in
+    record { position = c.position; mandatory = c.mandatory; usages = us; goals_from = w }
+    ∷ numbered_from b n (v + variables_of (map (usage_item b) c.variants)) (w + choice_variables c.mandatory us) cs
+
+-- what the goals of numbered choices take and make
+abbrev pub goals_variables : List NumberedChoice → ℕ
+goals_variables [] = 0
+goals_variables (c ∷ cs) = choice_variables c.mandatory c.usages + goals_variables cs
+
+abbrev pub goals_clauses : List NumberedChoice → List (List ℕ)
+goals_clauses cs = flat_map (λ c. choice_clauses c.goals_from c.mandatory c.usages) cs
+
+abbrev pub goals_asked : ℕ → List NumberedChoice → List Asked
+goals_asked n cs = flat_map (λ c. choice_asked n c.goals_from c.position c.mandatory c.usages) cs
 
 abbrev pub codes_asked_from : ℕ → List (List ℕ) → List Asked
 codes_asked_from i [] = []

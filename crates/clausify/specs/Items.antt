@@ -11,7 +11,7 @@ use Rattle.book_model.specs.declared.record.Supplement.{Supplement}
 use Rattle.book_model.specs.declared.record.Construct.{Construct}
 use Rattle.clause_pool.specs.Literal.{literal, complement}
 use Rattle.clause_pool.specs.Clause.{clause_of}
-use Rattle.clausify.specs.Formulas.{connectives, literal_of, formula_clauses}
+use Rattle.clausify.specs.Formulas.{connectives, formula_literal, formula_clauses}
 use Rattle.clausify.specs.Choices.{Choice, choices, usage}
 
 -- what is demanded of a formula
@@ -38,7 +38,7 @@ variables_of (i ∷ is) = connectives i.rule + variables_of is
 
 -- the clauses of a formula and of what is demanded of it
 abbrev pub own_clauses : ℕ → ℕ → Item → List (List ℕ)
-own_clauses n v i = formula_clauses n v i.rule ++ demand_clauses i.demand (literal_of n v i.rule)
+own_clauses n v i = formula_clauses n v i.rule ++ demand_clauses i.demand (formula_literal n v i.rule)
 
 abbrev pub item_clauses : ℕ → ℕ → List Item → List (List ℕ)
 item_clauses n v [] = []

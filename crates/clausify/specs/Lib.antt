@@ -5,5 +5,6 @@ pub mod Questions
 pub mod Goals
 pub mod Coded
 pub mod Lifting
-pub mod Making
+pub mod Encoding
 pub mod Limit
+pub mod Ranges

@@ -4,7 +4,8 @@
 --     GoalsTrue ..           the literal of each question is the truth of its goal
 --     IsLifted ..            the one assignment that begins with the set and satisfies the clauses
 --     CodesSlice ..          all of it
-use Rattle.std.specs.Prelude.{◌≡◌, ℕ, ◌<◌, Bool, true, List, length, IsTrue}
+--     DecidesEach b s c      each question has a set just where some satisfying assignment meets its goal's literal
+use Rattle.std.specs.Prelude.{◌≡◌, ◌↔◌, ℕ, ◌<◌, Bool, true, List, Some, length, slice_get, IsTrue}
 use Rattle.std.specs.List.{AllByRecursion}
 use Rattle.pb_base.specs.Rule.{holds}
 use Rattle.pb_base.specs.Sets.{has}
@@ -14,7 +15,7 @@ use Rattle.book_model.specs.Good.{is_good}
 use Rattle.book_model.specs.declared.record.Slice.{Slice}
 use Rattle.clause_pool.specs.Literal.{is_true}
 use Rattle.clause_pool.specs.Clause.{Sat}
-use Rattle.clausify.specs.Questions.{goal}
+use Rattle.clausify.specs.Questions.{goal, HasSet}
 use Rattle.clausify.specs.declared.question.Asked.{Asked}
 use Rattle.clausify.specs.declared.question.Coded.{Coded}
 
@@ -43,3 +44,14 @@ pub record CodesGoodSets (b : Contents) (day : ℕ) (clauses : List (List ℕ)) 
 -- on each day of the slice
 pub record CodesSlice (b : Contents) (s : Slice) (c : Coded) : Type 0 where
   pub on_each_day : (day : ℕ) → IsTrue (is_within s.first s.last day) → CodesGoodSets b day c.pool.clauses c.vars c.questions.items
+
+-- some assignment satisfies the clauses and makes the literal true
+pub record IsMet (clauses : List (List ℕ)) (goal : ℕ) : Type 0 where
+  pub assignment : ℕ → Bool
+  pub satisfies : Sat clauses assignment
+  pub meets : is_true assignment goal ≡ true
+
+-- the k-th question has a set just where the clauses are met with the literal of its goal
+abbrev pub DecidesEach : Contents → Slice → Coded → Type 0
+DecidesEach b s c = (k : ℕ) (q : Asked) → slice_get c.questions.items k ≡ Some q
+    → HasSet b s q.question ↔ IsMet c.pool.clauses q.goal

@@ -2,8 +2,10 @@
 --     pairs xs              each element with each later one, ordered by the earlier and then by the later
 --     questions b day       Void, then two for each code, then those of each choice
 --     goal b day q          the formula that a good set has to meet
---     Has b s q             on some day of the slice some good set meets the goal
-use Rattle.std.specs.Prelude.{◌≡◌, ℕ, suc, ◌≤◌, Bool, true, List, [], ◌∷◌, ◌++◌, map, if◌then◌else◌}
+--     HasSet b s q          on some day of the slice some good set meets the goal
+--     is_to_close q         a release asks that the question has no set
+--     QuestionFits b q      what the question names is in the book
+use Rattle.std.specs.Prelude.{◌≡◌, ℕ, suc, ◌≤◌, ◌<◌, Bool, true, false, List, [], ◌∷◌, ◌++◌, length, map, if◌then◌else◌}
 use Rattle.std.specs.List.{flat_map}
 use Rattle.pb_base.specs.Rule.{Rule, code, negation, both, always, holds}
 use Rattle.book_model.specs.Contents.{Contents}
@@ -50,10 +52,29 @@ goal b day (Superfluous variant) = usage b variant
 goal b day (Ambiguous position first second) = both (usage b first) (usage b second)
 goal b day (Uncovered position) = none_rule (map (usage b) (active_variants b day position))
 
-pub record Has (b : Contents) (s : Slice) (q : Question) : Type 0 where
+pub record HasSet (b : Contents) (s : Slice) (q : Question) : Type 0 where
   pub day : ℕ
   pub not_before : s.first ≤ day
   pub not_after : day ≤ s.last
   pub set : List Bool
   pub is_good_then : is_good b day set ≡ true
   pub meets_goal : holds (goal b day q) set ≡ true
+
+-- two variants of a position together, and none of a mandatory one: no good set may meet such a goal where a book is released
+abbrev pub is_to_close : Question → Bool
+is_to_close Void = false
+is_to_close (Necessary place) = false
+is_to_close (Inadmissible place) = false
+is_to_close (Superfluous variant) = false
+is_to_close (Ambiguous position first second) = true
+is_to_close (Uncovered position) = true
+
+-- what a question other than Void names is in the book
+abbrev pub QuestionFits : Contents → Question → Type 0
+QuestionFits b Void = ⊥
+QuestionFits b (Necessary place) = place < length b.codes
+QuestionFits b (Inadmissible place) = place < length b.codes
+QuestionFits b (Superfluous variant) = variant < length b.variants
+QuestionFits b (Ambiguous position first second) =
+    (position < length b.positions) × (first < length b.variants) × (second < length b.variants)
+QuestionFits b (Uncovered position) = position < length b.positions

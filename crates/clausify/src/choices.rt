@@ -3,9 +3,9 @@ ghost use Rattle.std.specs.Prelude.{◌≡◌, ◌+◌, ◌^◌, ◌<◌, ◌≤
 ghost use Rattle.clausify.specs.Items.{item_clauses, variables_of, usage_item, usage_items};
 ghost use Rattle.clausify.specs.Choices.{active_variants, is_active_variant, choices, usage};
 ghost use Rattle.clausify.specs.Goals.{usages_from, all_usages};
-ghost use Rattle.clausify.specs.Making.{Makes};
+ghost use Rattle.clausify.specs.Encoding.{Encodes};
 
-use crate::maker::Maker;
+use crate::encoder::Encoder;
 use crate::usage::Usage;
 use book_model::{Book, active};
 use pb_base::{Day, Formula, Memory};
@@ -45,22 +45,22 @@ pub(crate) fn active_count(book: &Book, day: Day, position: u32) -> usize
 
 /// The usages of the position's active variants, added at the end.
 pub(crate) fn add_usages(
-    maker: &mut Maker,
+    encoder: &mut Encoder,
     usages: &mut Vec<Usage>,
     book: &Book,
     day: Day,
     position: u32,
 ) -> Result<(), Memory>
     requires within { position < length book.now.positions }
-    requires room { maker.old.next + variables_of (map (usage_item book.now) (active_variants book.now day position)) < 2 ^ 32 }
+    requires room { encoder.old.next + variables_of (map (usage_item book.now) (active_variants book.now day position)) < 2 ^ 32 }
     ensures made { let items = map (usage_item book.now) (active_variants book.now day position) in
-        OnOk result (Makes maker.old maker.new (item_clauses maker.old.truth maker.old.next items) (variables_of items)) }
+        OnOk result (Encodes encoder.old encoder.new (item_clauses encoder.old.truth encoder.old.next items) (variables_of items)) }
     ensures usages { OnOk result (usages.new.items ≡ usages.old.items
-        ++ usages_from book.now maker.old.truth maker.old.next (active_variants book.now day position)) }
+        ++ usages_from book.now encoder.old.truth encoder.old.next (active_variants book.now day position)) }
 {
     for variant in book.variants_of(position) {
         if is_active(book, day, *variant) {
-            let literal = maker.literal(usage(book, *variant))?;
+            let literal = encoder.literal(usage(book, *variant))?;
             usages.push(Usage {
                 variant: *variant,
                 literal,
@@ -73,19 +73,19 @@ pub(crate) fn add_usages(
 /// The usages of all choices, in order.
 pub(crate) fn usages_of(
     alloc: Global,
-    maker: &mut Maker,
+    encoder: &mut Encoder,
     book: &Book,
     day: Day,
 ) -> Result<Vec<Usage>, Memory>
-    requires { maker.old.next + variables_of (usage_items book.now (choices book.now day)) < 2 ^ 32 }
+    requires { encoder.old.next + variables_of (usage_items book.now (choices book.now day)) < 2 ^ 32 }
     ensures made { let items = usage_items book.now (choices book.now day) in
-        OnOk result (Makes maker.old maker.new (item_clauses maker.old.truth maker.old.next items) (variables_of items)) }
-    ensures usages { IfOk result (λ us. us.items ≡ all_usages book.now maker.old.truth maker.old.next (choices book.now day)) }
+        OnOk result (Encodes encoder.old encoder.new (item_clauses encoder.old.truth encoder.old.next items) (variables_of items)) }
+    ensures usages { IfOk result (λ us. us.items ≡ all_usages book.now encoder.old.truth encoder.old.next (choices book.now day)) }
 {
     let mut usages = Vec::new(alloc);
     for (place, position) in book.positions().iter().enumerate() {
         if active(position.from, position.until, day) {
-            add_usages(maker, &mut usages, book, day, place as u32)?;
+            add_usages(encoder, &mut usages, book, day, place as u32)?;
         }
     }
     Ok(usages)

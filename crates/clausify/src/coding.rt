@@ -1,58 +1,66 @@
 //! The clauses of a slice.
-ghost use Rattle.std.specs.Prelude.{◌≡◌, IfOk, map};
-ghost use Rattle.book_model.specs.Book.{IsBook};
+ghost use Rattle.std.specs.Prelude.{◌≡◌, ◌≤◌, IfOk, map};
 ghost use Rattle.book_model.specs.Slices.{IsSteady};
 ghost use Rattle.clausify.specs.Questions.{questions};
 ghost use Rattle.clausify.specs.Coded.{IsCoded};
 ghost use Rattle.clausify.specs.Limit.{CodesWithin};
-ghost use Rattle.clausify.specs.Lifting.{CodesSlice};
+ghost use Rattle.clausify.specs.Lifting.{CodesSlice, DecidesEach};
+ghost use Rattle.clausify.specs.Ranges.{IsInRange};
 
 use crate::choices::usages_of;
 use crate::counting::question_count;
+use crate::encoder::Encoder;
 use crate::goals::{ask_choices, ask_codes};
 use crate::items::add_rules;
-use crate::maker::Maker;
 use crate::question::{Asked, Coded, Question};
 use book_model::{Book, Slice};
 use clause_pool::Lit;
-use pb_base::{Day, Fail, Memory};
+use pb_base::{Fail, Memory};
 use std::alloc::Global;
 
 /// The most questions that may be asked of a slice.
 const MOST_QUESTIONS: u64 = 200_000;
 
-/// The clauses of the records that are active on a day.
-fn coded(alloc: Global, book: &Book, day: Day) -> Result<Coded, Memory>
-    ensures coded { IfOk result (λ c. IsCoded book.now day c) }
-    ensures book { IsBook book.now }
+/// The clauses of a slice of the book, with its questions, however many these are.
+pub fn coded_slice(alloc: Global, book: &Book, slice: &Slice) -> Result<Coded, Memory>
+    ensures coded { IfOk result (λ c. IsCoded book.now slice.now.first c) }
+    ensures questions { IfOk result (λ c. map (λ q. q.question) c.questions.items ≡ questions book.now slice.now.first) }
+    ensures ranges { IfOk result (λ c. IsInRange book.now c) }
+    ensures sets { IfOk result (λ c. IsSteady book.now slice.now → CodesSlice book.now slice.now c) }
+    ensures decides { IfOk result (λ c. IsSteady book.now slice.now → slice.now.first ≤ slice.now.last
+        → DecidesEach book.now slice.now c) }
 {
     let codes = book.codes();
-    let mut maker = Maker::new(alloc, codes.len())?;
-    add_rules(&mut maker, book, day)?;
-    let usages = usages_of(alloc, &mut maker, book, day)?;
+    let mut encoder = Encoder::new(alloc, codes.len())?;
+    add_rules(&mut encoder, book, slice.first)?;
+    let usages = usages_of(alloc, &mut encoder, book, slice.first)?;
     let mut questions = Vec::new(alloc);
     questions.push(Asked {
         question: Question::Void,
-        goal: Lit::new(maker.truth, true),
+        goal: Lit::new(encoder.truth, true),
     })?;
     ask_codes(&mut questions, codes)?;
-    ask_choices(&mut maker, &mut questions, book, day, &usages)?;
+    ask_choices(&mut encoder, &mut questions, book, slice.first, &usages)?;
     Ok(Coded {
-        pool: maker.pool,
-        vars: maker.next,
+        pool: encoder.pool,
+        vars: encoder.next,
         questions,
     })
 }
 
-/// The clauses of a slice of the book, with its questions. They are refused, with the number of questions, where there are more than 200,000.
-pub fn clauses_of(alloc: Global, book: &Book, slice: Slice) -> Result<Coded, Fail<u64>>
-    ensures coded { CodesWithin book.now slice.first result }
-    ensures questions { IfOk result (λ c. map (λ q. q.question) c.questions.items ≡ questions book.now slice.first) }
-    ensures sets { IfOk result (λ c. IsSteady book.now slice → CodesSlice book.now slice c) }
+/// The clauses of a slice of the book, with its questions. They are refused, with the number of questions, where there
+/// are more than 200,000.
+pub fn clauses_of(alloc: Global, book: &Book, slice: &Slice) -> Result<Coded, Fail<u64>>
+    ensures coded { CodesWithin book.now slice.now.first result }
+    ensures questions { IfOk result (λ c. map (λ q. q.question) c.questions.items ≡ questions book.now slice.now.first) }
+    ensures ranges { IfOk result (λ c. IsInRange book.now c) }
+    ensures sets { IfOk result (λ c. IsSteady book.now slice.now → CodesSlice book.now slice.now c) }
+    ensures decides { IfOk result (λ c. IsSteady book.now slice.now → slice.now.first ≤ slice.now.last
+        → DecidesEach book.now slice.now c) }
 {
     let count = question_count(book, slice);
     if count > MOST_QUESTIONS {
         return Err(Fail::Refused(count));
     }
-    Ok(coded(alloc, book, slice.first)?)
+    Ok(coded_slice(alloc, book, slice)?)
 }

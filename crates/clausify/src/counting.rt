@@ -17,8 +17,8 @@ fn choice_count(variants: u64, mandatory: bool) -> u64
 }
 
 /// The number of questions that are asked of a slice of the book. It takes no memory.
-pub fn question_count(book: &Book, slice: Slice) -> u64
-    ensures { result ≡ length (questions book.now slice.first) }
+pub fn question_count(book: &Book, slice: &Slice) -> u64
+    ensures { result ≡ length (questions book.now slice.now.first) }
 {
     let mut count = 1 + 2 * u64::from(book.codes().len());
     for (place, position) in book.positions().iter().enumerate() {

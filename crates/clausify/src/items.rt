@@ -2,18 +2,18 @@
 ghost use Rattle.std.specs.Prelude.{◌+◌, ◌^◌, ◌<◌, OnOk};
 ghost use Rattle.clausify.specs.Formulas.{connectives};
 ghost use Rattle.clausify.specs.Items.{own_clauses, item_clauses, variables_of, supplement_item, construct_item, supplement_items, construct_items, rule_items};
-ghost use Rattle.clausify.specs.Making.{Makes};
+ghost use Rattle.clausify.specs.Encoding.{Encodes};
 
-use crate::maker::Maker;
+use crate::encoder::Encoder;
 use book_model::{Book, Construct, Supplement, active};
 use clause_pool::Lit;
 use pb_base::{Day, Memory};
 
-impl Maker {
+impl Encoder {
     /// Where the rule's formula is true, its code is present.
     fn supplement(&mut self, supplement: &Supplement) -> Result<(), Memory>
         requires { self.old.next + connectives supplement.now.rule < 2 ^ 32 }
-        ensures { OnOk result (Makes self.old self.new (own_clauses self.old.truth self.old.next (supplement_item supplement.now)) (connectives supplement.now.rule)) }
+        ensures { OnOk result (Encodes self.old self.new (own_clauses self.old.truth self.old.next (supplement_item supplement.now)) (connectives supplement.now.rule)) }
     {
         let rule = self.literal(&supplement.rule)?;
         self.pool
@@ -24,7 +24,7 @@ impl Maker {
     /// Where the rule's code is present, or always where it has none, its formula is true.
     fn construct(&mut self, construct: &Construct) -> Result<(), Memory>
         requires { self.old.next + connectives construct.now.rule < 2 ^ 32 }
-        ensures { OnOk result (Makes self.old self.new (own_clauses self.old.truth self.old.next (construct_item construct.now)) (connectives construct.now.rule)) }
+        ensures { OnOk result (Encodes self.old self.new (own_clauses self.old.truth self.old.next (construct_item construct.now)) (connectives construct.now.rule)) }
     {
         let rule = self.literal(&construct.rule)?;
         match construct.on {
@@ -36,28 +36,28 @@ impl Maker {
 }
 
 /// The supplementing rules.
-fn add_supplements(maker: &mut Maker, book: &Book, day: Day) -> Result<(), Memory>
-    requires { maker.old.next + variables_of (supplement_items book.now day) < 2 ^ 32 }
+fn add_supplements(encoder: &mut Encoder, book: &Book, day: Day) -> Result<(), Memory>
+    requires { encoder.old.next + variables_of (supplement_items book.now day) < 2 ^ 32 }
     ensures { let items = supplement_items book.now day in
-        OnOk result (Makes maker.old maker.new (item_clauses maker.old.truth maker.old.next items) (variables_of items)) }
+        OnOk result (Encodes encoder.old encoder.new (item_clauses encoder.old.truth encoder.old.next items) (variables_of items)) }
 {
     for supplement in book.supplements() {
         if active(supplement.from, supplement.until, day) {
-            maker.supplement(supplement)?;
+            encoder.supplement(supplement)?;
         }
     }
     Ok(())
 }
 
 /// The constructibility rules.
-fn add_constructs(maker: &mut Maker, book: &Book, day: Day) -> Result<(), Memory>
-    requires { maker.old.next + variables_of (construct_items book.now day) < 2 ^ 32 }
+fn add_constructs(encoder: &mut Encoder, book: &Book, day: Day) -> Result<(), Memory>
+    requires { encoder.old.next + variables_of (construct_items book.now day) < 2 ^ 32 }
     ensures { let items = construct_items book.now day in
-        OnOk result (Makes maker.old maker.new (item_clauses maker.old.truth maker.old.next items) (variables_of items)) }
+        OnOk result (Encodes encoder.old encoder.new (item_clauses encoder.old.truth encoder.old.next items) (variables_of items)) }
 {
     for construct in book.constructs() {
         if active(construct.from, construct.until, day) {
-            maker.construct(construct)?;
+            encoder.construct(construct)?;
         }
     }
     Ok(())
@@ -65,12 +65,12 @@ fn add_constructs(maker: &mut Maker, book: &Book, day: Day) -> Result<(), Memory
 
 /// The supplementing rules, then the constructibility rules.
 #[tactic(auto, using(crate::proofs::ItemLaws::variables_more))]
-pub(crate) fn add_rules(maker: &mut Maker, book: &Book, day: Day) -> Result<(), Memory>
-    requires { maker.old.next + variables_of (rule_items book.now day) < 2 ^ 32 }
+pub(crate) fn add_rules(encoder: &mut Encoder, book: &Book, day: Day) -> Result<(), Memory>
+    requires { encoder.old.next + variables_of (rule_items book.now day) < 2 ^ 32 }
     ensures { let items = rule_items book.now day in
-        OnOk result (Makes maker.old maker.new (item_clauses maker.old.truth maker.old.next items) (variables_of items)) }
+        OnOk result (Encodes encoder.old encoder.new (item_clauses encoder.old.truth encoder.old.next items) (variables_of items)) }
 {
-    add_supplements(maker, book, day)?;
-    add_constructs(maker, book, day)?;
+    add_supplements(encoder, book, day)?;
+    add_constructs(encoder, book, day)?;
     Ok(())
 }

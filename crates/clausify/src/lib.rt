@@ -4,15 +4,17 @@
 mod choices;
 mod coding;
 mod counting;
+mod encoder;
 mod goals;
 mod items;
-mod maker;
+mod parts;
 mod question;
 mod usage;
 
-pub use coding::clauses_of;
+pub use coding::{clauses_of, coded_slice};
 pub use counting::question_count;
 pub use question::{Asked, Coded, Question};
+pub use usage::Usage;
 
 #[cfg(test)]
 mod tests;

@@ -1,4 +1,6 @@
 //! What is asked of a slice, and what its clauses are made into.
+ghost use Rattle.std.specs.Prelude.{◌≡◌};
+ghost use Rattle.clausify.specs.Questions.{is_to_close};
 
 use clause_pool::{Lit, Pool};
 
@@ -22,6 +24,16 @@ pub enum Question {
     },
     /// The goal is that the formula of no active variant of the position is true.
     Uncovered(u32),
+}
+
+impl Question {
+    /// Whether a release asks that the question has no set. So it is where two variants of a position would be chosen
+    /// together, and where none of a mandatory one would be.
+    pub fn is_to_close(self) -> bool
+        ensures { result ≡ is_to_close self }
+    {
+        matches!(self, Question::Ambiguous { .. } | Question::Uncovered(_))
+    }
 }
 
 /// A question with the literal that is true just where its goal is met.

@@ -24,8 +24,8 @@ fn a_book_without_records_has_one_clause_and_one_question(rt: HostRuntime) -> Re
         groups,
     });
     let slice = book.term();
-    assert_eq!(rt; question_count(&book, slice), 1);
-    let coded = clauses_of(alloc, &book, slice)?;
+    assert_eq!(rt; question_count(&book, &slice), 1);
+    let coded = clauses_of(alloc, &book, &slice)?;
     assert_eq!(rt; coded.vars, 1);
     assert_eq!(rt; coded.pool.len(), 1);
     assert_eq!(rt; coded.pool.lits(0), [Lit::new(0, true)].as_slice());

@@ -2,9 +2,9 @@
 
 use clause_pool::Lit;
 
-/// A variant with the literal of its formula.
+/// A variant, by its place in the book, with the literal of its formula.
 #[derive(Clone, Copy)]
-pub(crate) struct Usage {
-    pub(crate) variant: u32,
-    pub(crate) literal: Lit,
+pub struct Usage {
+    pub variant: u32,
+    pub literal: Lit,
 }

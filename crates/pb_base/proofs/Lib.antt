@@ -1,3 +1,6 @@
 pub mod NamedSets
 mod NameFaults
 mod DigitRoom
+pub mod Nodes
+pub mod Shapes
+mod TableLemmas

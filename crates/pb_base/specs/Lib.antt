@@ -4,7 +4,7 @@ pub mod Sets
 pub mod Answers
 pub mod Results
 pub mod Node
-pub mod NodeDepth
+pub mod Shape
 pub mod Padding
 pub mod Table
 pub mod NamedSet

@@ -33,6 +33,11 @@ codes_below n (either f g) = codes_below n f && codes_below n g
 codes_below n always = true
 codes_below n never = true
 
+-- the rule under this many minus signs
+abbrev pub negated : ℕ → Rule → Rule
+negated zero rule = rule
+negated (suc signs) rule = negated signs (negation rule)
+
 -- a node is a code, a constant or a connective
 abbrev pub nodes : Rule → ℕ
 nodes (code place) = 1

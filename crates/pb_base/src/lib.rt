@@ -10,8 +10,11 @@ mod formula;
 pub mod limits;
 mod named_set;
 mod names;
+mod node;
 mod padded;
+mod part;
 mod sequence;
+mod table;
 mod text;
 
 pub use answer::{Fail, Memory};
@@ -19,10 +22,13 @@ pub use code_set::CodeSet;
 pub use code_table::CodeTable;
 pub use day::Day;
 pub use digits::{number_within, short_number};
-pub use formula::{Formula, Node};
+pub use formula::Formula;
 pub use named_set::NameFault;
 pub use names::{CodeName, Id, Part};
+pub use node::{Leaf, Node};
+pub use part::{FormulaPart, Shape};
 pub use sequence::{Body, CodeList, Sequence};
+pub use table::Table;
 pub use text::Text;
 
 #[cfg(test)]

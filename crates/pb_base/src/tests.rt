@@ -1,7 +1,7 @@
 //! Each call once with ample memory, on values from the rules of the trade.
 
 use crate::{
-    Body, CodeList, CodeName, CodeSet, CodeTable, Fail, Formula, Id, NameFault, Node, Part, Text,
+    Body, CodeList, CodeName, CodeSet, CodeTable, Fail, Formula, Id, NameFault, Part, Shape, Text,
     number_within, short_number,
 };
 use std::test::Fail as Failure;
@@ -55,13 +55,13 @@ fn a_formula_holds_by_its_connectives(rt: HostRuntime) -> Result<(), Failure> {
     let copy = set.copy(alloc)?;
     assert!(rt; copy.has(1) && !copy.has(0) && copy.len() == 3 && !copy.is_empty());
     // 1 and not (0 or FALSE) holds over {1}, and its negation doesn't.
-    let either = Formula::or(alloc, Formula::code(0), Formula::no())?;
-    let both = Formula::and(alloc, Formula::code(1), Formula::not(alloc, either)?)?;
+    let either = Formula::code(alloc, 0)?.or(Formula::no(alloc)?)?;
+    let both = Formula::code(alloc, 1)?.and(either.not()?)?;
     assert!(rt; both.holds(&copy));
-    let negation = Formula::not(alloc, both)?;
+    let negation = both.not()?;
     assert!(rt; !negation.holds(&copy));
-    assert!(rt; Formula::yes().holds(&copy));
-    assert!(rt; matches!(negation.node(), Node::Not(_)));
+    assert!(rt; Formula::yes(alloc)?.holds(&copy));
+    assert!(rt; matches!(negation.shape(), Shape::Not(_)));
     Ok(())
 }
 

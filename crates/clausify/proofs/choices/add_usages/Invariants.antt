@@ -8,7 +8,7 @@ use Rattle.clausify.proofs.choices.add_usages.Given as goal
 
 abbrev pub invariant-loop-variant : goal.invariant-loop-variant
 invariant-loop-variant l = record {
-  made : ActiveLeft (is_active_variant l.book l.day) (usage_item l.book) l.initial.maker l.maker l.variant-items l.variant-index;
-  usages : l.usages.items ++ usages_from l.book l.initial.maker.truth l.maker.next (filter (is_active_variant l.book l.day) (drop l.variant-index l.variant-items))
-      ≡ l.initial.usages.items ++ usages_from l.book l.initial.maker.truth l.initial.maker.next (filter (is_active_variant l.book l.day) l.variant-items);
+  made : ActiveLeft (is_active_variant l.book l.day) (usage_item l.book) l.initial.encoder l.encoder l.variant-items l.variant-index;
+  usages : l.usages.items ++ usages_from l.book l.initial.encoder.truth l.encoder.next (filter (is_active_variant l.book l.day) (drop l.variant-index l.variant-items))
+      ≡ l.initial.usages.items ++ usages_from l.book l.initial.encoder.truth l.initial.encoder.next (filter (is_active_variant l.book l.day) l.variant-items);
 }

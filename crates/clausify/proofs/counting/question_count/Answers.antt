@@ -9,7 +9,7 @@ use Rattle.clausify.proofs.counting.question_count.Goals.{then-active, else-acti
 
 pub loop-place-init : goal.loop-place-init
 loop-place-init c = record {
-  total = count_begin c.args.book.now c.args.slice.first c.from.result c.positions-position-items.result.now (c.from.ensures ∙ c.len.ensures.value ∙ ap length c.codes.ensures.value) c.positions-position-items.ensures.value;
+  total = count_begin c.args.book.now c.args.slice.now.first c.from.result c.positions-position-items.result.now (c.from.ensures ∙ c.len.ensures.value ∙ ap length c.codes.ensures.value) c.positions-position-items.ensures.value;
   limit = omega (arith, c.from.ensures, c.len.ensures.value, ap length c.codes.ensures.value, c.codes.ensures.book.codes_limit);
 }
 
@@ -19,9 +19,9 @@ loop-place-preserved c =
       | then-active w ↦
           rw (w.count-is)
           (record {
-            total = count_step c.loop-place.count w.choice_count-count.result w.active_count-variants.result _ _ _ (choice_at c.args.book.now c.args.slice.first c.position-item.result c.loop-place.place)
+            total = count_step c.loop-place.count w.choice_count-count.result w.active_count-variants.result _ _ _ (choice_at c.args.book.now c.args.slice.now.first c.position-item.result c.loop-place.place)
                 c.loop-place.invariant.total
-                (choices_taken c.args.book.now c.args.slice.first c.positions-position-items.result.now c.loop-place.place c.position-item.result
+                (choices_taken c.args.book.now c.args.slice.now.first c.positions-position-items.result.now c.loop-place.place c.position-item.result
                 (omega arith) c.position-item.is (sym c.active.ensures ∙ w.if-active.true))
                 w.active_count-variants.ensures.count w.choice_count-count.ensures.value;
             limit = omega (arith, w.choice_count-count.ensures.limit, c.loop-place.invariant.limit);
@@ -30,7 +30,7 @@ loop-place-preserved c =
           rw (w.count-is)
           (record {
             total = ap (λ (cs : List Choice). c.loop-place.count + length (flat_map choice_questions cs))
-                (sym (choices_passed c.args.book.now c.args.slice.first c.positions-position-items.result.now c.loop-place.place c.position-item.result
+                (sym (choices_passed c.args.book.now c.args.slice.now.first c.positions-position-items.result.now c.loop-place.place c.position-item.result
                 (omega arith) c.position-item.is (sym c.active.ensures ∙ w.if-active.false)))
                 ∙ c.loop-place.invariant.total;
             limit = omega (arith, c.loop-place.invariant.limit);

@@ -15,7 +15,7 @@ split_at-requires c =
 
 pub ask_choice-requires : goal.ask_choice-requires
 ask_choice-requires c =
-    choices_room c.args.book.now (length c.args.book.now.codes) c.args.maker.now c.loop-place.maker c.args.asked.now.items c.loop-place.asked.items c.loop-place.left.now
+    choices_room c.args.book.now (length c.args.book.now.codes) c.args.encoder.now c.loop-place.encoder c.args.asked.now.items c.loop-place.asked.items c.loop-place.left.now
     c.split_at.result.0.now (usages_start c.args.book.now c.args.day) _ _ _ _
     (choice_at c.args.book.now c.args.day c.position-item.result c.loop-place.place) c.active_count-count.result c.loop-place.invariant
     (choices_taken c.args.book.now c.args.day c.positions-position-items.result.now c.loop-place.place c.position-item.result
@@ -26,8 +26,8 @@ pub loop-place-preserved : goal.loop-place-preserved
 loop-place-preserved c =
     elim c.if-active.branch [
       | then-active+in_ok-ask_choice w ↦
-          rw (w.maker-is, w.asked-is, w.left-is)
-          (choices_step c.args.book.now (length c.args.book.now.codes) c.args.maker.now c.loop-place.maker w.ask_choice.new.maker c.args.asked.now.items c.loop-place.asked.items w.ask_choice.new.asked.items
+          rw (w.encoder-is, w.asked-is, w.left-is)
+          (choices_step c.args.book.now (length c.args.book.now.codes) c.args.encoder.now c.loop-place.encoder w.ask_choice.new.encoder c.args.asked.now.items c.loop-place.asked.items w.ask_choice.new.asked.items
           c.loop-place.left.now w.split_at.result.0.now w.split_at.result.1.now (usages_start c.args.book.now c.args.day) _ _ _
           (choice_at c.args.book.now c.args.day c.position-item.result c.loop-place.place) w.active_count-count.result c.loop-place.invariant
           (choices_taken c.args.book.now c.args.day c.positions-position-items.result.now c.loop-place.place c.position-item.result
@@ -35,8 +35,8 @@ loop-place-preserved c =
           w.active_count-count.ensures.count w.split_at.ensures.front w.split_at.ensures.back
           w.in_ok-ask_choice.ensures.made w.in_ok-ask_choice.ensures.asked)
       | else-active w ↦
-          rw (w.maker-is, w.asked-is, w.left-is)
-          (subst (λ (cs : List Choice). ChoicesLeft c.args.book.now (length c.args.book.now.codes) c.args.maker.now c.loop-place.maker c.args.asked.now.items c.loop-place.asked.items c.loop-place.left.now (usages_start c.args.book.now c.args.day) (choices c.args.book.now c.args.day) cs)
+          rw (w.encoder-is, w.asked-is, w.left-is)
+          (subst (λ (cs : List Choice). ChoicesLeft c.args.book.now (length c.args.book.now.codes) c.args.encoder.now c.loop-place.encoder c.args.asked.now.items c.loop-place.asked.items c.loop-place.left.now (usages_start c.args.book.now c.args.day) (choices c.args.book.now c.args.day) cs)
           (choices_passed c.args.book.now c.args.day c.positions-position-items.result.now c.loop-place.place c.position-item.result
           (omega arith) c.position-item.is (sym c.active.ensures ∙ w.if-active.false))
           c.loop-place.invariant)

@@ -8,5 +8,5 @@ use Rattle.clausify.proofs.items.add_constructs.Given as goal
 
 abbrev pub invariant-loop-construct : goal.invariant-loop-construct
 invariant-loop-construct l =
-    ItemsLeft l.initial.maker l.maker (construct_items l.book l.day)
+    ItemsLeft l.initial.encoder l.encoder (construct_items l.book l.day)
     (map construct_item (filter (λ (r : Construct). is_within r.from r.until l.day) (drop l.construct-index l.construct-items)))

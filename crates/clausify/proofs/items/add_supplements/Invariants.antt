@@ -8,5 +8,5 @@ use Rattle.clausify.proofs.items.add_supplements.Given as goal
 
 abbrev pub invariant-loop-supplement : goal.invariant-loop-supplement
 invariant-loop-supplement l =
-    ItemsLeft l.initial.maker l.maker (supplement_items l.book l.day)
+    ItemsLeft l.initial.encoder l.encoder (supplement_items l.book l.day)
     (map supplement_item (filter (λ (r : Supplement). is_within r.from r.until l.day) (drop l.supplement-index l.supplement-items)))

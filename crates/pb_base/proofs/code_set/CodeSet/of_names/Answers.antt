@@ -1,7 +1,6 @@
-use Rattle.std.proofs.Common.{◌≡◌, ℕ, ◌+◌, true, false, List, [], ◌∷◌, ◌++◌, Some, Ok, slice_set, sym, ◌∙◌, ap, refl, take, subst}
+use Rattle.std.proofs.Common.{◌≡◌, ℕ, ◌+◌, true, false, List, [], ◌∷◌, ◌++◌, Some, Ok, slice_set, sym, ◌∙◌, ap, refl, take}
 use Rattle.std.proofs.lemmas.List.{take_more}
-use Rattle.std.specs.List.{IsDistinct}
-use Rattle.pb_base.specs.Names.{same_name, place_in}
+use Rattle.pb_base.specs.Names.{place_in}
 use Rattle.pb_base.specs.Sets.{has, none_of}
 use Rattle.pb_base.specs.Results.{unless}
 use Rattle.pb_base.specs.NamedSet.{named}

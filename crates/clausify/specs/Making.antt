@@ -1,8 +1,0 @@
--- What a step of the making leaves: so many clauses more at the end, and so many variables taken.
-use Rattle.std.specs.Prelude.{◌≡◌, ℕ, ◌+◌, List, ◌++◌}
-use Rattle.clausify.specs.declared.maker.Maker.{Maker}
-
-pub record Makes (old new : Maker) (more : List (List ℕ)) (taken : ℕ) : Type 0 where
-  pub clauses : new.pool.clauses ≡ old.pool.clauses ++ more
-  pub next : new.next ≡ old.next + taken
-  pub truth : new.truth ≡ old.truth
