@@ -6,7 +6,7 @@ use Rattle.std.proofs.lemmas.Bool.{false≢true, true≢false, cases_Bool, and_f
 use Rattle.pb_base.specs.Rule.{Rule, negation, both, never, holds}
 use Rattle.book_model.specs.Activity.{is_within}
 use Rattle.book_model.specs.Contents.{Contents}
-use Rattle.book_model.specs.Parts.{variants_of, is_used, is_chosen, is_active_position, selected}
+use Rattle.book_model.specs.Parts.{variants_of, is_selected, is_selected_at, is_active_position, selected}
 use Rattle.book_model.specs.Sound.{permits, is_fit, are_fit_from, is_sound}
 use Rattle.book_model.specs.declared.record.Position.{Position}
 use Rattle.book_model.specs.declared.record.Variant.{Variant}
@@ -88,7 +88,7 @@ at_least_one b x (y ∷ ys) h =
 
 -- the chosen variants are the active ones whose usage is met
 chosen_of : (day : ℕ) (x : List Bool) (o : Option Variant)
-    → option_map_or (is_used day x) o false ≡ (option_map_or (λ v. is_within v.from v.until day) o false && holds (option_map_or (λ v. v.rule) o never) x)
+    → option_map_or (is_selected day x) o false ≡ (option_map_or (λ v. is_within v.from v.until day) o false && holds (option_map_or (λ v. v.rule) o never) x)
 chosen_of day x None = refl
 chosen_of day x (Some v) = refl
 
@@ -125,8 +125,8 @@ active_fits b day x i p active h =
     let paired = not_both_asked b day x i (pairs vs) (all_last (IsRefuted b day x) each two front) in
     let uncovered = first_if (IsRefuted b day x) p.mandatory (Uncovered i) [] back in
     let same : selected b day x i p ≡ filter (meets b x) vs =
-    cond-true (is_active_position day p) (filter (is_chosen b day x) (variants_of i b.variants)) [] active
-    ∙ filtered (is_chosen b day x) (is_active_variant b day) (meets b x) (λ v. chosen_of day x (slice_get b.variants v)) (variants_of i b.variants) in
+    cond-true (is_active_position day p) (filter (is_selected_at b day x) (variants_of i b.variants)) [] active
+    ∙ filtered (is_selected_at b day x) (is_active_variant b day) (meets b x) (λ v. chosen_of day x (slice_get b.variants v)) (variants_of i b.variants) in
     let fits : permits p (length (filter (meets b x) vs)) ≡ true =
     permits_from p (length (filter (meets b x) vs)) (at_most_one b x vs paired) (λ must. at_least_one b x vs (uncovered.0 must refl)) in
     ap (λ t. not t || permits p (length (selected b day x i p))) active ∙ ap (λ l. permits p (length l)) same ∙ fits

@@ -6,7 +6,9 @@ use Rattle.std.proofs.lemmas.Bool.{cases_Bool, cases_eq, cond-true, cond-false, 
 use Rattle.std.proofs.lemmas.Option.{slice_get_past}
 use Rattle.pb_base.specs.Digits.{is_digit, value_from, value_of}
 use Rattle.pb_base.specs.Names.{same_name, is_name, is_code_name}
+use Rattle.pb_base.specs.Answers.{Gives}
 use Rattle.pb_base.specs.Results.{and_then, unless}
+use Rattle.pb_base.specs.declared.answer.Fail.{Fail}
 use Rattle.book_model.specs.Contents.{Contents}
 use Rattle.book_model.specs.declared.record.Slice.{Slice}
 use Rattle.clause_pool.specs.Literal.{literal, complement}
@@ -22,9 +24,12 @@ use Rattle.derivation.specs.declared.fault.CertKind.{CertKind}
 use Rattle.derivation.specs.declared.fault.CertKind.TheVariants.{Syntax, WrongBook, NotClosed}
 use Rattle.derivation.specs.After.{after, after_head, after_name, after_slices, after_number, after_within, next_slice, with_clause, close_next, closed_by, first_left}
 use Rattle.derivation.specs.CertLine.{CertLine, head_line, book_line, slice_line, set_line, step_line, close_line, end_line, head_from, set_from, end_from, book_from, slice_from, pair_from, pairs_from, step_with, step_from, close_from, other_from, line_from, cert_line}
-use Rattle.derivation.specs.Certificate.{is_step, line_at, past_end, taken_line}
+use Rattle.derivation.specs.Certificate.{is_step, line_at, past_end, taken_as, taken_line}
 use Rattle.derivation.specs.Kept.{highest, highest_variable, kept, kept_literal, kept_pair, kept_line, with_digit, digits_kept, number_kept, literal_at, literal_kept, line_kept, NamesKept, AllNamed}
 use Rattle.derivation.specs.Pieces.{pieces}
+use Rattle.derivation.specs.Reading.{line_of, seen}
+use Rattle.derivation.specs.declared.check.Taken.{Taken}
+use Rattle.derivation.specs.declared.line.Line.{Line}
 use Rattle.derivation.specs.Stage.{SliceSoFar, Stage, at_head, at_book, at_slices, at_set, within, at_end}
 use Rattle.derivation.specs.Words.{has_number_form, cert_number, cert_literal}
 
@@ -38,24 +43,24 @@ digits_are v [] = refl
 digits_are v (b ∷ bs) =
     let same : with_digit (kept v) b ≡ kept (10 * v + (b - 48)) = omega arith in
     elim (cases_Bool (is_digit b)) [
-      | inl yes ↦
-          cond-true (is_digit b) (digits_kept (with_digit (kept v) b) bs) None yes ∙ ap (λ x. digits_kept x bs) same ∙ digits_are (10 * v + (b - 48)) bs
-          ∙ sym (ap (λ t. cond (t && list_all is_digit bs) (Some (kept (value_from v (b ∷ bs)))) None) yes)
-      | inr no ↦
-          cond-false (is_digit b) (digits_kept (with_digit (kept v) b) bs) None no
-          ∙ sym (ap (λ t. cond (t && list_all is_digit bs) (Some (kept (value_from v (b ∷ bs)))) None) no)
+      | inl met ↦
+          cond-true (is_digit b) (digits_kept (with_digit (kept v) b) bs) None met ∙ ap (λ x. digits_kept x bs) same ∙ digits_are (10 * v + (b - 48)) bs
+          ∙ sym (ap (λ t. cond (t && list_all is_digit bs) (Some (kept (value_from v (b ∷ bs)))) None) met)
+      | inr unmet ↦
+          cond-false (is_digit b) (digits_kept (with_digit (kept v) b) bs) None unmet
+          ∙ sym (ap (λ t. cond (t && list_all is_digit bs) (Some (kept (value_from v (b ∷ bs)))) None) unmet)
     ]
 
 number_is : (word : List ℕ) → number_kept word ≡ option_map kept (cert_number word)
 number_is word =
     let value : Option ℕ = cond (list_all is_digit word) (Some (kept (value_of word))) None in
     elim (cases_Bool (has_number_form word)) [
-      | inl yes ↦
-          cond-true (has_number_form word) (digits_kept 0 word) None yes ∙ digits_are 0 word
-          ∙ sym (map_if kept (has_number_form word && list_all is_digit word) (Some (value_of word)) None ∙ ap (λ t. cond (t && list_all is_digit word) (Some (kept (value_of word))) None) yes)
-      | inr no ↦
-          cond-false (has_number_form word) (digits_kept 0 word) None no
-          ∙ sym (map_if kept (has_number_form word && list_all is_digit word) (Some (value_of word)) None ∙ ap (λ t. cond (t && list_all is_digit word) (Some (kept (value_of word))) None) no)
+      | inl met ↦
+          cond-true (has_number_form word) (digits_kept 0 word) None met ∙ digits_are 0 word
+          ∙ sym (map_if kept (has_number_form word && list_all is_digit word) (Some (value_of word)) None ∙ ap (λ t. cond (t && list_all is_digit word) (Some (kept (value_of word))) None) met)
+      | inr unmet ↦
+          cond-false (has_number_form word) (digits_kept 0 word) None unmet
+          ∙ sym (map_if kept (has_number_form word && list_all is_digit word) (Some (value_of word)) None ∙ ap (λ t. cond (t && list_all is_digit word) (Some (kept (value_of word))) None) unmet)
     ]
 
 -- literals
@@ -348,12 +353,12 @@ same_is_step (close_line question clause) = refl
 same_is_step end_line = refl
 
 same_unless : (b : Contents) (slices : List Slice) (stage : Stage) (fault : Option CertKind) (line : CertLine) → length slices < highest → AllNamed stage
-    → and_then (unless fault (Ok (kept_line line))) (λ l. and_then (after b slices stage l) (λ behind. Ok (behind, is_step l)))
-    ≡ and_then (unless fault (Ok line)) (λ l. and_then (after b slices stage l) (λ behind. Ok (behind, is_step l)))
+    → and_then (unless fault (Ok (kept_line line))) (λ l. and_then (after b slices stage l) (taken_as (is_step l)))
+    ≡ and_then (unless fault (Ok line)) (λ l. and_then (after b slices stage l) (taken_as (is_step l)))
 same_unless b slices stage (Some fault) line few named = refl
 same_unless b slices stage None line few named =
-    ap (λ r. and_then r (λ behind. Ok (behind, is_step (kept_line line)))) (same_after b slices stage line few named)
-    ∙ ap (λ t. and_then (after b slices stage line) (λ behind. Ok (behind, t))) (same_is_step line)
+    ap (λ r. and_then r (taken_as (is_step (kept_line line)))) (same_after b slices stage line few named)
+    ∙ ap (λ t. and_then (after b slices stage line) (taken_as t)) (same_is_step line)
 
 same_taken : (b : Contents) (slices : List Slice) (stage : Stage) (line : Option CertLine) → length slices < highest → AllNamed stage
     → taken_line b slices stage (option_map kept_line line) ≡ taken_line b slices stage line
@@ -364,3 +369,10 @@ same_taken b slices stage (Some line) few named = same_unless b slices stage (pa
 pub taken_kept : (b : Contents) (slices : List Slice) (stage : Stage) (text : List ℕ) → length slices < highest → AllNamed stage
     → taken_line b slices stage (line_kept text) ≡ taken_line b slices stage (cert_line text)
 taken_kept b slices stage text few named = ap (taken_line b slices stage) (line_is text) ∙ same_taken b slices stage (cert_line text) few named
+
+-- the same, of a call that takes the line as it was read
+pub taken_as_read : (r : Result Taken (Fail CertKind)) (b : Contents) (slices : List Slice) (stage : Stage) (text : List ℕ) (line : Option Line) (pairs same : List Pair) → length slices < highest → AllNamed stage
+    → line_kept text ≡ option_map (λ l. line_of l pairs) line → same ≡ pairs → Gives r seen (taken_line b slices stage (option_map (λ l. line_of l same) line)) → Gives r seen (taken_line b slices stage (cert_line text))
+taken_as_read r b slices stage text line pairs same few named read is h =
+    let same_line : option_map (λ l. line_of l same) line ≡ line_kept text = ap (λ ps. option_map (λ l. line_of l ps) line) is ∙ sym read in
+    subst (λ a. Gives r seen a) (ap (taken_line b slices stage) same_line ∙ taken_kept b slices stage text few named) h

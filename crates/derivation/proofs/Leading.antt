@@ -1,5 +1,5 @@
 -- The lines of proofs that show that a book can be released lead from the first line to the end.
-use Rattle.std.proofs.Common.{◌≡◌, ℕ, zero, suc, ◌+◌, ◌<◌, ◌≤◌, Bool, true, false, cond, eqb, ltb, ◌&&◌, List, [], ◌∷◌, ◌++◌, Option, None, Some, Result, Ok, Err, length, get_or, take, drop, map, sum, refl, sym, ap, subst, ◌∙◌, arith, append_assoc, eq-eqb}
+use Rattle.std.proofs.Common.{◌≡◌, ℕ, zero, suc, ◌+◌, ◌<◌, ◌≤◌, Bool, true, false, cond, eqb, ltb, ◌&&◌, List, [], ◌∷◌, ◌++◌, Option, None, Some, Result, Ok, Err, length, get_or, take, drop, map, refl, sym, ap, subst, ◌∙◌, arith, append_assoc, eq-eqb}
 use Rattle.std.proofs.Math.Numerals.{add-one}
 use Rattle.std.specs.List.{slice_get, IsDistinct, AllByRecursion, AllZip}
 use Rattle.std.specs.Cmp.Lexicographic.{nat_list_eq_equiv}
@@ -26,10 +26,10 @@ use Rattle.derivation.specs.declared.fault.CertFault.{CertFault}
 use Rattle.derivation.specs.declared.slice_proof.SliceProof.{SliceProof}
 use Rattle.derivation.specs.After.{after, next_slice, is_good_set, opened, good_then, with_clause, closes, closed_by, close_next, end_behind, first_left}
 use Rattle.derivation.specs.CertLine.{CertLine, head_line, book_line, slice_line, set_line, step_line, close_line, end_line, cert_line}
-use Rattle.derivation.specs.Certificate.{at_line, past_end, line_at, is_step, taken_line, after_last, with_line, read_lines, read_cert, within_limits, cert_answer}
+use Rattle.derivation.specs.Certificate.{at_line, past_end, line_at, is_step, taken_as, taken_line, after_last, with_line, read_lines, read_cert, within_limits, cert_answer}
 use Rattle.derivation.specs.Limits.{slices_within}
 use Rattle.derivation.specs.Pieces.{pieces}
-use Rattle.derivation.specs.Showing.{Closes, AllClosed, ShowsSlice, ShowEach, shown_by}
+use Rattle.derivation.specs.Showing.{Closes, AllClosed, ShowsSlice, ShowEach, derived_by, shown_by}
 use Rattle.derivation.specs.Stage.{SliceSoFar, Stage, at_head, at_book, at_slices, at_set, within, at_end, to_close}
 use Rattle.derivation.specs.Written.{members, step_lines, close_lines, slice_lines, lines_from, cert_lines, written, LineFits}
 use Rattle.derivation.proofs.LimitLaws.{some_slices}
@@ -40,6 +40,13 @@ use Rattle.derivation.proofs.MemberLaws.{set_back}
 abbrev after_all : Contents → List Slice → Stage → List CertLine → Result Stage CertKind
 after_all b slices stage [] = Ok stage
 after_all b slices stage (line ∷ lines) = and_then (after b slices stage line) (λ behind. after_all b slices behind lines)
+
+pub zip_at : {A B : Type 0} (R : A → B → Type 0) (xs : List A) (ys : List B) (i : ℕ) (y : B) → AllZip R xs ys → i < length ys → y ≡ get_or ys i y → (x : A) × (slice_get xs i ≡ Some x) × R x y
+zip_at R [] [] i y all below is = absurd (omega arith)
+zip_at R [] (z ∷ ys) i y all below is = absurd all
+zip_at R (x ∷ xs) [] i y all below is = absurd all
+zip_at R (x ∷ xs) (z ∷ ys) zero y all below is = (x, refl, subst (R x) (sym is) all.0)
+zip_at R (x ∷ xs) (z ∷ ys) (suc i) y all below is = zip_at R xs ys i y all.1 (omega arith) is
 
 -- one line, and those behind it
 after_one : (b : Contents) (slices : List Slice) (stage behind : Stage) (line : CertLine) (lines : List CertLine) (end : Result Stage CertKind) → after b slices stage line ≡ Ok behind
@@ -181,9 +188,6 @@ steps_of_closings : (closings : List Closing) → steps_in (close_lines closings
 steps_of_closings [] = refl
 steps_of_closings (c ∷ closings) = let e : 0 + steps_in (close_lines closings) ≡ 0 = omega (arith, steps_of_closings closings) in e
 
-abbrev derived_by : List SliceProof → ℕ
-derived_by proofs = sum (map (λ p. length p.kernel.starts) proofs)
-
 steps_from : (b : Contents) (k : ℕ) (proofs : List SliceProof) → AllByRecursion (λ p. IsDerived p.kernel) proofs → steps_in (lines_from b k proofs) ≡ derived_by proofs
 steps_from b k [] derived = refl
 steps_from b k (p ∷ proofs) derived =
@@ -219,8 +223,8 @@ taken_is : (b : Contents) (slices : List Slice) (stage behind : Stage) (line : C
     → taken_line b slices stage (cert_line (line_text line)) ≡ Ok (behind, is_step line)
 taken_is b slices stage behind line fit h =
     ap (taken_line b slices stage) (line_back line fit)
-    ∙ ap (λ f. and_then (unless f (Ok line)) (λ l. and_then (after b slices stage l) (λ s. Ok (s, is_step l)))) (not_past b slices stage behind line h)
-    ∙ ap (λ r. and_then r (λ s. Ok (s, is_step line))) h
+    ∙ ap (λ f. and_then (unless f (Ok line)) (λ l. and_then (after b slices stage l) (taken_as (is_step l)))) (not_past b slices stage behind line h)
+    ∙ ap (λ r. and_then r (taken_as (is_step line))) h
 
 -- one text, and those behind it
 read_one : (b : Contents) (slices : List Slice) (stage behind : Stage) (n : ℕ) (so_far : Certified) (line : CertLine) (next : List ℕ) (texts : List (List ℕ)) → LineFits line → after b slices stage line ≡ Ok behind

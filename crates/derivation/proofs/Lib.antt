@@ -14,3 +14,5 @@ pub mod MemberLaws
 pub mod PairLaws
 pub mod LineBack
 pub mod Leading
+pub mod TextLaws
+mod WorkedCert

@@ -60,10 +60,10 @@ found_below : (p : List ℕ → Bool) (xs : List (List ℕ)) → list_any p xs �
 found_below p [] h = absurd (false≢true h)
 found_below p (x ∷ xs) h =
     elim (cases_Bool (p x)) [
-      | inl yes ↦ let is : prefix_len (λ y. not (p y)) (x ∷ xs) ≡ 0 = rw yes refl in omega arith
-      | inr no ↦
-          let rest : list_any p xs ≡ true = sym (ap (λ t. t || list_any p xs) no) ∙ h in
-          let is : prefix_len (λ y. not (p y)) (x ∷ xs) ≡ suc (prefix_len (λ y. not (p y)) xs) = rw no refl in
+      | inl met ↦ let is : prefix_len (λ y. not (p y)) (x ∷ xs) ≡ 0 = rw met refl in omega arith
+      | inr unmet ↦
+          let rest : list_any p xs ≡ true = sym (ap (λ t. t || list_any p xs) unmet) ∙ h in
+          let is : prefix_len (λ y. not (p y)) (x ∷ xs) ≡ 1 + prefix_len (λ y. not (p y)) xs = rw unmet refl in
           omega (arith, found_below p xs rest)
     ]
 

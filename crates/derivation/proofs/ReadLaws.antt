@@ -51,10 +51,10 @@ pub other_read : (r : Result (Option Line) Memory) (text keyword step : List ℕ
     → t ≡ same_name keyword step → step ≡ codes "step" → t ≡ false
     → IfOk r (λ line. (ps : List Pair) → other_from number_kept literal_kept keyword rest ≡ option_map (λ l. line_of l ps) line)
     → IfOk r (λ line. line_kept text ≡ option_map (λ l. line_of l pairs) line)
-other_read (Err e) text keyword step words rest t pairs cut first tested is no h = tt
-other_read (Ok line) text keyword step words rest t pairs cut first tested is no h =
+other_read (Err e) text keyword step words rest t pairs cut first tested is out h = tt
+other_read (Ok line) text keyword step words rest t pairs cut first tested is out h =
     ap (line_from number_kept literal_kept) (sym cut ∙ first)
-    ∙ ap (λ b. cond b (step_from number_kept literal_kept rest) (other_from number_kept literal_kept keyword rest)) (ap (same_name keyword) (sym is) ∙ sym tested ∙ no)
+    ∙ ap (λ b. cond b (step_from number_kept literal_kept rest) (other_from number_kept literal_kept keyword rest)) (ap (same_name keyword) (sym is) ∙ sym tested ∙ out)
     ∙ h pairs
 
 pub other_pairs : (r : Result (Option Line) Memory) (pairs : List Pair) → IfOk r (λ line. (ps : List Pair) → IfSome line (λ l. HasPairs l ps)) → IfOk r (λ line. IfSome line (λ l. HasPairs l pairs))

@@ -31,7 +31,7 @@ use Rattle.derivation.specs.declared.fault.CertKind.TheVariants.{Syntax, WrongBo
 use Rattle.derivation.specs.declared.fault.Certified.{Certified}
 use Rattle.derivation.specs.After.{after, after_head, after_name, after_slices, after_number, after_within, next_slice, is_good_set, opened, good_then, with_clause, closes, closed_by, close_next, first_left, end_behind}
 use Rattle.derivation.specs.CertLine.{CertLine, head_line, book_line, slice_line, set_line, step_line, close_line, end_line, cert_line}
-use Rattle.derivation.specs.Certificate.{at_line, past_end, line_at, is_step, taken_line, after_last, with_line, read_lines, read_cert}
+use Rattle.derivation.specs.Certificate.{at_line, past_end, line_at, is_step, taken_as, taken_line, after_last, with_line, read_lines, read_cert}
 use Rattle.derivation.specs.Pieces.{pieces}
 use Rattle.derivation.specs.Stage.{SliceSoFar, Stage, at_head, at_book, at_slices, at_set, within, at_end, to_close}
 use Rattle.derivation.proofs.Refuted.{IsClosed, AllRefuted, all_refuted}
@@ -249,8 +249,8 @@ same_taken s t h = cc
 
 holds_taken : (b : Contents) (slices : List Slice) (stage : Stage) (line : Option CertLine) (taken : Stage × Bool) → Holds b slices stage → taken_line b slices stage line ≡ Ok taken → Holds b slices taken.0
 holds_taken b slices stage line taken k h =
-    let read = value_of (line_at stage line) (λ l. and_then (after b slices stage l) (λ behind. Ok (behind, is_step l))) taken h in
-    let done = value_of (after b slices stage read.0) (λ behind. Ok (behind, is_step read.0)) taken read.2 in
+    let read = value_of (line_at stage line) (λ l. and_then (after b slices stage l) (taken_as (is_step l))) taken h in
+    let done = value_of (after b slices stage read.0) (taken_as (is_step read.0)) taken read.2 in
     let same : done.0 ≡ taken.0 = ap (λ r. r.0) (same_taken (done.0, is_step read.0) taken done.2) in
     subst (Holds b slices) same (holds_after b slices stage read.0 done.0 k done.1)
 

@@ -36,8 +36,11 @@ is_step (step_line start pairs) = true
 is_step _ = false
 
 -- the stage behind a line, and whether the line is a step
+abbrev pub taken_as : Bool → Stage → Result (Stage × Bool) CertKind
+taken_as is_step behind = Ok (behind, is_step)
+
 abbrev pub taken_line : Contents → List Slice → Stage → Option CertLine → Result (Stage × Bool) CertKind
-taken_line b slices stage line = and_then (line_at stage line) (λ l. and_then (after b slices stage l) (λ behind. Ok (behind, is_step l)))
+taken_line b slices stage line = and_then (line_at stage line) (λ l. and_then (after b slices stage l) (taken_as (is_step l)))
 
 -- nothing may stand behind the last line feed, which ends the end line
 abbrev pub after_last : Certified → Stage → List ℕ → Result Certified CertKind

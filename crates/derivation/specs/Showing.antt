@@ -2,7 +2,7 @@
 --     ShowsSlice b s proof     what a proof has to be for a slice
 --     ShowEach b proofs        all of it
 --     shown_by proofs          what their certificate is answered
-use Rattle.std.specs.Prelude.{◌≡◌, ℕ, ◌<◌, true, List, [], Ok, length, map, sum, take, slice_index_or}
+use Rattle.std.specs.Prelude.{◌≡◌, ℕ, ◌+◌, ◌<◌, true, List, [], ◌∷◌, Ok, length, take, slice_index_or}
 use Rattle.std.specs.List.{AllZip}
 use Rattle.book_model.specs.Contents.{Contents}
 use Rattle.book_model.specs.Good.{is_good}
@@ -45,6 +45,11 @@ pub record ShowEach (b : Contents) (proofs : List SliceProof) : Type 0 where
   pub within : slices_within b ≡ Ok slices
   pub each : AllZip (ShowsSlice b) slices proofs
 
--- one slice for each proof, and one step for each clause that its kernel derived
+-- the clauses that the kernels derived
+abbrev pub derived_by : List SliceProof → ℕ
+derived_by [] = 0
+derived_by (proof ∷ proofs) = length proof.kernel.starts + derived_by proofs
+
+-- one slice for each proof, and one step for each clause that was derived
 abbrev pub shown_by : List SliceProof → Certified
-shown_by proofs = record { slices = length proofs; steps = sum (map (λ p. length p.kernel.starts) proofs) }
+shown_by proofs = record { slices = length proofs; steps = derived_by proofs }

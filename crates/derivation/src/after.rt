@@ -13,6 +13,7 @@ ghost use Rattle.derivation.specs.Stage.{within};
 
 use crate::closing::to_close;
 use crate::fault::CertKind;
+use crate::laws::{coded_laws, kernel_laws};
 use crate::line::Line;
 use crate::stage::{OpenSlice, Stage};
 use book_model::{Book, Slice, is_good};
@@ -153,9 +154,10 @@ fn open_slice(alloc: Global, book: &Book, slice: &Slice, number: u32) -> Result<
     ensures named { IfOk result (λ s. NamesKept (so_far_of s)) }
 {
     let coded = coded_slice(alloc, book, slice)?;
+    coded_laws(&coded);
     let to_close = to_close(alloc, &coded.questions)?;
     let kernel = Kernel::of(alloc, coded.pool);
-    let _countable = clause_count(&kernel);
+    kernel_laws(&kernel);
     Ok(OpenSlice {
         slice: number,
         kernel,
@@ -201,18 +203,12 @@ fn derive(slice: &mut OpenSlice, start: Ref, pairs: &[Pair]) -> Result<(), Fail<
 {
     match slice.kernel.resolve(start, pairs) {
         Ok(_) => {
-            let _countable = clause_count(&slice.kernel);
+            kernel_laws(&slice.kernel);
             Ok(())
         }
         Err(Fail::Refused(fault)) => Err(Fail::Refused(step_kind(fault))),
         Err(Fail::Memory) => Err(Fail::Memory),
     }
-}
-
-fn clause_count(kernel: &Kernel) -> usize
-    ensures { result ≡ length kernel.now.clauses }
-{
-    kernel.pool().len()
 }
 
 fn step_kind(fault: StepFault) -> CertKind

@@ -1,15 +1,20 @@
 //! The check of a certificate.
-ghost use Rattle.std.specs.Prelude.{◌≡◌, ◌+◌, ◌<◌, ◌≤◌, ◌^◌, List, IfOk, OnOk, is_some, length};
+ghost use Rattle.std.specs.Prelude.{◌≡◌, ◌+◌, ◌<◌, ◌≤◌, ◌^◌, List, IfOk, IfSome, OnOk, is_some, length};
+ghost use Rattle.std.specs.Option.{option_map};
+ghost use Rattle.pb_base.specs.Results.{and_then};
 ghost use Rattle.pb_base.specs.Answers.{Answers, Gives};
 ghost use Rattle.book_model.specs.Sound.{IsReleasable};
 ghost use Rattle.clause_pool.specs.declared.chain.Pair.{Pair};
+ghost use Rattle.derivation.specs.After.{after};
 ghost use Rattle.derivation.specs.CertLine.{cert_line};
-ghost use Rattle.derivation.specs.Certificate.{after_last, cert_answer, is_step, past_end, read_cert, taken_line, with_line};
+ghost use Rattle.derivation.specs.Certificate.{after_last, cert_answer, is_step, past_end, read_cert, taken_as, taken_line, with_line};
 ghost use Rattle.derivation.specs.Kept.{AllNamed};
-ghost use Rattle.derivation.specs.Reading.{fault_at, line_of, seen, stage_of};
+ghost use Rattle.derivation.specs.Limits.{AreWithin};
+ghost use Rattle.derivation.specs.Reading.{HasPairs, fault_at, line_of, seen, stage_of};
 
 use crate::after::after;
 use crate::fault::{CertFault, CertKind, Certified};
+use crate::laws::book_laws;
 use crate::limits::slices_within;
 use crate::line::{Line, read_line};
 use crate::pieces::Pieces;
@@ -25,7 +30,7 @@ pub fn check_cert(alloc: Global, book: &Book, cert: &[u8]) -> Result<Certified, 
     ensures answer { Answers result (cert_answer book.now cert.now) }
     ensures releasable { OnOk result (IsReleasable book.now) }
 {
-    let _conditions = book.codes();
+    book_laws(book);
     match slices_within(alloc, book) {
         Ok(slices) => read_cert(alloc, book, slices.as_slice(), cert),
         Err(Fail::Refused(fault)) => Err(Fail::Refused(CertFault {
@@ -43,7 +48,8 @@ fn read_cert(
     slices: &[Slice],
     cert: &[u8],
 ) -> Result<Certified, Fail<CertFault>>
-    requires { length slices.now < 2 ^ 32 }
+    requires few { length slices.now < 2 ^ 32 }
+    requires within { AreWithin book.now slices.now }
     ensures { Answers result (read_cert book.now cert.now slices.now) }
 {
     let mut texts = Pieces::of(cert, b'\n');
@@ -138,8 +144,7 @@ struct Taken {
     is_step: bool,
 }
 
-#[tactic(auto, using(crate::proofs::KeptLaws::taken_kept))]
-// Takes one line. The room for pairs serves every line.
+// Takes one text. The room for pairs serves every line.
 fn take_line(
     alloc: Global,
     book: &Book,
@@ -149,19 +154,61 @@ fn take_line(
     pairs: &mut Vec<Pair>,
 ) -> Result<Taken, Fail<CertKind>>
     requires few { length slices.now < 2 ^ 32 }
+    requires within { AreWithin book.now slices.now }
     requires named { AllNamed (stage_of stage) }
     ensures answer { Gives result seen (taken_line book.now slices.now (stage_of stage) (cert_line text.now)) }
+    ensures named { IfOk result (λ taken. AllNamed (stage_of taken.stage)) }
+{
+    let line = read_line(alloc, text, pairs)?;
+    take_read(alloc, book, slices, stage, line, pairs)
+}
+
+// Takes a line that was read, or nothing where the text has the form of none.
+fn take_read(
+    alloc: Global,
+    book: &Book,
+    slices: &[Slice],
+    stage: Stage,
+    line: Option<Line>,
+    pairs: &[Pair],
+) -> Result<Taken, Fail<CertKind>>
+    requires few { length slices.now < 2 ^ 32 }
+    requires within { AreWithin book.now slices.now }
+    requires named { AllNamed (stage_of stage) }
+    requires pairs { IfSome line (λ l. HasPairs l pairs.now) }
+    ensures answer { Gives result seen (taken_line book.now slices.now (stage_of stage) (option_map (λ l. line_of l pairs.now) line)) }
     ensures named { IfOk result (λ taken. AllNamed (stage_of taken.stage)) }
 {
     if is_past_end(&stage) {
         return Err(Fail::Refused(CertKind::Trailing));
     }
-    let Some(line) = read_line(alloc, text, pairs)? else {
-        return Err(Fail::Refused(CertKind::Syntax));
-    };
-    let behind = after(alloc, book, slices, stage, &line, pairs)?;
-    Ok(Taken {
-        stage: behind,
-        is_step: is_step(&line),
-    })
+    match line {
+        None => Err(Fail::Refused(CertKind::Syntax)),
+        Some(line) => take(alloc, book, slices, stage, &line, pairs),
+    }
+}
+
+fn take(
+    alloc: Global,
+    book: &Book,
+    slices: &[Slice],
+    stage: Stage,
+    line: &Line,
+    pairs: &[Pair],
+) -> Result<Taken, Fail<CertKind>>
+    requires few { length slices.now < 2 ^ 32 }
+    requires within { AreWithin book.now slices.now }
+    requires named { AllNamed (stage_of stage) }
+    requires pairs { HasPairs line.now pairs.now }
+    ensures answer { let l = line_of line.now pairs.now in
+        Gives result seen (and_then (after book.now slices.now (stage_of stage) l) (taken_as (is_step l))) }
+    ensures named { IfOk result (λ taken. AllNamed (stage_of taken.stage)) }
+{
+    match after(alloc, book, slices, stage, line, pairs) {
+        Ok(behind) => Ok(Taken {
+            stage: behind,
+            is_step: is_step(line),
+        }),
+        Err(fail) => Err(fail),
+    }
 }

@@ -5,6 +5,7 @@ mod after;
 mod check;
 mod closing;
 mod fault;
+mod laws;
 mod limits;
 mod line;
 mod pieces;
@@ -19,3 +20,8 @@ pub use fault::{CertFault, CertKind, Certified};
 pub use limits::slices_within;
 pub use slice_proof::SliceProof;
 pub use write::write_cert;
+
+#[cfg(test)]
+mod hand_made;
+#[cfg(test)]
+mod tests;

@@ -4,11 +4,12 @@ ghost use Rattle.std.specs.Fmt.{decimal};
 ghost use Rattle.std.specs.List.{AllByRecursion};
 ghost use Rattle.clause_pool.specs.Derivation.{IsDerived};
 ghost use Rattle.derivation.specs.Certificate.{cert_answer};
-ghost use Rattle.derivation.specs.CertLine.{book_line, set_line, slice_line, step_line};
+ghost use Rattle.derivation.specs.CertLine.{book_line, slice_line, step_line};
 ghost use Rattle.derivation.specs.Showing.{ShowEach, shown_by};
 ghost use Rattle.derivation.specs.Written.{LineFits, PairFits, cert_lines, close_lines, line_of, literal_word, members, pair_words, slice_lines, spaced, step_lines, written};
 
 use crate::closing::Closing;
+use crate::laws::book_laws;
 use crate::slice_proof::SliceProof;
 use book_model::Book;
 use clause_pool::{Kernel, Lit, Pair, Ref};
@@ -22,7 +23,7 @@ pub fn write_cert(alloc: Global, book: &Book, proofs: &[SliceProof]) -> Result<B
     ensures text { IfOk result (λ text. text ≡ written (cert_lines book.now proofs.now)) }
     ensures answer { IfOk result (λ text. cert_answer book.now text ≡ Ok (shown_by proofs.now)) }
 {
-    let _conditions = book.codes();
+    book_laws(book);
     let mut text = Text::new(alloc);
     text.put(b"partsbook certificate 1\n")?;
     put_book(&mut text, book.name(), proofs.len() as u64)?;
@@ -37,7 +38,7 @@ pub fn write_cert(alloc: Global, book: &Book, proofs: &[SliceProof]) -> Result<B
 #[tactic(auto, using(crate::proofs::LineLaws::some_words, crate::proofs::LineLaws::more_words))]
 fn put_book(text: &mut Text, name: &Id, slices: u64) -> Result<(), Memory>
     ensures text { OnOk result (text.new ≡ text.old ++ line_of (codes "book") (name.now ∷ decimal slices ∷ [])) }
-    ensures fit { LineFits (book_line name.now slices) }
+    ensures fit { OnOk result (LineFits (book_line name.now slices)) }
 {
     text.put(b"book")?;
     put_word(text, name.bytes())?;
@@ -57,6 +58,7 @@ fn put_slice(
     ensures fit { OnOk result (AllByRecursion LineFits (slice_lines book.now number proof.now)) }
     ensures derived { OnOk result (IsDerived proof.now.kernel) }
 {
+    book_laws(book);
     put_slice_line(text, number as u64)?;
     put_set_line(text, book.codes(), &proof.set)?;
     put_steps(text, &proof.kernel)?;
@@ -75,11 +77,10 @@ fn put_slice_line(text: &mut Text, number: u64) -> Result<(), Memory>
 }
 
 // The line of a set.
-#[tactic(auto, using(crate::proofs::LineLaws::some_words, crate::proofs::LineLaws::more_words, crate::proofs::MemberLaws::members_are_codes))]
+#[tactic(auto, using(crate::proofs::LineLaws::some_words, crate::proofs::LineLaws::more_words))]
 fn put_set_line(text: &mut Text, table: &CodeTable, set: &CodeSet) -> Result<(), Memory>
     requires { length set.now ≡ length table.now }
-    ensures text { OnOk result (text.new ≡ text.old ++ line_of (codes "set") (members table.now set.now)) }
-    ensures fit { OnOk result (LineFits (set_line (members table.now set.now))) }
+    ensures { OnOk result (text.new ≡ text.old ++ line_of (codes "set") (members table.now set.now)) }
 {
     text.put(b"set")?;
     put_members(text, table, set)?;
