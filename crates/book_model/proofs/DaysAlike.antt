@@ -1,6 +1,6 @@
 -- On two days on which the same records are active, the same sets are good, the same variants are selected and the same sets are
 -- sound; and each day of a term is like the first day of one of its slices.
-use Rattle.std.proofs.Common.{◌≡◌, ℕ, zero, suc, ◌+◌, ◌-◌, ◌<◌, ◌≤◌, Bool, true, false, not, ◌&&◌, ◌||◌, cond, eqb, List, [], ◌∷◌, ◌++◌, Some, length, map, inl, inr, refl, sym, ap, subst, ◌∙◌, ◌⊎◌, arith, All, IsTrue}
+use Rattle.std.proofs.Common.{◌≡◌, ℕ, zero, suc, ◌+◌, ◌-◌, ◌<◌, ◌≤◌, Bool, true, false, not, ◌&&◌, ◌||◌, cond, eqb, List, [], ◌∷◌, ◌++◌, Some, length, map, inl, inr, refl, sym, ap, subst, ◌∙◌, ◌⊎◌, arith, IsTrue}
 use Rattle.std.specs.List.{filter, slice_get, list_any, range_with_len, flat_map, AllByRecursion}
 use Rattle.std.specs.Option.{option_map_or}
 use Rattle.std.proofs.lemmas.Bool.{false≢true, or_cases, and_from, eqb-true, eq-eqb, le-leb, cases_eq}
@@ -10,7 +10,7 @@ use Rattle.pb_base.specs.Sets.{has}
 use Rattle.book_model.specs.Activity.{is_within}
 use Rattle.book_model.specs.Contents.{Contents}
 use Rattle.book_model.specs.Good.{fires, breaks, applies, is_good, is_closed, is_constructible}
-use Rattle.book_model.specs.Parts.{variants_of, is_selected, is_selected_at, selected}
+use Rattle.book_model.specs.Parts.{variants_of, is_selected, is_selected_at}
 use Rattle.book_model.specs.Sound.{permits, is_fit, are_fit_from, is_sound}
 use Rattle.book_model.specs.Slices.{periods_of, days_from_to, days_in, AreAlike, IsSteady}
 use Rattle.book_model.specs.declared.record.Slice.{Slice}

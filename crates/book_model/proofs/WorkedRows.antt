@@ -7,7 +7,7 @@ use Rattle.book_model.specs.Good.{is_closed, is_constructible, is_good}
 use Rattle.book_model.specs.Parts.{parts, selected}
 use Rattle.book_model.specs.Sound.{is_sound}
 use Rattle.book_model.specs.Slices.{days_from_to, slices_of}
-use Rattle.book_model.specs.WorkedBook.{an_engine, one_engine, a_gearbox, one_gearbox, motor, motor_position, m1, m2, book_with, book_t, set_t}
+use Rattle.book_model.specs.WorkedBook.{an_engine, a_gearbox, one_gearbox, motor, motor_position, m1, m2, book_with, book_t, set_t}
 
 -- all sets of n codes
 abbrev sets_of : ℕ → List (List Bool)

@@ -54,8 +54,11 @@ runs_from (day ∷ days) last = days_from_to day (end_before days last) ∷ runs
 abbrev pub all_slices : Contents → List Slice
 all_slices b = runs_from (change_days b) b.last
 
+abbrev pub within_limit : List Slice → Result (List Slice) LimitFault
+within_limit slices = if nat_le (length slices) MOST_SLICES then Ok slices else Err (Slices (length slices))
+
 unfoldable pub slices_of : Contents → Result (List Slice) LimitFault
-slices_of b = if nat_le (length (all_slices b)) MOST_SLICES then Ok (all_slices b) else Err (Slices (length (all_slices b)))
+slices_of b = within_limit (all_slices b)
 
 -- the days of a slice
 abbrev pub days_in : Slice → List ℕ

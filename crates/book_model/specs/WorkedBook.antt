@@ -7,7 +7,6 @@ use Rattle.pb_base.specs.Rule.{Rule, code, negation, both, either}
 use Rattle.book_model.specs.Contents.{Contents}
 use Rattle.book_model.specs.declared.record.Supplement.{Supplement}
 use Rattle.book_model.specs.declared.record.Construct.{Construct}
-use Rattle.book_model.specs.declared.record.Module.{Module}
 use Rattle.book_model.specs.declared.record.Position.{Position}
 use Rattle.book_model.specs.declared.record.Variant.{Variant}
 

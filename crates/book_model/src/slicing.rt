@@ -1,8 +1,8 @@
 //! The slices of a book's term.
-ghost use Rattle.std.specs.Prelude.{◌≡◌, IfOk, All};
+ghost use Rattle.std.specs.Prelude.{◌≡◌, ◌<◌, ◌^◌, IfOk, All, length};
 ghost use Rattle.std.specs.List.{flat_map};
 ghost use Rattle.pb_base.specs.Answers.{Answers};
-ghost use Rattle.book_model.specs.Slices.{end_before, runs_from, slices_of, days_in, days_of, IsOrdered, IsSteady};
+ghost use Rattle.book_model.specs.Slices.{end_before, runs_from, within_limit, slices_of, days_in, days_of, IsOrdered, IsSteady};
 
 use crate::book::Book;
 use crate::change_days::change_days;
@@ -56,10 +56,22 @@ pub fn slices(alloc: Global, book: &Book) -> Result<SliceList, Fail<LimitFault>>
     let term = book.term();
     let periods = periods_of(alloc, book)?;
     let days = change_days(alloc, term, &periods)?;
+    runs_within(alloc, &days, term.last)
+}
+
+// The runs of these days, unless they are too many.
+pub(crate) fn runs_within(
+    alloc: Global,
+    days: &[Day],
+    last: Day,
+) -> Result<SliceList, Fail<LimitFault>>
+    requires { length days.now < 2 ^ 32 }
+    ensures { Answers result (within_limit (runs_from days.now last)) }
+{
     if days.len() > MOST_SLICES {
         return Err(Fail::Refused(LimitFault::Slices(days.len() as u32)));
     }
-    let slices = runs_from(alloc, &days, term.last)?;
+    let slices = runs_from(alloc, days, last)?;
     Ok(SliceList { slices })
 }
 
