@@ -13,4 +13,4 @@ pub mod CodedLaws
 pub mod QuestionLaws
 pub mod RangeLaws
 pub mod MeetLaws
-mod SmallBook
+mod WorkedSlice
