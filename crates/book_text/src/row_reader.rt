@@ -1,22 +1,24 @@
-//! The rows of a book's text, as `csv` reads them.
-ghost use Rattle.std.specs.Prelude.{◌≡◌, ◌≤◌, true, Ok, IfOk, length};
+//! Reads the rows of a book's text one at a time, as `csv` reads them.
+ghost use Rattle.std.specs.Prelude.{◌≡◌, ◌≤◌, true, IfOk, length};
+ghost use Rattle.pb_base.specs.declared.limits.TheConstants.{MOST_TEXT_BYTES};
+ghost use Rattle.csv.specs.Reading.{error_kind, stops_reader};
 ghost use Rattle.csv.specs.Records.{fields_of};
 ghost use Rattle.book_text.specs.Rows.{rows_of, IsNext, IsShort};
 
-use csv::{ByteRecord, Error, Reader, ReaderBuilder};
+use csv::{ByteRecord, Error, ErrorKind, Reader, ReaderBuilder};
 use pb_base::Memory;
 use std::alloc::Global;
 use std::marker::Model;
 
-/// The rows of a text that are left to be read, in order: no header row, and rows of any length. A contract sees the list of them.
+/// Reads a text row by row: no header row, and rows of any length. A contract sees the list of the rows that are left.
 #[derive(Drop)]
-pub struct Rows<'t> {
+pub struct RowReader<'t> {
     reader: Reader<&'t [u8]>,
     // Whether a read found no further row, or failed.
     ended: bool,
 }
 
-impl<'t> Model for Rows<'t> {
+impl<'t> Model for RowReader<'t> {
     ghost use Rattle.book_text.specs.Rows.{Row};
     ghost use Rattle.std.specs.Prelude.{◌≡◌, List, [], false, if◌then◌else◌};
 
@@ -29,10 +31,10 @@ impl<'t> Model for Rows<'t> {
     ghost invariant = { λ r. r.ended ≡ false → IsReading r.reader };
 }
 
-impl<'t> Rows<'t> {
+impl<'t> RowReader<'t> {
     /// All rows of a text.
-    pub fn of(alloc: Global, text: &'t [u8]) -> Rows<'t>
-        requires { length text.now ≤ 1048576 }
+    pub fn of(alloc: Global, text: &'t [u8]) -> RowReader<'t>
+        requires { length text.now ≤ MOST_TEXT_BYTES }
         ensures rows { result ≡ rows_of text.now }
         ensures count { length result ≤ length text.now }
     {
@@ -40,7 +42,7 @@ impl<'t> Rows<'t> {
             .has_headers(false)
             .flexible(true)
             .from_reader(alloc, text);
-        Rows {
+        RowReader {
             reader,
             ended: false,
         }
@@ -56,18 +58,26 @@ impl<'t> Rows<'t> {
         }
         // Until a row is found: a reader that failed is not asked again.
         self.ended = true;
-        let found = or_memory(self.reader.read_byte_record(row))?;
-        self.ended = !found;
-        Ok(found)
+        match self.reader.read_byte_record(row) {
+            Ok(found) => {
+                self.ended = !found;
+                Ok(found)
+            }
+            Err(error) => Err(want_of_memory(&error)),
+        }
     }
 }
 
-// What a read of a slice gives: no error but want of memory comes from one.
-fn or_memory(read: Result<bool, Error>) -> Result<bool, Memory>
-    ensures { IfOk result (λ found. read ≡ Ok found) }
+// What an error of reading a slice of bytes comes from. A slice gives no error of its own, and `Io` stands here only since the
+// contract of `csv` can't say so; no row is too long or too short for the others, and none is asked to be text.
+fn want_of_memory(error: &Error) -> Memory
+    requires { stops_reader (error_kind error.now) ≡ true }
 {
-    match read {
-        Ok(found) => Ok(found),
-        Err(_) => Err(Memory),
+    match error.kind() {
+        ErrorKind::OutOfMemory | ErrorKind::Io(_) => Memory,
+        ErrorKind::UnequalLengths { .. }
+        | ErrorKind::Utf8 { .. }
+        | ErrorKind::Serialize(_)
+        | ErrorKind::Deserialize { .. } => unreachable!(),
     }
 }

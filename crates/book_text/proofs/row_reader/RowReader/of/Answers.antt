@@ -2,7 +2,7 @@ use Rattle.std.proofs.Common.{◌+◌, length, refl, ◌∙◌, inr, arith}
 use Rattle.csv.specs.Reading.{strip_bom}
 use Rattle.csv.specs.declared.parser.State.TheVariants as st
 use Rattle.book_text.proofs.RowsLemmas.{rows-count, strip_bom-shorter}
-use Rattle.book_text.proofs.rows.Rows.of.Goals as goal
+use Rattle.book_text.proofs.row_reader.RowReader.of.Goals as goal
 
 pub invariant_of-result : goal.invariant_of-result
 invariant_of-result c = λ going.
@@ -11,6 +11,7 @@ invariant_of-result c = λ going.
     let flexible = c.flexible.ensures in
     record {
       untrimmed = rw (flexible, headers) at fr.trim ∙ c.new.ensures.trim;
+      flexible = rw flexible at fr.flexible;
       ready = inr (inr (rw (flexible, headers) at fr.has_headers, fr.headers));
       config = rw (flexible, headers) at fr.config ∙ c.new.ensures.config;
       between = rw fr.state refl;
