@@ -96,7 +96,7 @@ steps_lead b slices s clauses n (start ∷ starts) (pairs ∷ chains) lines end 
     subst (λ m. chain (take m clauses) start pairs ≡ Ok (get_or clauses m [])) (let e : n + 0 ≡ n = omega arith in e) (derive 0 (let some : 0 < suc (length starts) = omega arith in some)) in
     let grown : s.clauses ++ clause ∷ [] ≡ take (n + 1) clauses = ap (λ cs. cs ++ clause ∷ []) is ∙ sym (take_more clauses n [] below) in
     let later : Derives clauses (n + 1) starts chains = λ j inside.
-        subst (λ m. chain (take m clauses) (get_or starts j 0) (get_or chains j []) ≡ Ok (get_or clauses m [])) (let e : n + suc j ≡ n + 1 + j = omega arith in e) (derive (suc j) (let more : suc j < suc (length starts) = omega arith in more)) in
+    subst (λ m. chain (take m clauses) (get_or starts j 0) (get_or chains j []) ≡ Ok (get_or clauses m [])) (let e : n + suc j ≡ n + 1 + j = omega arith in e) (derive (suc j) (let more : suc j < suc (length starts) = omega arith in more)) in
     after_one b slices (within s) (within (record s { clauses = s.clauses ++ clause ∷ [] })) (step_line start pairs) (step_lines starts chains ++ lines) end
     (ap (with_clause s) (ap (λ cs. chain cs start pairs) is ∙ here))
     (steps_lead b slices (record s { clauses = s.clauses ++ clause ∷ [] }) clauses (n + 1) starts chains lines end (omega arith) (omega arith) later grown rest)

@@ -31,9 +31,10 @@ one_digit n below = (and_from (is_digit (48 + n)) true (digit_is n below) refl, 
 
 one_more : (n : ℕ) (ds : List ℕ) → 10 ≤ n → IsWritten (n / 10) ds → IsWritten n (ds ++ (48 + n % 10) ∷ [])
 one_more n ds more front =
-    let last : is_digit (48 + n % 10) ≡ true = digit_is (n % 10) (omega arith) in
-    (list_all-append is_digit ds ((48 + n % 10) ∷ []) ∙ and_from (list_all is_digit ds) (list_all is_digit ((48 + n % 10) ∷ [])) front.0 (and_from (is_digit (48 + n % 10)) true last refl),
-    value_more 0 ds (48 + n % 10) ∙ (let sum : 10 * value_from 0 ds + ((48 + n % 10) - 48) ≡ n = omega (arith, front.1) in sum))
+    let last : is_digit (48 + n % 10) ≡ true = digit_is (n % 10) (omega arith) in (
+      list_all-append is_digit ds ((48 + n % 10) ∷ []) ∙ and_from (list_all is_digit ds) (list_all is_digit ((48 + n % 10) ∷ [])) front.0 (and_from (is_digit (48 + n % 10)) true last refl),
+      value_more 0 ds (48 + n % 10) ∙ (let sum : 10 * value_from 0 ds + ((48 + n % 10) - 48) ≡ n = omega (arith, front.1) in sum),
+    )
 
 has_form : (word : List ℕ) → 0 < length word → length word ≤ 20 → (48 < get_or word 0 0) ⊎ (length word ≡ 1) → has_number_form word ≡ true
 has_form [] some short first = absurd (omega arith)

@@ -20,8 +20,3 @@ pub use fault::{CertFault, CertKind, Certified};
 pub use limits::slices_within;
 pub use slice_proof::SliceProof;
 pub use write::write_cert;
-
-#[cfg(test)]
-mod hand_made;
-#[cfg(test)]
-mod tests;

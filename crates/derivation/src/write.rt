@@ -47,12 +47,7 @@ fn put_book(text: &mut Text, name: &Id, slices: u64) -> Result<(), Memory>
 }
 
 // The lines of the slice of this number.
-fn put_slice(
-    text: &mut Text,
-    book: &Book,
-    number: usize,
-    proof: &SliceProof,
-) -> Result<(), Memory>
+fn put_slice(text: &mut Text, book: &Book, number: usize, proof: &SliceProof) -> Result<(), Memory>
     requires { length proof.now.set ≡ length book.now.codes }
     ensures text { OnOk result (text.new ≡ text.old ++ written (slice_lines book.now number proof.now)) }
     ensures fit { OnOk result (AllByRecursion LineFits (slice_lines book.now number proof.now)) }
