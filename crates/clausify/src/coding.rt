@@ -1,6 +1,6 @@
 //! The clauses of a slice.
-ghost use Rattle.std.specs.Prelude.{◌≡◌, ◌≤◌, IfOk, map};
-ghost use Rattle.book_model.specs.Slices.{IsSteady};
+ghost use Rattle.std.specs.Prelude.{◌≡◌, IfOk, map};
+ghost use Rattle.book_model.specs.Slices.{IsOrdered, IsSteady};
 ghost use Rattle.clausify.specs.Questions.{questions};
 ghost use Rattle.clausify.specs.Coded.{IsCoded};
 ghost use Rattle.clausify.specs.Limit.{CodesWithin};
@@ -15,19 +15,18 @@ use crate::items::add_rules;
 use crate::question::{Asked, Coded, Question};
 use book_model::{Book, Slice};
 use clause_pool::Lit;
+use pb_base::limits::MOST_QUESTIONS;
 use pb_base::{Fail, Memory};
 use std::alloc::Global;
-
-/// The most questions that may be asked of a slice.
-const MOST_QUESTIONS: u64 = 200_000;
 
 /// The clauses of a slice of the book, with its questions, however many these are.
 pub fn coded_slice(alloc: Global, book: &Book, slice: &Slice) -> Result<Coded, Memory>
     ensures coded { IfOk result (λ c. IsCoded book.now slice.now.first c) }
-    ensures questions { IfOk result (λ c. map (λ q. q.question) c.questions.items ≡ questions book.now slice.now.first) }
+    ensures questions { IfOk result (λ c. map (λ q. q.question) c.questions.items
+        ≡ questions book.now slice.now.first) }
     ensures ranges { IfOk result (λ c. IsInRange book.now c) }
     ensures sets { IfOk result (λ c. IsSteady book.now slice.now → CodesSlice book.now slice.now c) }
-    ensures decides { IfOk result (λ c. IsSteady book.now slice.now → slice.now.first ≤ slice.now.last
+    ensures decides { IfOk result (λ c. IsSteady book.now slice.now → IsOrdered slice.now
         → DecidesEach book.now slice.now c) }
 {
     let codes = book.codes();
@@ -52,14 +51,15 @@ pub fn coded_slice(alloc: Global, book: &Book, slice: &Slice) -> Result<Coded, M
 /// are more than 200,000.
 pub fn clauses_of(alloc: Global, book: &Book, slice: &Slice) -> Result<Coded, Fail<u64>>
     ensures coded { CodesWithin book.now slice.now.first result }
-    ensures questions { IfOk result (λ c. map (λ q. q.question) c.questions.items ≡ questions book.now slice.now.first) }
+    ensures questions { IfOk result (λ c. map (λ q. q.question) c.questions.items
+        ≡ questions book.now slice.now.first) }
     ensures ranges { IfOk result (λ c. IsInRange book.now c) }
     ensures sets { IfOk result (λ c. IsSteady book.now slice.now → CodesSlice book.now slice.now c) }
-    ensures decides { IfOk result (λ c. IsSteady book.now slice.now → slice.now.first ≤ slice.now.last
+    ensures decides { IfOk result (λ c. IsSteady book.now slice.now → IsOrdered slice.now
         → DecidesEach book.now slice.now c) }
 {
     let count = question_count(book, slice);
-    if count > MOST_QUESTIONS {
+    if count > MOST_QUESTIONS as u64 {
         return Err(Fail::Refused(count));
     }
     Ok(coded_slice(alloc, book, slice)?)

@@ -3,3 +3,4 @@ mod NameFaults
 mod DigitRoom
 pub mod Nodes
 pub mod Shapes
+mod TableLemmas

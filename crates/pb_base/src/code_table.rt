@@ -6,26 +6,26 @@ ghost use Rattle.pb_base.specs.Table.{AddsName};
 
 use crate::answer::Fail;
 use crate::names::CodeName;
-use indexmap::IndexSet;
+use crate::table::Table;
 use std::alloc::Global;
 use std::marker::Model;
 
 /// The codes of a book in record order, each under its place, counted from 0. A contract sees the list of their names.
 #[derive(Drop)]
 pub struct CodeTable {
-    names: IndexSet<CodeName>,
+    names: Table<CodeName>,
 }
 
 impl Model for CodeTable {
-    ghost use Rattle.std.specs.Prelude.{◌≡◌, List, ℕ, length, ◌<◌, ◌^◌, true};
+    ghost use Rattle.std.specs.Prelude.{◌≡◌, List, ℕ, true};
     ghost use Rattle.std.specs.List.{list_all};
     ghost use Rattle.pb_base.specs.Names.{is_code_name};
 
     ghost Value = { List (List ℕ) };
 
-    ghost view = { λ t. t.names.keys };
+    ghost view = { λ t. t.names };
 
-    ghost invariant = { λ t. (length t.names.keys < 2 ^ 32) × (list_all is_code_name t.names.keys ≡ true) };
+    ghost invariant = { λ t. list_all is_code_name t.names ≡ true };
 }
 
 impl CodeTable {
@@ -34,7 +34,7 @@ impl CodeTable {
         ensures { result ≡ [] }
     {
         CodeTable {
-            names: IndexSet::new(alloc),
+            names: Table::new(alloc),
         }
     }
 
@@ -43,22 +43,15 @@ impl CodeTable {
         requires { length self.old + 1 < 2 ^ 32 }
         ensures { AddsName self.old name self.new result }
     {
-        if let Some(place) = self.names.get_index_of(&name) {
-            return Err(Fail::Refused(place as u32));
-        }
         let _form = name.bytes();
-        let (place, _) = self.names.insert_full(name)?;
-        Ok(place as u32)
+        self.names.add(name)
     }
 
     /// The place of a name, or None where the table doesn't have it.
     pub fn place_of(&self, name: &CodeName) -> Option<u32>
         ensures { result ≡ place_in self.now name.now }
     {
-        match self.names.get_index_of(name) {
-            Some(place) => Some(place as u32),
-            None => None,
-        }
+        self.names.place_of(name)
     }
 
     /// The name at a place.
@@ -66,7 +59,7 @@ impl CodeTable {
         requires { place < length self.now }
         ensures { slice_get self.now place ≡ Some result.now }
     {
-        &self.names[place as usize]
+        self.names.name_of(place)
     }
 
     /// The number of codes. No two of them have one name.
@@ -75,7 +68,7 @@ impl CodeTable {
         ensures distinct { IsDistinct same_name self.now }
         ensures form { list_all is_code_name self.now ≡ true }
     {
-        self.names.len() as u32
+        self.names.len()
     }
 
     /// Whether there are no codes.

@@ -14,6 +14,7 @@ mod node;
 mod padded;
 mod part;
 mod sequence;
+mod table;
 mod text;
 
 pub use answer::{Fail, Memory};
@@ -27,6 +28,7 @@ pub use names::{CodeName, Id, Part};
 pub use node::{Leaf, Node};
 pub use part::{FormulaPart, Shape};
 pub use sequence::{Body, CodeList, Sequence};
+pub use table::Table;
 pub use text::Text;
 
 #[cfg(test)]

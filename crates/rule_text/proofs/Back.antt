@@ -1,21 +1,25 @@
 -- What is printed is in the grammar, and is read back.
-use Rattle.std.proofs.Common.{◌≡◌, ℕ, suc, zero, ◌+◌, ◌<◌, ◌≤◌, Bool, true, false, not, leb, ltb, ◌&&◌, List, [], ◌∷◌, ◌++◌, Some, length, length-append, get_or, refl, sym, ap, subst, ◌∙◌, append_assoc, arith}
+use Rattle.std.proofs.Common.{◌≡◌, ℕ, suc, zero, ◌+◌, ◌<◌, ◌≤◌, Bool, true, false, not, leb, ltb, ◌&&◌, List, [], ◌∷◌, ◌++◌, Some, Ok, length, reverse, length-append, get_or, refl, sym, ap, subst, ◌∙◌, append_assoc, arith}
 use Rattle.std.specs.List.{IsDistinct, list_all, prefix_len}
 use Rattle.std.specs.Cmp.Lexicographic.{nat_list_eq_equiv}
 use Rattle.std.proofs.Math.Seq.{take-append_seam, drop-append_seam}
-use Rattle.std.proofs.lemmas.List.{append-nil}
+use Rattle.std.proofs.lemmas.List.{append-nil, reverse-reverse}
 use Rattle.std.proofs.lemmas.List.Sums.{prefix_len_is}
 use Rattle.std.proofs.lemmas.Map.Keys.{apart_from_distinct}
 use Rattle.std.proofs.lemmas.Bool.{and_parts, false≢true}
 use Rattle.std.proofs.lemmas.Bool.Decides.{nat_tests}
-use Rattle.pb_base.specs.Rule.{Rule, code, negation, both, either, always, never, codes_below}
+use Rattle.pb_base.specs.Rule.{Rule, code, negation, both, either, always, never, codes_below, nodes}
 use Rattle.pb_base.specs.Names.{is_name, is_name_byte, is_code_name, place_in, same_name, true_word, false_word}
 use Rattle.rule_text.specs.Token.{Token, Placed, word, plus, slash, minus, opening, closing, tokens, tokens_from}
-use Rattle.rule_text.specs.Grammar.{word_rule, IsFactor, IsTerm, IsExpr, a_word, a_minus, a_bracket, a_factor, a_plus, a_term, a_slash, plain}
+use Rattle.rule_text.specs.Grammar.{word_rule, IsFactor, IsTerm, IsExpr, IsText, a_word, a_minus, a_bracket, a_factor, a_plus, a_term, a_slash, plain}
 use Rattle.rule_text.specs.Printing.{printed, printed_depth, bracket_depth, bracketed, is_either, is_pair}
-use Rattle.rule_text.specs.Laws.{AreCodes, PrintsInGrammar, ReadsBack}
+use Rattle.rule_text.specs.Reading.{rule_of}
 use Rattle.rule_text.proofs.TokenLemmas.{in_word-skips}
 use Rattle.rule_text.proofs.Whole.{reads}
+
+-- the names are those of a table of codes
+abbrev pub AreCodes : List (List ℕ) → Type 0
+AreCodes names = (list_all is_code_name names ≡ true) × IsDistinct same_name names
 
 -- what stands behind a word so that it ends there
 abbrev IsEnd : List ℕ → Type 0
@@ -226,12 +230,22 @@ prints names (either l r) codes below =
 prints names always codes below = λ d at rest deep ends. name_printed names d at true_word rest always refl refl ends refl
 prints names never codes below = λ d at rest deep ends. name_printed names d at false_word rest never refl refl ends refl
 
-pub prints_in_grammar : PrintsInGrammar
+-- what is printed is in the grammar, as the rule that was printed
+pub prints_in_grammar : (names : List (List ℕ)) (rule : Rule) → AreCodes names → codes_below (length names) rule ≡ true
+    → IsText names (printed_depth rule) (tokens (printed names rule)) rule
 prints_in_grammar names rule codes below =
     let p = expr_printed names rule (prints names rule codes below) (printed_depth rule) 0 [] (omega arith) tt in
     let same : p.ts ≡ tokens (printed names rule) = sym (ap (tokens_from false 0) (sym (append-nil (printed names rule))) ∙ p.reads ∙ append-nil p.ts) in
     plain (printed_depth rule) (tokens (printed names rule)) rule (subst (λ (ts : List Placed). IsExpr names (printed_depth rule) ts rule) same p.form)
 
-pub reads_back : ReadsBack
+-- and it is read as that rule, where it keeps the limits
+pub reads_back : (names : List (List ℕ)) (rule : Rule) → AreCodes names → codes_below (length names) rule ≡ true → printed_depth rule ≤ 64 → nodes rule ≤ 512
+    → rule_of names (printed names rule) ≡ Ok rule
 reads_back names rule codes below shallow short =
     reads names (printed names rule) (printed_depth rule) rule (prints_in_grammar names rule codes below) shallow short
+
+-- what was written from its end, turned round
+pub turned_round : (names : List (List ℕ)) (rule part : Rule) (before written text : List ℕ) → part ≡ rule → before ≡ [] → written ≡ before ++ reverse (printed names part)
+    → text ≡ reverse written → text ≡ printed names rule
+turned_round names rule part before written text is_part none is_written is_text =
+    is_text ∙ ap reverse (is_written ∙ ap (λ xs. xs ++ reverse (printed names part)) none) ∙ reverse-reverse (printed names part) ∙ ap (printed names) is_part

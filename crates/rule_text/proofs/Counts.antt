@@ -1,21 +1,28 @@
 -- What a text of the grammar has: as many nodes as its rule, and codes of the table alone.
-use Rattle.std.proofs.Common.{◌≡◌, ℕ, ◌+◌, ◌≤◌, Bool, true, false, cond, leb, ltb, List, [], ◌∷◌, ◌++◌, Option, Some, None, Result, Ok, Err, length, refl, sym, ap, ◌∙◌, arith}
-use Rattle.std.specs.Prelude.{option_map, is_none, IfOk, IsTrue}
+use Rattle.std.proofs.Common.{◌≡◌, ℕ, ◌+◌, ◌≤◌, Bool, true, false, cond, leb, ltb, List, [], ◌∷◌, ◌++◌, Option, Some, None, Ok, length, refl, sym, ap, ◌∙◌, arith}
+use Rattle.std.specs.Prelude.{option_map, is_none}
 use Rattle.std.specs.List.{position_or_len}
 use Rattle.std.proofs.lemmas.Bool.{and_from}
 use Rattle.std.proofs.lemmas.Bool.Decides.{nat_tests}
 use Rattle.pb_base.specs.Rule.{Rule, code, always, never, nodes, codes_below}
-use Rattle.pb_base.specs.Answers.{Answers}
-use Rattle.pb_base.specs.declared.answer.Fail.{Fail}
 use Rattle.pb_base.specs.Names.{is_code_name, place_in, same_name, true_word, false_word}
-use Rattle.rule_text.specs.Token.{Placed, word, plus, slash, minus, opening, closing, semicolon, tokens}
-use Rattle.rule_text.specs.Grammar.{word_rule, IsFactor, IsTerm, IsExpr, IsText, a_word, a_minus, a_bracket, a_factor, a_plus, a_term, a_slash, plain, ended as ended_by}
-use Rattle.rule_text.specs.Reading.{State, before, after, ended, next, token_fault, read_from, start, is_node, rule_of}
-use Rattle.rule_text.proofs.Whole.{word_node}
-use Rattle.rule_text.proofs.Steps.{passed, misfit, behind_end}
+use Rattle.rule_text.specs.Token.{Token, Placed, word, plus, slash, minus, opening, closing, semicolon, tokens}
+use Rattle.rule_text.specs.Grammar.{word_rule, IsFactor, IsTerm, IsExpr, IsText, a_word, a_minus, a_bracket, a_factor, a_plus, a_term, a_slash, plain, ended}
+use Rattle.rule_text.specs.FirstFault.{Standing, is_node, token_fault, behind}
+use Rattle.rule_text.specs.Reading.{rule_of}
+use Rattle.rule_text.specs.Steps.{State, next, begin}
+use Rattle.rule_text.proofs.StepLemmas.{read_from, passed, misfit, behind_end}
 use Rattle.rule_text.proofs.Sound.{in_grammar, was_read, read_on}
+use Rattle.rule_text.proofs.Whole.{word_node}
+use Rattle.rule_text.specs.declared.standing.Stage.{Stage}
+use Rattle.rule_text.specs.declared.standing.Stage.TheVariants.{Awaiting, Complete, Ended}
+use Rattle.rule_text.specs.declared.standing.Pending.{Pending}
+use Rattle.rule_text.specs.declared.standing.Pending.TheVariants.{Bracket}
 use Rattle.rule_text.specs.declared.fault.RuleFault.{RuleFault}
 use Rattle.rule_text.specs.declared.fault.RuleFault.TheVariants.{TooDeep, TooLong, UnknownCode}
+
+abbrev standing_at : Stage → List Pending → ℕ → Standing
+standing_at stage p n = record { stage = stage; pending = p; count = n }
 
 -- how many tokens are nodes
 abbrev pub node_count : List Placed → ℕ
@@ -45,7 +52,7 @@ mutual
 
 pub text_nodes : (names : List (List ℕ)) (d : ℕ) (ts : List Placed) (rule : Rule) → IsText names d ts rule → node_count ts ≡ nodes rule
 text_nodes names d ts rule (plain dd tt rr is_expr) = expr_nodes names d ts rule is_expr
-text_nodes names d ts rule (ended_by dd at inner all r is_expr joins) =
+text_nodes names d ts rule (ended dd at inner all r is_expr joins) =
     omega (arith, expr_nodes names dd inner r is_expr, ap node_count joins, node_count-append inner ((at, semicolon) ∷ []))
 
 -- the place of a name is below their number
@@ -89,59 +96,46 @@ mutual
 
 text_below : (names : List (List ℕ)) (d : ℕ) (ts : List Placed) (rule : Rule) → IsText names d ts rule → codes_below (length names) rule ≡ true
 text_below names d ts rule (plain dd tt rr is_expr) = expr_below names d ts rule is_expr
-text_below names d ts rule (ended_by dd at inner all r is_expr joins) = expr_below names dd inner r is_expr
+text_below names d ts rule (ended dd at inner all r is_expr joins) = expr_below names dd inner r is_expr
 
 -- the codes of a rule that was read are in the table
 pub rule_of-codes : (names : List (List ℕ)) (text : List ℕ) (rule : Rule) → rule_of names text ≡ Ok rule → codes_below (length names) rule ≡ true
 rule_of-codes names text rule is_read = text_below names 64 (tokens text) rule (in_grammar names text rule is_read)
 
--- how far a state counted, of which no more than 512 may be
-abbrev Counted : State → List Placed → Type 0
-Counted (before f under n) done = (n ≡ node_count done) × (n ≤ 512)
-Counted (after e under n) done = (n ≡ node_count done) × (n ≤ 512)
-Counted (ended rule) done = node_count done ≤ 512
+long_test : (n : ℕ) (fault : RuleFault) (long : Bool) → leb 512 n ≡ long → cond long (Some fault) None ≡ None → n + 1 ≤ 512
+long_test n fault true is_long none = cc
+long_test n fault false is_long none = grind (arith, nat_tests)
 
-long-by : (n : ℕ) (fault : RuleFault) → n ≤ 512 → cond (leb 512 n) (Some fault) None ≡ None → n + 1 ≤ 512
-long-by n fault within none = long-test n fault (leb 512 n) refl within none
+-- a token that passes its tests is counted, and the count keeps its limit
+counted_next : (names : List (List ℕ)) (stage : Stage) (p : List Pending) (n at : ℕ) (t : Token) → token_fault names (standing_at stage p n) (at, t) ≡ None → n ≤ 512
+    → (behind (standing_at stage p n) t).count ≤ 512
+counted_next names Awaiting p n at (word w) none within =
+    long_test n (TooLong at) (leb 512 n) refl (passed (is_none (word_rule names w)) (UnknownCode at) (cond (leb 512 n) (Some (TooLong at)) None) none).1
+counted_next names Awaiting p n at minus none within =
+    long_test n (TooLong at) (leb 512 n) refl (passed (leb 64 (length p)) (TooDeep at) (cond (leb 512 n) (Some (TooLong at)) None) none).1
+counted_next names Awaiting p n at opening none within = within
+counted_next names Complete p n at plus none within = long_test n (TooLong at) (leb 512 n) refl none
+counted_next names Complete p n at slash none within = long_test n (TooLong at) (leb 512 n) refl none
+counted_next names Complete (Bracket ∷ p) n at closing none within = within
+counted_next names Complete [] n at semicolon none within = within
+counted_next names Ended p n at t none within = absurd (behind_end _ _ _ none)
+counted_next names stage p n at t none within = absurd (misfit _ none)
+
+counted_all : (names : List (List ℕ)) (end : ℕ) (ts : List Placed) (s : State) (rule : Rule)
+    → read_from names end s ts ≡ Ok rule → s.standing.count ≤ 512 → s.standing.count + node_count ts ≤ 512
+counted_all names end [] s rule is_read within = omega arith
+counted_all names end (t ∷ ts) s rule is_read within =
+    let parts = read_on names end s t ts rule (token_fault names s.standing t) refl is_read in
+    let within_next = counted_next names s.standing.stage s.standing.pending s.standing.count t.0 t.1 parts.0 within in
+    let rest = counted_all names end ts (next names s t.1) rule parts.1 within_next in
+    omega (arith, rest, counted_by (is_node t.1) s.standing.count)
   where
-    long-test : (n : ℕ) (fault : RuleFault) (long : Bool) → leb 512 n ≡ long → n ≤ 512 → cond long (Some fault) None ≡ None → n + 1 ≤ 512
-    long-test n fault true is_long within none = cc
-    long-test n fault false is_long within none = grind (arith, nat_tests)
-
-counted_next : (names : List (List ℕ)) (s : State) (t : Placed) (done : List Placed) → token_fault names s t ≡ None → Counted s done → Counted (next names s t.1) (done ++ t ∷ [])
-counted_next names (before f under n) (at, word w) done none (is_count, within) =
-    (omega (arith, node_count-append done ((at, word w) ∷ [])), long-by n (TooLong at) within (passed (is_none (word_rule names w)) (UnknownCode at) (cond (leb 512 n) (Some (TooLong at)) None) none).1)
-counted_next names (before f under n) (at, minus) done none (is_count, within) =
-    (omega (arith, node_count-append done ((at, minus) ∷ [])), long-by n (TooLong at) within (passed (leb 64 (f.depth + f.signs)) (TooDeep at) (cond (leb 512 n) (Some (TooLong at)) None) none).1)
-counted_next names (before f under n) (at, opening) done none (is_count, within) = (omega (arith, node_count-append done ((at, opening) ∷ [])), within)
-counted_next names (after e under n) (at, plus) done none (is_count, within) = (omega (arith, node_count-append done ((at, plus) ∷ [])), long-by n (TooLong at) within none)
-counted_next names (after e under n) (at, slash) done none (is_count, within) = (omega (arith, node_count-append done ((at, slash) ∷ [])), long-by n (TooLong at) within none)
-counted_next names (after e (f ∷ under) n) (at, closing) done none (is_count, within) = (omega (arith, node_count-append done ((at, closing) ∷ [])), within)
-counted_next names (after e [] n) (at, semicolon) done none (is_count, within) = omega (arith, node_count-append done ((at, semicolon) ∷ []))
-counted_next names (ended rule) (at, t) done none counted = absurd (behind_end _ _ _ none)
-counted_next names s (at, t) done none counted = absurd (misfit _ none)
-
-counted_end : (s : State) (done : List Placed) → Counted s done → node_count done ≤ 512
-counted_end (before f under n) done counted = omega (arith, counted.0, counted.1)
-counted_end (after e under n) done counted = omega (arith, counted.0, counted.1)
-counted_end (ended rule) done counted = counted
-
-counted_all : (names : List (List ℕ)) (end : ℕ) (ts : List Placed) (s : State) (done : List Placed) (rule : Rule)
-    → read_from names end s ts ≡ Ok rule → Counted s done → node_count (done ++ ts) ≤ 512
-counted_all names end [] s done rule is_read counted = omega (arith, node_count-append done [], counted_end s done counted)
-counted_all names end (t ∷ ts) s done rule is_read counted =
-    let parts = read_on names end s t ts rule (token_fault names s t) refl is_read in
-    let rest = counted_all names end ts (next names s t.1) (done ++ t ∷ []) rule parts.1 (counted_next names s t done parts.0 counted) in
-    omega (arith, rest, node_count-append (done ++ t ∷ []) ts, node_count-append done (t ∷ []), node_count-append done (t ∷ ts))
+    counted_by : (node : Bool) (n : ℕ) → cond node (n + 1) n ≡ n + cond node 1 0
+    counted_by true n = refl
+    counted_by false n = omega arith
 
 -- a rule that was read has at most 512 nodes
 pub rule_of-nodes : (names : List (List ℕ)) (text : List ℕ) (rule : Rule) → rule_of names text ≡ Ok rule → nodes rule ≤ 512
 rule_of-nodes names text rule is_read =
-    let counted = counted_all names (length text) (tokens text) start [] rule (was_read names text rule is_read) (refl, omega arith) in
+    let counted = counted_all names (length text) (tokens text) begin rule (was_read names text rule is_read) (omega arith) in
     omega (arith, counted, text_nodes names 64 (tokens text) rule (in_grammar names text rule is_read))
-
--- what an answer that has a rule says of it
-pub keeps_limits : (names : List (List ℕ)) (text : List ℕ) (result : Result Rule (Fail RuleFault)) → Answers result (rule_of names text)
-    → IfOk result (λ rule. IsTrue (codes_below (length names) rule)) × IfOk result (λ rule. nodes rule ≤ 512)
-keeps_limits names text (Ok rule) answer = (rule_of-codes names text rule answer, rule_of-nodes names text rule answer)
-keeps_limits names text (Err error) answer = (tt, tt)

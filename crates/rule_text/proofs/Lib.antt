@@ -1,8 +1,9 @@
 mod Worked
-pub mod Stack
-pub mod TokenLemmas
-pub mod Steps
-pub mod Whole
-pub mod Sound
+mod TokenLemmas
+mod PendingLemmas
+mod StepLemmas
+mod Sound
+mod Whole
 pub mod Counts
-pub mod Back
+mod AnswerLemmas
+mod Back

@@ -9,10 +9,11 @@ use Rattle.pb_base.specs.Rule.{Rule, code, negation, both, either, always, never
 use Rattle.pb_base.specs.Names.{is_code_name, place_in, same_name, true_word, false_word}
 use Rattle.rule_text.specs.Token.{Placed, word, plus, slash, minus, opening, closing, semicolon}
 
--- what a word means: the code of that name, or a constant
+-- the constants TRUE and FALSE
 abbrev pub constant_rule : List ℕ → Option Rule
 constant_rule w = if same_name w true_word then Some always else (if same_name w false_word then Some never else None)
 
+-- what a word means: the code of that name, or a constant
 abbrev pub word_rule : List (List ℕ) → List ℕ → Option Rule
 word_rule names w = if is_code_name w then option_map code (place_in names w) else constant_rule w
 

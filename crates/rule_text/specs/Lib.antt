@@ -1,7 +1,9 @@
 pub mod Token
 pub mod Grammar
 pub mod Fault
+pub mod FirstFault
 pub mod Reading
 pub mod Printing
 pub mod Laws
+pub mod Steps
 pub mod Views

@@ -1,154 +1,72 @@
--- What a text reads as: its rule, or the first fault.
+-- What a text reads as: its first fault, or else its rule.
 --     rule_of names text
--- The tokens are taken from the left. What was read of each open bracket waits in a frame.
-use Rattle.std.specs.Prelude.{ℕ, zero, suc, ◌+◌, Bool, true, false, not, ◌&&◌, List, [], ◌∷◌, length, Option, Some, None, is_none, Result, Ok, Err, nat_le, if◌then◌else◌}
-use Rattle.std.specs.List.{list_all}
+-- The rule is put together from the left. It is the one that the grammar gives: the contract of read_rule says so.
+use Rattle.std.specs.Prelude.{ℕ, List, [], ◌∷◌, Option, Some, None, unwrap_or, Result, Ok}
 use Rattle.pb_base.specs.Rule.{Rule, negation, both, either, never}
-use Rattle.rule_text.specs.Token.{Token, Placed, word, plus, slash, minus, opening, closing, semicolon, other, is_blank, tokens}
+use Rattle.pb_base.specs.Results.{unless}
+use Rattle.rule_text.specs.Token.{Token, Placed, word, slash, opening, closing, tokens}
 use Rattle.rule_text.specs.Grammar.{word_rule}
+use Rattle.rule_text.specs.FirstFault.{pending_behind, first_fault}
+use Rattle.rule_text.specs.declared.standing.Pending.{Pending}
+use Rattle.rule_text.specs.declared.standing.Pending.TheVariants.{Bracket, Sign}
 use Rattle.rule_text.specs.declared.fault.RuleFault.{RuleFault}
-use Rattle.rule_text.specs.declared.fault.RuleFault.TheVariants.{Empty, BadByte, UnknownCode, Expected, TooDeep, TooLong}
 
--- an expression that wants its next factor: how deep the text nests where it begins, the terms before the last `/`, the factors
--- of the last term, and the minus signs before the factor to come
-pub record Frame : Type 0 where
-  pub depth : ℕ
+-- an expression as far as it was read: the terms before the last slash, and the factors of the last term
+pub record Open : Type 0 where
   pub left : Option Rule
   pub product : Option Rule
-  pub signs : ℕ
 
--- an expression as far as it was read: the terms before the last `/`, and the last term
-pub record Expression : Type 0 where
-  pub depth : ℕ
-  pub left : Option Rule
-  pub product : Rule
+-- the innermost expression, and those outside the open brackets, the innermost first
+pub record Read : Type 0 where
+  pub innermost : Open
+  pub outer : List Open
 
--- what was read: it wants a factor, it may end or go on (each with the frames of the open brackets, the innermost first, and the
--- number of nodes), or a semicolon ended it
-pub data State : Type 0 where
-  before : Frame → List Frame → ℕ → State
-  after : Expression → List Frame → ℕ → State
-  ended : Rule → State
+abbrev pub nothing : Open
+nothing = record { left = None; product = None }
 
 abbrev pub joined : (Rule → Rule → Rule) → Option Rule → Rule → Rule
 joined connective None right = right
 joined connective (Some left) right = connective left right
 
--- the rule under this many minus signs
-abbrev pub negated : ℕ → Rule → Rule
-negated zero rule = rule
-negated (suc signs) rule = negated signs (negation rule)
+-- the rule of an expression that ends here
+abbrev pub whole : Open → Rule
+whole e = joined either e.left (unwrap_or e.product never)
 
-abbrev pub whole : Expression → Rule
-whole e = joined either e.left e.product
+-- a factor under the minus signs that are pending
+abbrev pub under_signs : List Pending → Rule → Rule
+under_signs (Sign ∷ pending) factor = under_signs pending (negation factor)
+under_signs pending factor = factor
 
-abbrev pub with_factor : Frame → Rule → Expression
-with_factor f factor = record { depth = f.depth; left = f.left; product = joined both f.product (negated f.signs factor) }
+abbrev pub with_factor : Open → Rule → Open
+with_factor e factor = record { left = e.left; product = Some (joined both e.product factor) }
 
--- how deep the text nests at the factor that a frame wants
-abbrev pub nesting : Frame → ℕ
-nesting f = f.depth + f.signs
+abbrev pub with_slash : Open → Open
+with_slash e = record { left = Some (whole e); product = None }
 
-abbrev pub with_sign : Frame → Frame
-with_sign f = record { depth = f.depth; left = f.left; product = f.product; signs = suc f.signs }
+-- the expression outside the innermost open bracket, and those outside that
+abbrev pub outside : List Open → Read
+outside [] = record { innermost = nothing; outer = [] }
+outside (e ∷ outer) = record { innermost = e; outer = outer }
 
-abbrev pub in_bracket : ℕ → Frame
-in_bracket depth = record { depth = depth; left = None; product = None; signs = zero }
+abbrev pub factor_read : List Pending → Read → Rule → Read
+factor_read pending r factor = record { innermost = with_factor r.innermost (under_signs pending factor); outer = r.outer }
 
-abbrev pub with_plus : Expression → Frame
-with_plus e = record { depth = e.depth; left = e.left; product = Some e.product; signs = zero }
+-- what was pending outside the innermost open bracket
+abbrev pub outside_bracket : List Pending → List Pending
+outside_bracket (Bracket ∷ pending) = pending
+outside_bracket pending = pending
 
-abbrev pub with_slash : Expression → Frame
-with_slash e = record { depth = e.depth; left = Some (whole e); product = None; signs = zero }
+-- what was read with a token more, where this was pending before it
+abbrev pub token_read : List (List ℕ) → List Pending → Read → Token → Read
+token_read names pending r (word w) = factor_read pending r (unwrap_or (word_rule names w) never)
+token_read names pending r opening = record { innermost = nothing; outer = r.innermost ∷ r.outer }
+token_read names pending r closing = factor_read (outside_bracket pending) (outside r.outer) (whole r.innermost)
+token_read names pending r slash = record { innermost = with_slash r.innermost; outer = r.outer }
+token_read names pending r t = r
 
-abbrev pub start : State
-start = before (in_bracket 0) [] 0
-
--- the state after a token that may stand there
-abbrev pub next : List (List ℕ) → State → Token → State
-next names (before f under n) (word w) = after (with_factor f (word_value (word_rule names w))) under (n + 1)
-  where
-    word_value : Option Rule → Rule
-    word_value None = never
-    word_value (Some rule) = rule
-next names (before f under n) minus = before (with_sign f) under (n + 1)
-next names (before f under n) opening = before (in_bracket (nesting f + 1)) (f ∷ under) n
-next names (after e under n) plus = before (with_plus e) under (n + 1)
-next names (after e under n) slash = before (with_slash e) under (n + 1)
-next names (after e (f ∷ under) n) closing = after (with_factor f (whole e)) under n
-next names (after e [] n) semicolon = ended (whole e)
-next names s t = s
-
-abbrev pub is_bad : Token → Bool
-is_bad other = true
-is_bad _ = false
-
--- Where a factor is wanted, a word, a minus or an opening bracket may stand. Behind one a plus or a slash may, a closing bracket
--- if one is open, and a semicolon if none is. Behind a semicolon nothing may.
-abbrev pub may_stand : State → Token → Bool
-may_stand (before f under n) (word w) = true
-may_stand (before f under n) minus = true
-may_stand (before f under n) opening = true
-may_stand (after e under n) plus = true
-may_stand (after e under n) slash = true
-may_stand (after e (f ∷ under) n) closing = true
-may_stand (after e [] n) semicolon = true
-may_stand s t = false
-
--- whether the token makes the nesting 65
-abbrev pub is_too_deep : State → Token → Bool
-is_too_deep (before f under n) minus = nat_le 64 (nesting f)
-is_too_deep (before f under n) opening = nat_le 64 (nesting f)
-is_too_deep s t = false
-
-abbrev pub is_unknown : List (List ℕ) → Token → Bool
-is_unknown names (word w) = is_none (word_rule names w)
-is_unknown names t = false
-
-abbrev pub nodes_before : State → ℕ
-nodes_before (before f under n) = n
-nodes_before (after e under n) = n
-nodes_before (ended rule) = 0
-
--- a node is a word, a minus, a plus or a slash
-abbrev pub is_node : Token → Bool
-is_node (word w) = true
-is_node minus = true
-is_node plus = true
-is_node slash = true
-is_node t = false
-
--- the fault of a token that may not stand where it is
-abbrev pub misplaced : ℕ → Token → RuleFault
-misplaced at other = BadByte at
-misplaced at t = Expected at
-
--- the first of its tests that a token fails
-abbrev pub token_fault : List (List ℕ) → State → Placed → Option RuleFault
-token_fault names s t =
-    if is_bad t.1 then Some (BadByte t.0)
-    else (if not (may_stand s t.1) then Some (Expected t.0)
-    else (if is_too_deep s t.1 then Some (TooDeep t.0)
-    else (if is_unknown names t.1 then Some (UnknownCode t.0)
-    else (if is_node t.1 && nat_le 512 (nodes_before s) then Some (TooLong t.0)
-    else None))))
-
-abbrev pub unless_fault : {A : Type 0} → Option RuleFault → Result A RuleFault → Result A RuleFault
-unless_fault None answer = answer
-unless_fault (Some fault) answer = Err fault
-
-abbrev pub step : List (List ℕ) → State → Placed → Result State RuleFault
-step names s t = unless_fault (token_fault names s t) (Ok (next names s t.1))
-
--- the text may end behind a factor outside all brackets, and behind a semicolon
-abbrev pub finish : ℕ → State → Result Rule RuleFault
-finish end (after e [] n) = Ok (whole e)
-finish end (ended rule) = Ok rule
-finish end s = Err (Expected end)
-
-abbrev pub read_from : List (List ℕ) → ℕ → State → List Placed → Result Rule RuleFault
-read_from names end s [] = finish end s
-read_from names end s (t ∷ ts) = unless_fault (token_fault names s t) (read_from names end (next names s t.1) ts)
+abbrev pub rule_from : List (List ℕ) → List Pending → Read → List Placed → Rule
+rule_from names pending r [] = whole r.innermost
+rule_from names pending r (t ∷ ts) = rule_from names (pending_behind pending t.1) (token_read names pending r t.1) ts
 
 unfoldable pub rule_of : List (List ℕ) → List ℕ → Result Rule RuleFault
-rule_of names text = if list_all is_blank text then Err Empty else read_from names (length text) start (tokens text)
+rule_of names text = unless (first_fault names text) (Ok (rule_from names [] (outside []) (tokens text)))

@@ -1,84 +1,121 @@
 //! Printing a rule.
-ghost use Rattle.std.specs.Prelude.{◌≡◌, ◌++◌, IsTrue, IfOk, length};
-ghost use Rattle.pb_base.specs.Rule.{codes_below};
-ghost use Rattle.rule_text.specs.Printing.{printed, bracketed, is_either, is_both, is_pair};
+ghost use Rattle.std.specs.Prelude.{◌≡◌, ◌++◌, ◌≤◌, IsTrue, IfOk, OnOk, length, reverse};
+ghost use Rattle.pb_base.specs.Rule.{codes_below, nodes};
+ghost use Rattle.pb_base.specs.Names.{true_word, false_word};
+ghost use Rattle.rule_text.specs.Token.{tokens};
+ghost use Rattle.rule_text.specs.Grammar.{IsText};
+ghost use Rattle.rule_text.specs.Reading.{rule_of};
+ghost use Rattle.rule_text.specs.Printing.{printed, printed_depth, bracketed, is_either, is_both, is_pair};
 
-use pb_base::{Body, CodeTable, Formula, Memory, Node};
+use pb_base::limits::{MOST_NESTING, MOST_NODES};
+use pb_base::{Body, CodeTable, Formula, FormulaPart, Memory, Shape};
 use std::alloc::Global;
 
 /// The text of a rule with fewest brackets, without blanks and without a semicolon.
 pub fn print_rule(alloc: Global, rule: &Formula, codes: &CodeTable) -> Result<Body, Memory>
     requires { IsTrue (codes_below (length codes.now) rule.now) }
-    ensures { IfOk result (λ text. text ≡ printed codes.now rule.now) }
+    ensures text { IfOk result (λ text. text ≡ printed codes.now rule.now) }
+    ensures spelled { IfOk result (λ text. IsText codes.now (printed_depth rule.now) (tokens text) rule.now) }
+    ensures read_back { printed_depth rule.now ≤ MOST_NESTING → nodes rule.now ≤ MOST_NODES → IfOk result (λ text. rule_of codes.now text ≡ Ok rule.now) }
 {
+    // The table tells that its names are words of their own: each is read as its code.
+    let _names = codes.len();
     let mut text = Vec::new(alloc);
-    write_rule(&mut text, rule, codes)?;
+    write_backward(&mut text, rule.part(), codes)?;
+    text.reverse();
     Ok(Body::of(text))
 }
 
+// Writes the text from its end, since the last node of a formula is its outermost. The left sides are a loop, so that
+// it goes down no deeper than the text nests.
 #[cycle(write)]
-fn write_rule(text: &mut Vec<u8>, rule: &Formula, codes: &CodeTable) -> Result<(), Memory>
-    requires { IsTrue (codes_below (length codes.now) rule.now) }
-    ensures { IfOk result (λ _. text.new.items ≡ text.old.items ++ printed codes.now rule.now) }
+fn write_backward(
+    text: &mut Vec<u8>,
+    rule: FormulaPart<'_>,
+    codes: &CodeTable,
+) -> Result<(), Memory>
+    requires { IsTrue (codes_below (length codes.now) rule) }
+    ensures { OnOk result (text.new.items ≡ text.old.items ++ reverse (printed codes.now rule.entry)) }
 {
-    match rule.node() {
-        Node::Code(place) => text.extend_from_slice(codes.name_of(*place).bytes())?,
-        Node::Not(of) => {
-            text.push(b'-')?;
-            write_bracketed(text, is_pair(of), of, codes)?;
+    let mut rest = rule;
+    'sides: loop {
+        match rest.shape() {
+            Shape::Or(left, right) => {
+                let needed = is_either(&right);
+                write_bracketed(text, needed, right, codes)?;
+                text.push(b'/')?;
+                rest = left;
+            }
+            Shape::And(left, right) => {
+                let needed = is_pair(&right);
+                write_bracketed(text, needed, right, codes)?;
+                text.push(b'+')?;
+                if is_either(&left) {
+                    return write_bracketed(text, true, left, codes);
+                }
+                rest = left;
+            }
+            Shape::Not(of) => {
+                let needed = is_pair(&of);
+                write_bracketed(text, needed, of, codes)?;
+                text.push(b'-')?;
+                return Ok(());
+            }
+            Shape::Code(place) => return write_word(text, codes.name_of(place).bytes()),
+            Shape::Yes => return write_word(text, b"TRUE"),
+            Shape::No => return write_word(text, b"FALSE"),
         }
-        Node::And(sides) => {
-            write_bracketed(text, is_either(&sides.left), &sides.left, codes)?;
-            text.push(b'+')?;
-            write_bracketed(text, is_pair(&sides.right), &sides.right, codes)?;
-        }
-        Node::Or(sides) => {
-            write_rule(text, &sides.left, codes)?;
-            text.push(b'/')?;
-            write_bracketed(text, is_either(&sides.right), &sides.right, codes)?;
-        }
-        Node::Yes => text.extend_from_slice(b"TRUE")?,
-        Node::No => text.extend_from_slice(b"FALSE")?,
     }
-    Ok(())
 }
 
-// Writes the rule, inside brackets where they are needed.
+// Writes the rule from its end, inside brackets where they are needed.
 #[cycle(write)]
 fn write_bracketed(
     text: &mut Vec<u8>,
     needed: bool,
-    rule: &Formula,
+    rule: FormulaPart<'_>,
     codes: &CodeTable,
 ) -> Result<(), Memory>
-    requires { IsTrue (codes_below (length codes.now) rule.now) }
-    ensures { IfOk result (λ _. text.new.items ≡ text.old.items ++ bracketed needed (printed codes.now rule.now)) }
+    requires { IsTrue (codes_below (length codes.now) rule) }
+    ensures { OnOk result (text.new.items ≡ text.old.items ++ reverse (bracketed needed (printed codes.now rule.entry))) }
 {
     if needed {
-        text.push(b'(')?;
-        write_rule(text, rule, codes)?;
         text.push(b')')?;
+        write_backward(text, rule, codes)?;
+        text.push(b'(')?;
         Ok(())
     } else {
-        write_rule(text, rule, codes)
+        write_backward(text, rule, codes)
     }
 }
 
-fn is_either(rule: &Formula) -> bool
+// Writes a word from its end.
+fn write_word(text: &mut Vec<u8>, word: &[u8]) -> Result<(), Memory>
+    ensures { OnOk result (text.new.items ≡ text.old.items ++ reverse word.now) }
+{
+    let mut at = word.len();
+    while at > 0 {
+        at -= 1;
+        text.push(word[at])?;
+    }
+    Ok(())
+}
+
+fn is_either(rule: &FormulaPart<'_>) -> bool
     ensures { result ≡ is_either rule.now }
 {
-    match rule.node() {
-        Node::Or(_) => true,
+    match rule.shape() {
+        Shape::Or(_, _) => true,
         _ => false,
     }
 }
 
-fn is_pair(rule: &Formula) -> bool
+fn is_pair(rule: &FormulaPart<'_>) -> bool
     ensures { result ≡ is_pair rule.now }
 {
-    match rule.node() {
-        Node::Or(_) => true,
-        Node::And(_) => true,
+    match rule.shape() {
+        Shape::Or(_, _) => true,
+        Shape::And(_, _) => true,
         _ => false,
     }
 }

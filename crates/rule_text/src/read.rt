@@ -1,10 +1,13 @@
 //! Reading the text of a rule.
-ghost use Rattle.std.specs.Prelude.{◌≡◌, ◌<◌, ◌≤◌, ◌^◌, length, IfOk, IsTrue};
-ghost use Rattle.pb_base.specs.Rule.{codes_below, nodes};
+ghost use Rattle.std.specs.Prelude.{◌≡◌, ◌<◌, ◌≤◌, ◌^◌, ℕ, length, IfOk, IsTrue};
 ghost use Rattle.std.specs.List.{list_all};
-ghost use Rattle.rule_text.specs.Token.{is_blank};
 ghost use Rattle.pb_base.specs.Answers.{Answers};
+ghost use Rattle.pb_base.specs.Rule.{Rule, codes_below, nodes};
+ghost use Rattle.rule_text.specs.Token.{is_blank, tokens};
+ghost use Rattle.rule_text.specs.Grammar.{IsText};
+ghost use Rattle.rule_text.specs.FirstFault.{first_fault};
 ghost use Rattle.rule_text.specs.Reading.{rule_of};
+ghost use Rattle.rule_text.specs.Laws.{IsShortText, AnswersFault, RefusesForLimit};
 
 use crate::RuleFault;
 use crate::reader::Reader;
@@ -16,8 +19,11 @@ use std::alloc::Global;
 pub fn read_rule(alloc: Global, text: &[u8], codes: &CodeTable) -> Result<Formula, Fail<RuleFault>>
     requires { length text.now < 2 ^ 32 }
     ensures answer { Answers result (rule_of codes.now text.now) }
+    ensures fault { AnswersFault result (first_fault codes.now text.now) }
+    ensures spelled { IfOk result (λ rule. IsShortText codes.now text.now rule) }
+    ensures read { (rule : Rule) → IsShortText codes.now text.now rule → Answers result (Ok rule) }
+    ensures limits { (depth : ℕ) (rule : Rule) → IsText codes.now depth (tokens text.now) rule → RefusesForLimit result depth (nodes rule) }
     ensures codes { IfOk result (λ rule. IsTrue (codes_below (length codes.now) rule)) }
-    ensures short { IfOk result (λ rule. nodes rule ≤ 512) }
 {
     if is_all_blank(text) {
         return Err(Fail::Refused(RuleFault::Empty));

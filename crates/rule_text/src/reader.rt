@@ -1,41 +1,36 @@
 //! The reader of a rule: it takes the tokens from the left, one method for each token that may stand where it is.
-ghost use Rattle.std.specs.Prelude.{◌≡◌, ◌<◌, ◌≤◌, IfOk, zero, List, ℕ};
-ghost use Rattle.pb_base.specs.Answers.{Answers};
+ghost use Rattle.std.specs.Prelude.{◌≡◌, ◌<◌, ◌≤◌, IfOk, zero, List, ℕ, option_map, reverse};
+ghost use Rattle.pb_base.specs.Answers.{Answers, Leaves};
+ghost use Rattle.pb_base.specs.Rule.{Rule, negated};
+ghost use Rattle.pb_base.specs.Node.{rule_of_leaf};
 ghost use Rattle.pb_base.specs.declared.answer.Fail.TheVariants.{Refused, Memory};
 ghost use Rattle.rule_text.specs.Token.{word, plus, slash, minus, opening, closing, semicolon};
 ghost use Rattle.rule_text.specs.Grammar.{word_rule, constant_rule};
-ghost use Rattle.rule_text.specs.Reading.{step, finish, start};
+ghost use Rattle.rule_text.specs.FirstFault.{without_signs};
+ghost use Rattle.rule_text.specs.Reading.{under_signs};
+ghost use Rattle.rule_text.specs.Steps.{begin, step, finish};
+ghost use Rattle.rule_text.specs.declared.standing.Stage.TheVariants.{Awaiting, Complete};
 
 use crate::RuleFault;
-use crate::frame::{Frame, MAX_NESTING};
+use crate::expression::Expression;
+use crate::standing::{Pending, Stage};
 use crate::token::Token;
-use pb_base::{CodeName, CodeTable, Fail, Formula};
+use arrayvec::ArrayVec;
+use pb_base::limits::{MOST_NESTING, MOST_NODES};
+use pb_base::{CodeName, CodeTable, Fail, Formula, Leaf};
 use std::alloc::Global;
 use std::mem;
-
-/// How many words, minus signs, pluses and slashes a text may have.
-const MAX_NODES: u32 = 512;
-
-/// What may come next.
-#[derive(Clone, Copy)]
-pub(crate) enum Stage {
-    /// A factor has to come.
-    Awaiting,
-    /// The expression may end here or go on.
-    Complete,
-    /// A semicolon ended the text.
-    Ended,
-}
 
 /// What was read so far.
 #[derive(Drop)]
 pub(crate) struct Reader {
     pub(crate) stage: Stage,
-    pub(crate) frame: Frame,
-    /// The open brackets, the innermost last.
-    pub(crate) under: Vec<Frame>,
-    pub(crate) nodes: u32,
-    ghost within: { nodes ≤ 512 },
+    /// The innermost last.
+    pub(crate) pending: ArrayVec<Pending, MOST_NESTING>,
+    pub(crate) nodes: usize,
+    pub(crate) expression: Expression,
+    /// The expressions outside the open brackets, the innermost last.
+    pub(crate) outer: Vec<Expression>,
 }
 
 fn refused(fault: RuleFault) -> Result<(), Fail<RuleFault>>
@@ -45,16 +40,17 @@ fn refused(fault: RuleFault) -> Result<(), Fail<RuleFault>>
 }
 
 impl Reader {
-    ghost use Rattle.rule_text.specs.Views.{state_of, awaiting_of, complete_of, token_of, Steps};
+    ghost use Rattle.rule_text.specs.Views.{state_at, state_of, token_of};
 
     pub(crate) fn new(alloc: Global) -> Reader
-        ensures { state_of result ≡ start }
+        ensures { state_of result ≡ begin }
     {
         Reader {
             stage: Stage::Awaiting,
-            frame: Frame::new(0),
-            under: Vec::new(alloc),
+            pending: ArrayVec::new(),
             nodes: 0,
+            expression: Expression::new(),
+            outer: Vec::new(alloc),
         }
     }
 
@@ -67,7 +63,7 @@ impl Reader {
         token: Token<'_>,
         codes: &CodeTable,
     ) -> Result<(), Fail<RuleFault>>
-        ensures { Steps result (state_of self.new) (step codes.now (state_of self.old) (at, token_of token.entry)) }
+        ensures { Leaves result (state_of self.new) (step codes.now (state_of self.old) (at, token_of token.entry)) }
     {
         match self.stage {
             Stage::Awaiting => self.take_factor(alloc, at, token, codes),
@@ -83,13 +79,13 @@ impl Reader {
         match self.stage {
             Stage::Awaiting => return Err(Fail::Refused(RuleFault::Expected(end))),
             Stage::Complete => {
-                if !self.under.is_empty() {
+                if !self.pending.is_empty() {
                     return Err(Fail::Refused(RuleFault::Expected(end)));
                 }
             }
             Stage::Ended => {}
         }
-        Ok(self.frame.take_whole(alloc)?)
+        Ok(self.expression.take_whole(alloc)?)
     }
 
     #[inline(always)]
@@ -100,7 +96,7 @@ impl Reader {
         token: Token<'_>,
         codes: &CodeTable,
     ) -> Result<(), Fail<RuleFault>>
-        ensures { Steps result (state_of self.new) (step codes.now (awaiting_of self.old) (at, token_of token.entry)) }
+        ensures { Leaves result (state_of self.new) (step codes.now (state_at Awaiting self.old) (at, token_of token.entry)) }
     {
         match token {
             Token::Word(name) => self.word(alloc, at, name, codes),
@@ -118,46 +114,47 @@ impl Reader {
         name: &[u8],
         codes: &CodeTable,
     ) -> Result<(), Fail<RuleFault>>
-        ensures { Steps result (state_of self.new) (step codes.now (awaiting_of self.old) (at, word name.now)) }
+        ensures { Leaves result (state_of self.new) (step codes.now (state_at Awaiting self.old) (at, word name.now)) }
     {
-        let Some(factor) = word_rule(name, codes) else {
+        let Some(leaf) = word_leaf(name, codes) else {
             return refused(RuleFault::UnknownCode(at));
         };
-        if self.nodes >= MAX_NODES {
+        if self.nodes >= MOST_NODES {
             return refused(RuleFault::TooLong(at));
         }
         self.nodes += 1;
-        self.frame.add_factor(alloc, factor)?;
+        let signs = take_signs(&mut self.pending);
+        self.expression.add_word(alloc, leaf, signs)?;
         self.stage = Stage::Complete;
         Ok(())
     }
 
     #[inline(always)]
     fn minus(&mut self, at: u32) -> Result<(), Fail<RuleFault>>
-        ensures { (names : List (List ℕ)) → Steps result (state_of self.new) (step names (awaiting_of self.old) (at, minus)) }
+        ensures { (names : List (List ℕ)) → Leaves result (state_of self.new) (step names (state_at Awaiting self.old) (at, minus)) }
     {
-        if self.frame.nesting() >= MAX_NESTING {
+        if self.pending.is_full() {
             return refused(RuleFault::TooDeep(at));
         }
-        if self.nodes >= MAX_NODES {
+        if self.nodes >= MOST_NODES {
             return refused(RuleFault::TooLong(at));
         }
         self.nodes += 1;
-        self.frame.add_sign();
+        self.pending.push(Pending::Sign);
         self.stage = Stage::Awaiting;
         Ok(())
     }
 
     #[inline(always)]
     fn opening(&mut self, at: u32) -> Result<(), Fail<RuleFault>>
-        ensures { (names : List (List ℕ)) → Steps result (state_of self.new) (step names (awaiting_of self.old) (at, opening)) }
+        ensures { (names : List (List ℕ)) → Leaves result (state_of self.new) (step names (state_at Awaiting self.old) (at, opening)) }
     {
-        let depth = self.frame.nesting();
-        if depth >= MAX_NESTING {
+        if self.pending.is_full() {
             return refused(RuleFault::TooDeep(at));
         }
-        let frame = mem::replace(&mut self.frame, Frame::new(depth + 1));
-        self.under.push(frame)?;
+        let outer = mem::replace(&mut self.expression, Expression::new());
+        self.outer.push(outer)?;
+        self.pending.push(Pending::Bracket);
         self.stage = Stage::Awaiting;
         Ok(())
     }
@@ -169,7 +166,7 @@ impl Reader {
         at: u32,
         token: Token<'_>,
     ) -> Result<(), Fail<RuleFault>>
-        ensures { (names : List (List ℕ)) → Steps result (state_of self.new) (step names (complete_of self.old) (at, token_of token.entry)) }
+        ensures { (names : List (List ℕ)) → Leaves result (state_of self.new) (step names (state_at Complete self.old) (at, token_of token.entry)) }
     {
         match token {
             Token::Plus => self.plus(at),
@@ -182,49 +179,51 @@ impl Reader {
 
     #[inline(always)]
     fn plus(&mut self, at: u32) -> Result<(), Fail<RuleFault>>
-        ensures { (names : List (List ℕ)) → Steps result (state_of self.new) (step names (complete_of self.old) (at, plus)) }
+        ensures { (names : List (List ℕ)) → Leaves result (state_of self.new) (step names (state_at Complete self.old) (at, plus)) }
     {
-        if self.nodes >= MAX_NODES {
+        if self.nodes >= MOST_NODES {
             return refused(RuleFault::TooLong(at));
         }
         self.nodes += 1;
-        self.frame.add_plus();
         self.stage = Stage::Awaiting;
         Ok(())
     }
 
     #[inline(always)]
     fn slash(&mut self, alloc: Global, at: u32) -> Result<(), Fail<RuleFault>>
-        ensures { (names : List (List ℕ)) → Steps result (state_of self.new) (step names (complete_of self.old) (at, slash)) }
+        ensures { (names : List (List ℕ)) → Leaves result (state_of self.new) (step names (state_at Complete self.old) (at, slash)) }
     {
-        if self.nodes >= MAX_NODES {
+        if self.nodes >= MOST_NODES {
             return refused(RuleFault::TooLong(at));
         }
         self.nodes += 1;
-        self.frame.add_slash(alloc)?;
+        self.expression.add_slash(alloc)?;
         self.stage = Stage::Awaiting;
         Ok(())
     }
 
     #[inline(always)]
     fn closing(&mut self, alloc: Global, at: u32) -> Result<(), Fail<RuleFault>>
-        ensures { (names : List (List ℕ)) → Steps result (state_of self.new) (step names (complete_of self.old) (at, closing)) }
+        ensures { (names : List (List ℕ)) → Leaves result (state_of self.new) (step names (state_at Complete self.old) (at, closing)) }
     {
-        let Some(frame) = self.under.pop() else {
+        let Some(Pending::Bracket) = self.pending.last() else {
             return refused(RuleFault::Expected(at));
         };
-        let factor = self.frame.take_whole(alloc)?;
-        self.frame = frame;
-        self.frame.add_factor(alloc, factor)?;
+        self.pending.pop();
+        let factor = self.expression.take_whole(alloc)?;
+        self.expression = self.outer.pop().unwrap_or(Expression::new());
+        let signs = take_signs(&mut self.pending);
+        let factor = factor.negated(signs)?;
+        self.expression.add_factor(alloc, factor)?;
         self.stage = Stage::Complete;
         Ok(())
     }
 
     #[inline(always)]
     fn semicolon(&mut self, at: u32) -> Result<(), Fail<RuleFault>>
-        ensures { (names : List (List ℕ)) → Steps result (state_of self.new) (step names (complete_of self.old) (at, semicolon)) }
+        ensures { (names : List (List ℕ)) → Leaves result (state_of self.new) (step names (state_at Complete self.old) (at, semicolon)) }
     {
-        if !self.under.is_empty() {
+        if !self.pending.is_empty() {
             return refused(RuleFault::Expected(at));
         }
         self.stage = Stage::Ended;
@@ -232,23 +231,36 @@ impl Reader {
     }
 }
 
+// Takes away the minus signs that are pending of the factor which is whole now, and counts them.
+#[inline(always)]
+fn take_signs(pending: &mut ArrayVec<Pending, MOST_NESTING>) -> u32
+    ensures left { reverse pending.new.items ≡ without_signs (reverse pending.old.items) }
+    ensures count { (rule : Rule) → under_signs (reverse pending.old.items) rule ≡ negated result rule }
+{
+    let all = pending.len();
+    while let Some(Pending::Sign) = pending.last() {
+        pending.pop();
+    }
+    (all - pending.len()) as u32
+}
+
 // What a word means, or None where it is no constant and no code of the table.
-fn word_rule(word: &[u8], codes: &CodeTable) -> Option<Formula>
-    ensures { result ≡ word_rule codes.now word.now }
+fn word_leaf(word: &[u8], codes: &CodeTable) -> Option<Leaf>
+    ensures { option_map rule_of_leaf result ≡ word_rule codes.now word.now }
 {
     match CodeName::of(word) {
-        Some(name) => Some(Formula::code(codes.place_of(&name)?)),
+        Some(name) => Some(Leaf::Code(codes.place_of(&name)?)),
         None => constant(word),
     }
 }
 
 // What a word that is no name of a code means, or None where it is no constant.
-fn constant(word: &[u8]) -> Option<Formula>
-    ensures { result ≡ constant_rule word.now }
+fn constant(word: &[u8]) -> Option<Leaf>
+    ensures { option_map rule_of_leaf result ≡ constant_rule word.now }
 {
     match word {
-        [b'T', b'R', b'U', b'E'] => Some(Formula::yes()),
-        [b'F', b'A', b'L', b'S', b'E'] => Some(Formula::no()),
+        [b'T', b'R', b'U', b'E'] => Some(Leaf::Yes),
+        [b'F', b'A', b'L', b'S', b'E'] => Some(Leaf::No),
         _ => None,
     }
 }

@@ -3,8 +3,7 @@ ghost use Rattle.std.specs.Prelude.{◌≡◌, ◌<◌, ◌≤◌, length, drop,
 ghost use Rattle.std.specs.List.{prefix_len};
 ghost use Rattle.pb_base.specs.Names.{is_name_byte};
 ghost use Rattle.rule_text.specs.Token.{is_blank, mark, token_at, token_len};
-ghost use Rattle.rule_text.specs.Reading.{misplaced};
-ghost use Rattle.rule_text.specs.Views.{token_of};
+ghost use Rattle.rule_text.specs.Views.{misplaced, token_of};
 
 use crate::RuleFault;
 
