@@ -3,8 +3,10 @@ use Rattle.std.proofs.Common.{◌≡◌, ◌≢◌, ℕ, suc, ◌+◌, ◌<◌, 
 use Rattle.std.specs.List.{All}
 use Rattle.std.proofs.lemmas.List.Elements.{All-nil, All-cons}
 use Rattle.std.proofs.lemmas.List.{drop_more, drop_all, length-set, length-map, map-set, get_or-map}
+use Rattle.std.proofs.Math.Seq.{map-set_same}
+use Rattle.std.specs.Prelude.{Result, Ok, Err, OnErr}
 use Rattle.book_model.specs.Parts.{variants_from, variants_of}
-use Rattle.book_model.specs.Groups.{AreGroups}
+use Rattle.book_model.specs.Groups.{AreGroups, with_place}
 use Rattle.book_model.specs.BookParts.{AreWhole}
 use Rattle.book_model.specs.declared.book.BookParts.{BookParts}
 use Rattle.book_model.specs.declared.record.Variant.{Variant}
@@ -45,6 +47,34 @@ whole-AreGroupsTo positions variants i groups past so_far = record {
   each = λ p within. sym (append-nil (get_or groups p [])) ∙ rw (drop_all i variants past) at (so_far.each p within);
 }
 
+-- the places of one variant more
+variants_from-more : (i p : ℕ) (vs : List Variant) (v : Variant) → variants_from i p (vs ++ v ∷ []) ≡ variants_from i p vs ++ (if v.position == p then (i + length vs) ∷ [] else [])
+variants_from-more i p [] v = ap (λ n. if v.position == p then n ∷ [] else []) (omega arith)
+variants_from-more i p (w ∷ vs) v =
+    let rest = variants_from-more (suc i) p vs v in
+    let last : suc i + length vs ≡ i + length (w ∷ vs) = omega arith in
+    let later = rest ∙ ap (λ n. variants_from (suc i) p vs ++ (if v.position == p then n ∷ [] else [])) last in
+    elim (w.position == p) as (λ b. (if b then i ∷ variants_from (suc i) p (vs ++ v ∷ []) else variants_from (suc i) p (vs ++ v ∷ [])) ≡ (if b then i ∷ variants_from (suc i) p vs else variants_from (suc i) p vs) ++ (if v.position == p then (i + length (w ∷ vs)) ∷ [] else [])) [
+      | true ↦ ap (λ ns. i ∷ ns) later
+      | false ↦ later
+    ]
+
+-- groups grow by a variant: its place goes behind those that its position has
+pub grows-AreGroups : (positions : ℕ) (variants : List Variant) (groups : List (List ℕ)) (v : Variant) → v.position < positions
+    → AreGroups positions variants groups → AreGroups positions (variants ++ v ∷ []) (with_place groups v.position (length variants))
+grows-AreGroups positions variants groups v in_range old = record {
+  count = length-set groups v.position (get_or groups v.position [] ++ length variants ∷ []) ∙ old.count;
+  each = λ p within.
+      let in_groups : v.position < length groups = subst (λ (n : ℕ). v.position < n) (sym old.count) in_range in
+      let added : get_or (with_place groups v.position (length variants)) p [] ++ [] ≡ get_or groups p [] ++ variants_from (length variants) p (v ∷ [])
+      = place_added groups (length variants) p v [] (nat_eq v.position p) refl in_groups in
+      let here : length variants ≡ 0 + length variants = omega arith in
+      sym (append-nil (get_or (with_place groups v.position (length variants)) p [])) ∙ added
+      ∙ ap (λ ns. ns ++ variants_from (length variants) p (v ∷ [])) (old.each p within)
+      ∙ ap (λ n. variants_of p variants ++ (if v.position == p then n ∷ [] else [])) here
+      ∙ sym (variants_from-more 0 p variants v);
+}
+
 -- no variant is in an empty group
 pub none_of_empty : (groups : List (Vec ℕ Global)) (p : ℕ) → All (λ (group : Vec ℕ Global). group.items ≡ []) groups → get_or (map (λ (group : Vec ℕ Global). group.items) groups) p [] ≡ []
 none_of_empty [] p empty = refl
@@ -57,6 +87,14 @@ start-AreGroupsTo positions variants groups count empty = record {
   count = length-map groups (λ (group : Vec ℕ Global). group.items) ∙ count;
   each = λ p within. ap (λ (group : List ℕ). group ++ variants_from 0 p variants) (none_of_empty groups p empty);
 }
+
+pub on_err : {T E : Type 0} {P : Type 0} (r : Result T E) → P → OnErr r P
+on_err (Ok x) h = tt
+on_err (Err e) h = h
+
+pub same-group : (groups : List (Vec ℕ Global)) (i : ℕ) (old new : Vec ℕ Global) → new.items ≡ (get_or groups i old).items
+    → map (λ (group : Vec ℕ Global). group.items) (set groups i new) ≡ map (λ (group : Vec ℕ Global). group.items) groups
+same-group groups i old new same = map-set_same (λ (group : Vec ℕ Global). group.items) groups i new old same
 
 pub push-group : (groups : List (Vec ℕ Global)) (i place : ℕ) (old new : Vec ℕ Global) → i < length groups → new.items ≡ (get_or groups i old).items ++ place ∷ []
     → map (λ (group : Vec ℕ Global). group.items) (set groups i new)

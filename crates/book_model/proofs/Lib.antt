@@ -1,5 +1,7 @@
-mod GroupLemmas
+pub mod GroupLemmas
 mod DayOrder
 mod Runs
 mod SliceCases
 pub mod SliceLaws
+pub mod DaysAlike
+mod WorkedRows

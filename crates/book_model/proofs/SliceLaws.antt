@@ -5,7 +5,7 @@ use Rattle.std.proofs.lemmas.Bool.{cases_Bool, cases_lt, cases_order, eq-eqb, eq
 use Rattle.std.proofs.lemmas.List.Elements.{All-nil, All-cons, All-weaker}
 use Rattle.book_model.specs.Activity.{is_within}
 use Rattle.book_model.specs.Contents.{Contents}
-use Rattle.book_model.specs.Slices.{days_from_to, periods_of, turns_at, is_change, days_of, runs_from, all_slices, days_in, IsSteady}
+use Rattle.book_model.specs.Slices.{days_from_to, periods_of, turns_at, is_change, days_of, runs_from, all_slices, days_in, IsOrdered, IsSteady}
 use Rattle.book_model.specs.declared.record.Slice.{Slice}
 
 range_with_len-append : (a k n : ℕ) → range_with_len a k ++ range_with_len (a + k) n ≡ range_with_len a (k + n)
@@ -67,6 +67,22 @@ slices_partition b ordered =
     ap (flat_map days_in) (slices_after_first b)
     ∙ days_of_runs (is_change b) (b.last - b.first) b.first (b.first + 1) b.last (omega arith) (omega arith)
     ∙ ap (range_with_len b.first) count
+
+runs_ordered : (p : ℕ → Bool) (m s a last : ℕ) → s < a → suc last ≡ a + m → All IsOrdered (runs_after p m s a last)
+runs_ordered p zero s a last before ends = All-cons IsOrdered (days_from_to s last) [] (omega arith) (All-nil IsOrdered)
+runs_ordered p (suc m) s a last before ends =
+    elim (cases_Bool (p a)) [
+      | inl on ↦
+          subst (λ runs. All IsOrdered runs) (sym (runs_at_change p m s a last on))
+          (All-cons IsOrdered (days_from_to s (a - 1)) (runs_after p m a (a + 1) last) (omega arith) (runs_ordered p m a (a + 1) last (omega arith) (omega arith)))
+      | inr off ↦
+          subst (λ runs. All IsOrdered runs) (sym (runs_at_no_change p m s a last off)) (runs_ordered p m s (a + 1) last (omega arith) (omega arith))
+    ]
+
+-- no slice ends before it begins
+pub slices_ordered : (b : Contents) → b.first ≤ b.last → All IsOrdered (all_slices b)
+slices_ordered b ordered =
+    subst (λ runs. All IsOrdered runs) (sym (slices_after_first b)) (runs_ordered (is_change b) (b.last - b.first) b.first (b.first + 1) b.last (omega arith) (omega arith))
 
 -- no day of the slice but its first passes
 abbrev ChangesAtFirst : (ℕ → Bool) → Slice → Type 0

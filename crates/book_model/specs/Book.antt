@@ -1,11 +1,12 @@
 -- What the records of a book have to meet: their references stand for something, ids are distinct, and the limits are kept.
---     RuleFits n f             the formula speaks of n codes and has at most 512 nodes
+--     RuleFits n f             the formula speaks of n codes and keeps its limit of nodes
 --     SupplementFits ..        a record whose references are in range
 --     IsBook b                 all of it
 use Rattle.std.specs.Prelude.{ℕ, ◌<◌, ◌≤◌, List, ◌++◌, length, map, IsTrue, IfSome, All}
 use Rattle.std.specs.List.{IsDistinct}
 use Rattle.pb_base.specs.Names.{same_name}
 use Rattle.pb_base.specs.Rule.{Rule, codes_below, nodes}
+use Rattle.pb_base.specs.declared.limits.TheConstants.{MOST_CODES, MOST_SUPPLEMENTS, MOST_CONSTRUCTS, MOST_MODULES, MOST_POSITIONS, MOST_VARIANTS, MOST_CHOICES, MOST_NODES}
 use Rattle.book_model.specs.Contents.{Contents}
 use Rattle.book_model.specs.Parts.{variants_of}
 use Rattle.book_model.specs.declared.record.Supplement.{Supplement}
@@ -15,7 +16,7 @@ use Rattle.book_model.specs.declared.record.Variant.{Variant}
 
 pub record RuleFits (codes : ℕ) (f : Rule) : Type 0 where
   pub in_range : IsTrue (codes_below codes f)
-  pub size : nodes f ≤ 512
+  pub size : nodes f ≤ MOST_NODES
 
 pub record SupplementFits (codes : ℕ) (s : Supplement) : Type 0 where
   pub code : s.code < codes
@@ -38,13 +39,13 @@ rule_ids b = map (λ s. s.id) b.supplements ++ map (λ c. c.id) b.constructs
 
 pub record IsBook (b : Contents) : Type 0 where
   pub term : b.first ≤ b.last
-  pub codes_limit : length b.codes ≤ 2000
-  pub supplements_limit : length b.supplements ≤ 5000
-  pub constructs_limit : length b.constructs ≤ 10000
-  pub modules_limit : length b.modules ≤ 1000
-  pub positions_limit : length b.positions ≤ 5000
-  pub variants_limit : length b.variants ≤ 20000
-  pub choices_limit : (place : ℕ) → length (variants_of place b.variants) ≤ 200
+  pub codes_limit : length b.codes ≤ MOST_CODES
+  pub supplements_limit : length b.supplements ≤ MOST_SUPPLEMENTS
+  pub constructs_limit : length b.constructs ≤ MOST_CONSTRUCTS
+  pub modules_limit : length b.modules ≤ MOST_MODULES
+  pub positions_limit : length b.positions ≤ MOST_POSITIONS
+  pub variants_limit : length b.variants ≤ MOST_VARIANTS
+  pub choices_limit : (place : ℕ) → length (variants_of place b.variants) ≤ MOST_CHOICES
   pub supplements_fit : All (SupplementFits (length b.codes)) b.supplements
   pub constructs_fit : All (ConstructFits (length b.codes)) b.constructs
   pub positions_fit : All (PositionFits (length b.modules)) b.positions

@@ -9,3 +9,4 @@ pub mod Sound
 pub mod Book
 pub mod Groups
 pub mod BookParts
+pub mod WorkedBook

@@ -1,6 +1,7 @@
 -- Which variants a set of codes selects on a day.
 --     variants_of place vs       the places of a position's variants, in record order
---     is_chosen b day x v        the variant at the place v is active and its formula is true
+--     is_selected day x v        the variant is active and its formula is true
+--     is_selected_at b day x v   the same of the variant at the place v
 --     selected b day x place     the selected variants of a position: none where it is not active
 --     parts b day x              all of them, as lines of position and variant
 use Rattle.std.specs.Prelude.{ℕ, suc, Bool, false, ◌&&◌, ◌==◌, List, [], ◌∷◌, ◌++◌, filter, map, slice_get, if◌then◌else◌}
@@ -19,17 +20,17 @@ variants_from i place (v ∷ vs) = if v.position == place then i ∷ variants_fr
 abbrev pub variants_of : ℕ → List Variant → List ℕ
 variants_of place variants = variants_from 0 place variants
 
-abbrev pub is_used : ℕ → List Bool → Variant → Bool
-is_used day x v = is_within v.from v.until day && holds v.rule x
+abbrev pub is_selected : ℕ → List Bool → Variant → Bool
+is_selected day x v = is_within v.from v.until day && holds v.rule x
 
-abbrev pub is_chosen : Contents → ℕ → List Bool → ℕ → Bool
-is_chosen b day x v = option_map_or (is_used day x) (slice_get b.variants v) false
+abbrev pub is_selected_at : Contents → ℕ → List Bool → ℕ → Bool
+is_selected_at b day x v = option_map_or (is_selected day x) (slice_get b.variants v) false
 
 abbrev pub is_active_position : ℕ → Position → Bool
 is_active_position day p = is_within p.from p.until day
 
 abbrev pub selected : Contents → ℕ → List Bool → ℕ → Position → List ℕ
-selected b day x place p = if is_active_position day p then filter (is_chosen b day x) (variants_of place b.variants) else []
+selected b day x place p = if is_active_position day p then filter (is_selected_at b day x) (variants_of place b.variants) else []
 
 -- a line of a parts list: the places of a position and of its variant
 pub record PartsLine : Type 0 where

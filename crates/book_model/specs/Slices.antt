@@ -2,9 +2,12 @@
 --     periods_of b          the days of each record that has days
 --     is_change b day       the first day of the term, or one on which a record begins to be active or ceases to be
 --     days_of b             the days of the term, in order
---     slices_of b           the slices in order of days; more than 64 are refused with their number
-use Rattle.std.specs.Prelude.{ℕ, suc, ◌+◌, ◌-◌, Bool, ◌||◌, ◌==◌, List, [], ◌∷◌, ◌++◌, Result, Ok, Err, filter, map, length, nat_le, IsTrue, All, ◌≡◌, if◌then◌else◌}
+--     slices_of b           the slices in order of days; more than the limit are refused with their number
+--     AreAlike b day other  on both days the same records are active
+--     IsSteady b slice      all days of the slice are like its first
+use Rattle.std.specs.Prelude.{ℕ, suc, ◌+◌, ◌-◌, ◌≤◌, Bool, ◌||◌, ◌==◌, List, [], ◌∷◌, ◌++◌, Result, Ok, Err, filter, map, length, nat_le, IsTrue, All, ◌≡◌, if◌then◌else◌}
 use Rattle.std.specs.List.{list_any, range_with_len}
+use Rattle.pb_base.specs.declared.limits.TheConstants.{MOST_SLICES}
 use Rattle.book_model.specs.Activity.{is_within}
 use Rattle.book_model.specs.Contents.{Contents}
 use Rattle.book_model.specs.declared.record.Slice.{Slice}
@@ -51,14 +54,23 @@ runs_from (day ∷ days) last = days_from_to day (end_before days last) ∷ runs
 abbrev pub all_slices : Contents → List Slice
 all_slices b = runs_from (change_days b) b.last
 
+abbrev pub within_limit : List Slice → Result (List Slice) LimitFault
+within_limit slices = if nat_le (length slices) MOST_SLICES then Ok slices else Err (Slices (length slices))
+
 unfoldable pub slices_of : Contents → Result (List Slice) LimitFault
-slices_of b = if nat_le (length (all_slices b)) 64 then Ok (all_slices b) else Err (Slices (length (all_slices b)))
+slices_of b = within_limit (all_slices b)
 
 -- the days of a slice
 abbrev pub days_in : Slice → List ℕ
 days_in slice = range_with_len slice.first (suc (slice.last - slice.first))
 
+abbrev pub IsOrdered : Slice → Type 0
+IsOrdered slice = slice.first ≤ slice.last
+
+-- on both days the same records are active
+abbrev pub AreAlike : Contents → ℕ → ℕ → Type 0
+AreAlike b day other = All (λ period. is_within period.first period.last day ≡ is_within period.first period.last other) (periods_of b)
+
 -- on all days of the slice the same records are active
 abbrev pub IsSteady : Contents → Slice → Type 0
-IsSteady b slice = (day : ℕ) → IsTrue (is_within slice.first slice.last day)
-    → All (λ period. is_within period.first period.last day ≡ is_within period.first period.last slice.first) (periods_of b)
+IsSteady b slice = (day : ℕ) → IsTrue (is_within slice.first slice.last day) → AreAlike b day slice.first

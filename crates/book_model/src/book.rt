@@ -1,5 +1,6 @@
 //! A book that meets its condition.
 ghost use Rattle.std.specs.Prelude.{◌≡◌, ◌<◌, ◌≤◌, length, All, IsTrue};
+ghost use Rattle.pb_base.specs.declared.limits.TheConstants.{MOST_SUPPLEMENTS, MOST_CONSTRUCTS, MOST_MODULES, MOST_POSITIONS, MOST_VARIANTS, MOST_CHOICES};
 ghost use Rattle.book_model.specs.BookParts.{contents_of, AreWhole};
 ghost use Rattle.book_model.specs.Book.{IsBook, SupplementFits, ConstructFits, PositionFits, VariantFits};
 ghost use Rattle.book_model.specs.Parts.{variants_of};
@@ -59,7 +60,8 @@ impl Book {
 
     /// The name of the book.
     pub fn name(&self) -> &Id
-        ensures { result.now ≡ self.now.name }
+        ensures value { result.now ≡ self.now.name }
+        ensures book { IsBook self.now }
     {
         &self.parts.name
     }
@@ -69,6 +71,7 @@ impl Book {
         ensures first { result.first ≡ self.now.first }
         ensures last { result.last ≡ self.now.last }
         ensures order { self.now.first ≤ self.now.last }
+        ensures book { IsBook self.now }
     {
         Slice {
             first: self.parts.first,
@@ -88,7 +91,7 @@ impl Book {
     pub fn supplements(&self) -> &[Supplement]
         ensures value { result.now ≡ self.now.supplements }
         ensures fit { All (SupplementFits (length self.now.codes)) result.now }
-        ensures limit { length result.now ≤ 5000 }
+        ensures limit { length result.now ≤ MOST_SUPPLEMENTS }
     {
         &self.parts.supplements
     }
@@ -97,7 +100,7 @@ impl Book {
     pub fn constructs(&self) -> &[Construct]
         ensures value { result.now ≡ self.now.constructs }
         ensures fit { All (ConstructFits (length self.now.codes)) result.now }
-        ensures limit { length result.now ≤ 10000 }
+        ensures limit { length result.now ≤ MOST_CONSTRUCTS }
     {
         &self.parts.constructs
     }
@@ -105,7 +108,7 @@ impl Book {
     /// The modules, in record order.
     pub fn modules(&self) -> &[Module]
         ensures value { result.now ≡ self.now.modules }
-        ensures limit { length result.now ≤ 1000 }
+        ensures limit { length result.now ≤ MOST_MODULES }
     {
         &self.parts.modules
     }
@@ -114,7 +117,7 @@ impl Book {
     pub fn positions(&self) -> &[Position]
         ensures value { result.now ≡ self.now.positions }
         ensures fit { All (PositionFits (length self.now.modules)) result.now }
-        ensures limit { length result.now ≤ 5000 }
+        ensures limit { length result.now ≤ MOST_POSITIONS }
     {
         &self.parts.positions
     }
@@ -123,7 +126,7 @@ impl Book {
     pub fn variants(&self) -> &[Variant]
         ensures value { result.now ≡ self.now.variants }
         ensures fit { All (VariantFits (length self.now.codes) (length self.now.positions)) result.now }
-        ensures limit { length result.now ≤ 20000 }
+        ensures limit { length result.now ≤ MOST_VARIANTS }
     {
         &self.parts.variants
     }
@@ -132,7 +135,7 @@ impl Book {
     pub fn variants_of(&self, position: u32) -> &[u32]
         requires { position < length self.now.positions }
         ensures value { result.now ≡ variants_of position self.now.variants }
-        ensures limit { length result.now ≤ 200 }
+        ensures limit { length result.now ≤ MOST_CHOICES }
         ensures in_range { All (λ v. v < length self.now.variants) result.now }
     {
         self.parts.groups.of_position(position)

@@ -1,6 +1,6 @@
 //! The variants of each position, so that a parts list is made without a search.
-ghost use Rattle.std.specs.Prelude.{◌≡◌, ◌<◌, ◌≤◌, ◌^◌, ◌++◌, [], ◌∷◌, All, IfOk, OnOk, length, map, slice_index_or, slice_set};
-ghost use Rattle.book_model.specs.Groups.{AreGroups};
+ghost use Rattle.std.specs.Prelude.{◌≡◌, ◌<◌, ◌^◌, [], All, IfOk, OnOk, OnErr, length, map, replicate, slice_index_or};
+ghost use Rattle.book_model.specs.Groups.{AreGroups, with_place};
 
 use crate::record::Variant;
 use pb_base::Memory;
@@ -22,6 +22,25 @@ impl Model for VariantGroups {
 }
 
 impl VariantGroups {
+    /// The groups of so many positions without variants.
+    pub fn empty(alloc: Global, positions: usize) -> Result<VariantGroups, Memory>
+        ensures { IfOk result (AreGroups positions []) }
+    {
+        let groups = empty_groups(alloc, positions)?;
+        Ok(VariantGroups { groups })
+    }
+
+    /// Puts the place of a variant behind those that its position has. On want of memory the groups are as before.
+    pub fn add(&mut self, position: u32, place: u32) -> Result<(), Memory>
+        requires { position < length self.old }
+        ensures ok { OnOk result (self.new ≡ with_place self.old position place) }
+        ensures err { OnErr result (self.new ≡ self.old) }
+    {
+        let group = &mut self.groups[position as usize];
+        group.push(place)?;
+        Ok(())
+    }
+
     /// The groups of these variants, each of which names one of so many positions by its place.
     pub fn of(
         alloc: Global,
@@ -32,11 +51,11 @@ impl VariantGroups {
         requires places { length variants.now < 2 ^ 32 }
         ensures { IfOk result (AreGroups positions variants.now) }
     {
-        let mut groups = empty_groups(alloc, positions)?;
+        let mut groups = VariantGroups::empty(alloc, positions)?;
         for (place, variant) in variants.iter().enumerate() {
-            add_place(&mut groups, variant.position as usize, place as u32)?;
+            groups.add(variant.position, place as u32)?;
         }
-        Ok(VariantGroups { groups })
+        Ok(groups)
     }
 
     /// The places of the variants of the position at this place, in record order.
@@ -49,21 +68,11 @@ impl VariantGroups {
 }
 
 fn empty_groups(alloc: Global, positions: usize) -> Result<Vec<Vec<u32>>, Memory>
-    ensures count { IfOk result (λ groups. length groups.items ≡ positions) }
-    ensures empty { IfOk result (λ groups. All (λ group. group.items ≡ []) groups.items) }
+    ensures { IfOk result (λ groups. map (λ group. group.items) groups.items ≡ replicate positions []) }
 {
     let mut groups = Vec::with_capacity(alloc, positions)?;
     for _ in 0..positions {
         groups.push(Vec::new(alloc))?;
     }
     Ok(groups)
-}
-
-// Puts the place of a variant behind those that its position has.
-fn add_place(groups: &mut [Vec<u32>], position: usize, place: u32) -> Result<(), Memory>
-    requires { position < length groups.old }
-    ensures { OnOk result (map (λ g. g.items) groups.new ≡ slice_set (map (λ g. g.items) groups.old) position (slice_index_or (map (λ g. g.items) groups.old) position [] ++ place ∷ [])) }
-{
-    groups[position].push(place)?;
-    Ok(())
 }

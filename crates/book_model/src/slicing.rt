@@ -1,24 +1,22 @@
 //! The slices of a book's term.
-ghost use Rattle.std.specs.Prelude.{◌≡◌, IfOk, All};
+ghost use Rattle.std.specs.Prelude.{◌≡◌, ◌<◌, ◌^◌, IfOk, All, length};
 ghost use Rattle.std.specs.List.{flat_map};
 ghost use Rattle.pb_base.specs.Answers.{Answers};
-ghost use Rattle.book_model.specs.Slices.{end_before, runs_from, slices_of, days_in, days_of, IsSteady};
+ghost use Rattle.book_model.specs.Slices.{end_before, runs_from, within_limit, slices_of, days_in, days_of, IsOrdered, IsSteady};
 
 use crate::book::Book;
 use crate::change_days::change_days;
 use crate::periods::periods_of;
 use crate::record::Slice;
+use pb_base::limits::MOST_SLICES;
 use pb_base::{Day, Fail, Memory};
 use std::alloc::Global;
 use std::marker::Model;
 
-/// The most slices that a term may have.
-const MOST_SLICES: usize = 64;
-
 /// A limit of checking that a book exceeds.
 #[derive(Clone, Copy, Debug, PartialEq, Eq)]
 pub enum LimitFault {
-    /// The term has this number of slices, more than 64.
+    /// The term has this number of slices, more than the limit.
     Slices(u32),
     /// The slice at a place, counted from 0, has this number of questions, more than may be asked.
     Questions { slice: u32, count: u64 },
@@ -48,19 +46,32 @@ impl SliceList {
     }
 }
 
-/// The slices of a book's term, in order of days: the longest runs of days on which the same records are active. They are refused where there are more than 64.
+/// The slices of a book's term, in order of days: the longest runs of days on which the same records are active. They are refused where there are more than `MOST_SLICES`.
 pub fn slices(alloc: Global, book: &Book) -> Result<SliceList, Fail<LimitFault>>
     ensures value { Answers result (slices_of book.now) }
     ensures partition { IfOk result (λ slices. flat_map days_in slices ≡ days_of book.now) }
+    ensures order { IfOk result (λ slices. All IsOrdered slices) }
     ensures steady { IfOk result (λ slices. All (IsSteady book.now) slices) }
 {
     let term = book.term();
     let periods = periods_of(alloc, book)?;
     let days = change_days(alloc, term, &periods)?;
+    runs_within(alloc, &days, term.last)
+}
+
+// The runs of these days, unless they are too many.
+pub(crate) fn runs_within(
+    alloc: Global,
+    days: &[Day],
+    last: Day,
+) -> Result<SliceList, Fail<LimitFault>>
+    requires { length days.now < 2 ^ 32 }
+    ensures { Answers result (within_limit (runs_from days.now last)) }
+{
     if days.len() > MOST_SLICES {
         return Err(Fail::Refused(LimitFault::Slices(days.len() as u32)));
     }
-    let slices = runs_from(alloc, &days, term.last)?;
+    let slices = runs_from(alloc, days, last)?;
     Ok(SliceList { slices })
 }
 

@@ -1,7 +1,7 @@
 -- What a run over a chain shows, pair by pair.
-use Rattle.std.proofs.Common.{◌≡◌, ℕ, ◌+◌, ◌<◌, ◌≤◌, true, false, eqb, List, [], ◌∷◌, length, get_or, drop, Option, Some, Result, Ok, Err, sym, ap, ◌∙◌, arith}
+use Rattle.std.proofs.Common.{◌≡◌, ℕ, ◌+◌, ◌<◌, ◌≤◌, true, false, eqb, List, [], ◌∷◌, length, get_or, drop, Option, Some, Result, Ok, Err, sym, ap, subst, ◌∙◌, arith}
 use Rattle.std.specs.List.{list_any, slice_get}
-use Rattle.std.proofs.lemmas.Bool.{and_right, and_from, cond-true, cond-false}
+use Rattle.std.proofs.lemmas.Bool.{false≢true, and_right, and_from, cond-true, cond-false}
 use Rattle.std.proofs.lemmas.List.{drop_more, drop_all}
 use Rattle.std.proofs.lemmas.Option.{slice_get-get_or, slice_get_past}
 use Rattle.clause_pool.specs.Literal.{complement}
@@ -11,7 +11,8 @@ use Rattle.clause_pool.specs.declared.chain.Pair.{Pair}
 use Rattle.clause_pool.specs.declared.chain.StepFault.{StepFault}
 use Rattle.clause_pool.specs.declared.chain.StepFault.TheVariants.{NoSuchStep, NoPivot}
 use Rattle.clause_pool.proofs.ChainLaws.{chain_from-fault}
-use Rattle.clause_pool.specs.Run.{Leaves}
+use Rattle.std.specs.Prelude.{IsErr, IsErrAnd}
+use Rattle.pb_base.specs.Answers.{Leaves}
 use Rattle.pb_base.specs.declared.answer.Fail.{Fail}
 use Rattle.pb_base.specs.declared.answer.Fail.TheVariants.{Refused, Memory}
 
@@ -74,6 +75,11 @@ running_ends clauses start pairs done running m h =
     sym m.so_far ∙ ap (λ (ps : List Pair). chain_from clauses (done + 1) ps (Ok running)) (drop_all done pairs h)
 
 -- a refusal is passed on, and want of memory too
-pub leaves_refusal : (e : Fail StepFault) (made right : Result (List ℕ) StepFault) (next running : List ℕ) → ((fault : StepFault) → made ≡ Err fault → right ≡ Err fault) → Leaves {A = Unit {0}} (Err e) made next → Leaves {A = Unit {0}} (Err e) right running
+leaves_refusal : (e : Fail StepFault) (made right : Result (List ℕ) StepFault) (next running : List ℕ) → ((fault : StepFault) → made ≡ Err fault → right ≡ Err fault) → Leaves {U = Unit {0}} (Err e) next made → Leaves {U = Unit {0}} (Err e) running right
 leaves_refusal (Refused fault) made right next running pass h = pass fault h
 leaves_refusal Memory made right next running pass h = tt
+
+pub leaves_passed_on : (result : Result (Unit {0}) (Fail StepFault)) (e : Fail StepFault) (made right : Result (List ℕ) StepFault) (next running : List ℕ) → IsErr result × IsErrAnd result (λ x. x ≡ e) → ((fault : StepFault) → made ≡ Err fault → right ≡ Err fault) → Leaves {U = Unit {0}} (Err e) next made → Leaves result running right
+leaves_passed_on (Ok done) e made right next running h pass leaves = absurd (false≢true h.0)
+leaves_passed_on (Err x) e made right next running h pass leaves =
+    subst (λ (y : Fail StepFault). Leaves {U = Unit {0}} (Err y) running right) (sym h.1) (leaves_refusal e made right next running pass leaves)

@@ -3,6 +3,5 @@ pub mod Clause
 pub mod Region
 pub mod PoolContents
 pub mod Chain
-pub mod Run
 pub mod Steps
 pub mod Derivation

@@ -103,9 +103,7 @@ impl Kernel {
         ensures bounds { KeepsBounds self.old.clauses self.new.clauses }
         ensures unchanged { OnErr result (self.new ≡ self.old) }
     {
-        if let Err(fault) = run_chain(&self.pool, start, pairs, &mut self.running, &mut self.next) {
-            return Err(fault);
-        }
+        run_chain(&self.pool, start, pairs, &mut self.running, &mut self.next)?;
         self.pool.reserve(1, self.running.len())?;
         self.log.push(start, pairs)?;
         Ok(self.pool.add_rising(&self.running))

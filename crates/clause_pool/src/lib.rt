@@ -10,8 +10,6 @@ mod pool;
 mod region;
 mod run;
 mod steps;
-#[cfg(test)]
-mod tests;
 
 pub use chain::{Pair, StepFault};
 pub use kernel::Kernel;

@@ -1,8 +1,8 @@
 //! The run over a resolution chain.
 ghost use Rattle.std.specs.Prelude.{◌≡◌, OnOk, slice_get};
+ghost use Rattle.pb_base.specs.Answers.{Leaves};
 ghost use Rattle.clause_pool.specs.Chain.{chain, step_on};
 ghost use Rattle.clause_pool.specs.Clause.{IsRising};
-ghost use Rattle.clause_pool.specs.Run.{Leaves};
 
 use crate::chain::{Pair, StepFault};
 use crate::lit::Lit;
@@ -19,7 +19,7 @@ fn step(
     next: &mut Vec<Lit>,
 ) -> Result<(), Fail<StepFault>>
     requires { IsRising running.now }
-    ensures leaves { Leaves result (step_on running.now place pair.lit (slice_get pool.now.clauses pair.with)) next.new.items }
+    ensures leaves { Leaves result next.new.items (step_on running.now place pair.lit (slice_get pool.now.clauses pair.with)) }
     ensures rising { OnOk result (IsRising next.new.items) }
 {
     if pair.with >= pool.len() {
@@ -46,7 +46,7 @@ pub(crate) fn run_chain(
     running: &mut Vec<Lit>,
     next: &mut Vec<Lit>,
 ) -> Result<(), Fail<StepFault>>
-    ensures leaves { Leaves result (chain pool.now.clauses start pairs.now) running.new.items }
+    ensures leaves { Leaves result running.new.items (chain pool.now.clauses start pairs.now) }
     ensures rising { OnOk result (IsRising running.new.items) }
 {
     if start >= pool.len() {
@@ -55,9 +55,7 @@ pub(crate) fn run_chain(
     running.clear();
     running.extend_from_slice(pool.lits(start))?;
     for (k, pair) in pairs.iter().enumerate() {
-        if let Err(fault) = step(pool, k + 1, *pair, running, next) {
-            return Err(fault);
-        }
+        step(pool, k + 1, *pair, running, next)?;
         std::mem::swap(running, next);
     }
     Ok(())

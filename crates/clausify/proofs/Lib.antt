@@ -1,6 +1,7 @@
 pub mod ListLaws
 pub mod Truth
 pub mod FormulaLaws
+pub mod NodeLaws
 pub mod ItemLaws
 pub mod GoalLaws
 pub mod SliceLaws
@@ -12,4 +13,4 @@ pub mod CodedLaws
 pub mod QuestionLaws
 pub mod RangeLaws
 pub mod MeetLaws
-mod SmallBook
+mod WorkedSlice

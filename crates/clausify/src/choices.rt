@@ -1,5 +1,6 @@
 //! The choices of a day: the active positions, each with its active variants.
 ghost use Rattle.std.specs.Prelude.{◌≡◌, ◌+◌, ◌^◌, ◌<◌, ◌≤◌, ◌++◌, IfOk, OnOk, map, length};
+ghost use Rattle.pb_base.specs.declared.limits.TheConstants.{MOST_CHOICES};
 ghost use Rattle.clausify.specs.Items.{item_clauses, variables_of, usage_item, usage_items};
 ghost use Rattle.clausify.specs.Choices.{active_variants, is_active_variant, choices, usage};
 ghost use Rattle.clausify.specs.Goals.{usages_from, all_usages};
@@ -32,7 +33,7 @@ fn usage(book: &Book, variant: u32) -> &Formula
 pub(crate) fn active_count(book: &Book, day: Day, position: u32) -> usize
     requires { position < length book.now.positions }
     ensures count { result ≡ length (active_variants book.now day position) }
-    ensures limit { result ≤ 200 }
+    ensures limit { result ≤ MOST_CHOICES }
 {
     let mut count = 0;
     for variant in book.variants_of(position) {

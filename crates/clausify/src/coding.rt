@@ -1,6 +1,6 @@
 //! The clauses of a slice.
-ghost use Rattle.std.specs.Prelude.{◌≡◌, ◌≤◌, IfOk, map};
-ghost use Rattle.book_model.specs.Slices.{IsSteady};
+ghost use Rattle.std.specs.Prelude.{◌≡◌, IfOk, map};
+ghost use Rattle.book_model.specs.Slices.{IsOrdered, IsSteady};
 ghost use Rattle.clausify.specs.Questions.{questions};
 ghost use Rattle.clausify.specs.Coded.{IsCoded};
 ghost use Rattle.clausify.specs.Limit.{CodesWithin};
@@ -15,11 +15,9 @@ use crate::items::add_rules;
 use crate::question::{Asked, Coded, Question};
 use book_model::{Book, Slice};
 use clause_pool::Lit;
+use pb_base::limits::MOST_QUESTIONS;
 use pb_base::{Fail, Memory};
 use std::alloc::Global;
-
-/// The most questions that may be asked of a slice.
-const MOST_QUESTIONS: u64 = 200_000;
 
 /// The clauses of a slice of the book, with its questions, however many these are.
 pub fn coded_slice(alloc: Global, book: &Book, slice: &Slice) -> Result<Coded, Memory>
@@ -27,8 +25,7 @@ pub fn coded_slice(alloc: Global, book: &Book, slice: &Slice) -> Result<Coded, M
     ensures questions { IfOk result (λ c. map (λ q. q.question) c.questions.items ≡ questions book.now slice.now.first) }
     ensures ranges { IfOk result (λ c. IsInRange book.now c) }
     ensures sets { IfOk result (λ c. IsSteady book.now slice.now → CodesSlice book.now slice.now c) }
-    ensures decides { IfOk result (λ c. IsSteady book.now slice.now → slice.now.first ≤ slice.now.last
-        → DecidesEach book.now slice.now c) }
+    ensures decides { IfOk result (λ c. IsSteady book.now slice.now → IsOrdered slice.now → DecidesEach book.now slice.now c) }
 {
     let codes = book.codes();
     let mut encoder = Encoder::new(alloc, codes.len())?;
@@ -55,11 +52,10 @@ pub fn clauses_of(alloc: Global, book: &Book, slice: &Slice) -> Result<Coded, Fa
     ensures questions { IfOk result (λ c. map (λ q. q.question) c.questions.items ≡ questions book.now slice.now.first) }
     ensures ranges { IfOk result (λ c. IsInRange book.now c) }
     ensures sets { IfOk result (λ c. IsSteady book.now slice.now → CodesSlice book.now slice.now c) }
-    ensures decides { IfOk result (λ c. IsSteady book.now slice.now → slice.now.first ≤ slice.now.last
-        → DecidesEach book.now slice.now c) }
+    ensures decides { IfOk result (λ c. IsSteady book.now slice.now → IsOrdered slice.now → DecidesEach book.now slice.now c) }
 {
     let count = question_count(book, slice);
-    if count > MOST_QUESTIONS {
+    if count > MOST_QUESTIONS as u64 {
         return Err(Fail::Refused(count));
     }
     Ok(coded_slice(alloc, book, slice)?)

@@ -1,5 +1,6 @@
 //! How many questions a slice has.
 ghost use Rattle.std.specs.Prelude.{◌≡◌, ◌+◌, ◌-◌, ◌*◌, ◌/◌, ◌≤◌, length, if◌then◌else◌};
+ghost use Rattle.pb_base.specs.declared.limits.TheConstants.{MOST_CHOICES};
 ghost use Rattle.clausify.specs.Questions.{questions};
 
 use crate::choices::active_count;
@@ -8,7 +9,7 @@ use book_model::{Book, Slice, active};
 /// The number of questions of a choice of so many variants: one of each, one of each pair, and one where the position is mandatory.
 #[tactic(auto, using(crate::proofs::CountLaws::pairs_limit))]
 fn choice_count(variants: u64, mandatory: bool) -> u64
-    requires { variants ≤ 200 }
+    requires { variants ≤ MOST_CHOICES }
     ensures value { result ≡ variants + variants * (variants - 1) / 2 + (if mandatory then 1 else 0) }
     ensures limit { result ≤ 20101 }
 {

@@ -1,10 +1,11 @@
 //! Clauses in the making.
-ghost use Rattle.std.specs.Prelude.{◌≡◌, ◌+◌, ◌^◌, ◌<◌, true, [], ◌∷◌, IfOk, OnOk};
+ghost use Rattle.std.specs.Prelude.{◌≡◌, ◌+◌, ◌^◌, ◌<◌, ◌≤◌, true, [], ◌∷◌, length, IfOk, OnOk};
 ghost use Rattle.clause_pool.specs.Literal.{literal};
 ghost use Rattle.clause_pool.specs.Clause.{clause_of};
 ghost use Rattle.clausify.specs.Formulas.{connectives, formula_literal, formula_clauses, both_clauses, either_clauses};
-ghost use Rattle.clausify.specs.Encoding.{Encodes};
+ghost use Rattle.clausify.specs.Encoding.{Encodes, making_of, with_node, parts_taken};
 
+use crate::parts::Parts;
 use clause_pool::{Lit, Pool};
 use pb_base::{Formula, Memory, Node};
 use std::alloc::Global;
@@ -17,6 +18,8 @@ pub(crate) struct Encoder {
     pub(crate) truth: u32,
     /// The variable that is taken next.
     pub(crate) next: u32,
+    /// The parts of the formula that is encoded.
+    parts: Parts,
 }
 
 impl Encoder {
@@ -33,6 +36,7 @@ impl Encoder {
             pool,
             truth: codes,
             next: codes + 1,
+            parts: Parts::new(alloc),
         })
     }
 
@@ -41,6 +45,7 @@ impl Encoder {
         requires { self.old.next + 1 < 2 ^ 32 }
         ensures made { OnOk result (Encodes self.old self.new (both_clauses self.old.next left right) 1) }
         ensures literal { IfOk result (λ l. l ≡ literal self.old.next true) }
+        ensures parts { self.new.parts ≡ self.old.parts }
     {
         let named = Lit::new(self.next, true);
         let absent = Lit::new(self.next, false);
@@ -56,6 +61,7 @@ impl Encoder {
         requires { self.old.next + 1 < 2 ^ 32 }
         ensures made { OnOk result (Encodes self.old self.new (either_clauses self.old.next left right) 1) }
         ensures literal { IfOk result (λ l. l ≡ literal self.old.next true) }
+        ensures parts { self.new.parts ≡ self.old.parts }
     {
         let named = Lit::new(self.next, true);
         let absent = Lit::new(self.next, false);
@@ -66,27 +72,46 @@ impl Encoder {
         Ok(named)
     }
 
+    /// What one more node of a formula makes of its parts.
+    fn add_node(&mut self, node: Node) -> Result<(), Memory>
+        requires parts { parts_taken node ≤ length self.old.parts }
+        requires room { (with_node self.old.truth node (making_of self.old)).next < 2 ^ 32 }
+        ensures made { OnOk result (making_of self.new ≡ with_node self.old.truth node (making_of self.old)) }
+        ensures truth { OnOk result (self.new.truth ≡ self.old.truth) }
+    {
+        match node {
+            Node::Code(place) => self.parts.push(Lit::new(place, true)),
+            Node::Yes => self.parts.push(Lit::new(self.truth, true)),
+            Node::No => self.parts.push(Lit::new(self.truth, false)),
+            Node::Not => {
+                let part = self.parts.pop();
+                self.parts.push(part.not())
+            }
+            Node::And(_) => {
+                let right = self.parts.pop();
+                let left = self.parts.pop();
+                let named = self.both(left, right)?;
+                self.parts.push(named)
+            }
+            Node::Or(_) => {
+                let right = self.parts.pop();
+                let left = self.parts.pop();
+                let named = self.either(left, right)?;
+                self.parts.push(named)
+            }
+            Node::WhenTrue(_) | Node::WhenFalse(_) => Ok(()),
+        }
+    }
+
     /// The literal of a formula, with its clauses made.
     pub(crate) fn literal(&mut self, rule: &Formula) -> Result<Lit, Memory>
         requires { self.old.next + connectives rule.now < 2 ^ 32 }
         ensures made { OnOk result (Encodes self.old self.new (formula_clauses self.old.truth self.old.next rule.now) (connectives rule.now)) }
         ensures literal { IfOk result (λ l. l ≡ formula_literal self.old.truth self.old.next rule.now) }
     {
-        match rule.node() {
-            Node::Code(place) => Ok(Lit::new(*place, true)),
-            Node::Not(of) => Ok(self.literal(of)?.not()),
-            Node::And(sides) => {
-                let left = self.literal(&sides.left)?;
-                let right = self.literal(&sides.right)?;
-                self.both(left, right)
-            }
-            Node::Or(sides) => {
-                let left = self.literal(&sides.left)?;
-                let right = self.literal(&sides.right)?;
-                self.either(left, right)
-            }
-            Node::Yes => Ok(Lit::new(self.truth, true)),
-            Node::No => Ok(Lit::new(self.truth, false)),
+        for node in rule.nodes() {
+            self.add_node(*node)?;
         }
+        Ok(self.parts.pop())
     }
 }

@@ -7,6 +7,7 @@ mod counting;
 mod encoder;
 mod goals;
 mod items;
+mod parts;
 mod question;
 mod usage;
 
@@ -14,6 +15,3 @@ pub use coding::{clauses_of, coded_slice};
 pub use counting::question_count;
 pub use question::{Asked, Coded, Question};
 pub use usage::Usage;
-
-#[cfg(test)]
-mod tests;

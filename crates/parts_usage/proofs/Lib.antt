@@ -1,3 +1,1 @@
-mod OrderedSets
-mod NameFaults
-mod SmallBook
+mod WorkedRows

@@ -1,5 +1,4 @@
 pub mod Broken
 pub mod Unfit
 pub mod Fault
-pub mod Ordered
 pub mod Outcome

@@ -2,14 +2,12 @@
 #![tactic(auto)]
 
 mod broken;
-mod chosen;
 mod fault;
 mod judgement;
 mod order;
 mod ordered;
 mod parts_list;
-#[cfg(test)]
-mod tests;
+mod selected;
 mod unfit;
 
 pub use broken::first_broken;

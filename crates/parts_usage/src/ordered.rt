@@ -1,8 +1,9 @@
 //! The set of the codes that an order names.
-ghost use Rattle.std.specs.Prelude.{◌≡◌};
+ghost use Rattle.std.specs.Prelude.{Ok};
 ghost use Rattle.pb_base.specs.Answers.{Answers};
-ghost use Rattle.parts_usage.specs.Fault.{order_fault, unless_fault};
-ghost use Rattle.parts_usage.specs.Ordered.{set_of};
+ghost use Rattle.pb_base.specs.NamedSet.{named};
+ghost use Rattle.pb_base.specs.Results.{unless};
+ghost use Rattle.parts_usage.specs.Fault.{order_fault};
 
 use crate::fault::OrderFault;
 use book_model::{Book, active};
@@ -16,23 +17,14 @@ pub fn ordered_set(
     day: Day,
     names: &[CodeName],
 ) -> Result<CodeSet, Fail<OrderFault>>
-    ensures { Answers result (unless_fault (order_fault book.now day names.now) (set_of book.now.codes names.now)) }
+    ensures { Answers result (unless (order_fault book.now day names.now) (Ok (named book.now.codes names.now))) }
 {
     let term = book.term();
     if !active(term.first, term.last, day) {
         return Err(Fail::Refused(OrderFault::DayOutsideTerm));
     }
-    let codes = book.codes();
-    let mut set = CodeSet::none(alloc, codes.len())?;
-    for (index, name) in names.iter().enumerate() {
-        let place = index as u64 + 1;
-        let Some(code) = codes.place_of(name) else {
-            return Err(Fail::Refused(OrderFault::UnknownCode(place)));
-        };
-        if set.has(code) {
-            return Err(Fail::Refused(OrderFault::RepeatedCode(place)));
-        }
-        set.with(code);
+    match CodeSet::of_names(alloc, book.codes(), names) {
+        Ok(set) => Ok(set),
+        Err(fail) => Err(fail.map(OrderFault::of_name)),
     }
-    Ok(set)
 }

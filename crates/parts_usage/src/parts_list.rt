@@ -1,10 +1,10 @@
 //! Parts lists: which variant stands at which position.
 ghost use Rattle.std.specs.Prelude.{◌≡◌, ◌<◌, ◌++◌, IfOk, OnOk, length, filter};
-ghost use Rattle.book_model.specs.Parts.{parts, lines_at, is_chosen, variants_of};
+ghost use Rattle.book_model.specs.Parts.{parts, lines_at, is_selected_at, variants_of};
 
-use crate::chosen::is_chosen;
+use crate::selected::is_selected_at;
 use book_model::{Book, active};
-use pb_base::{CodeSet, Day, Memory};
+use pb_base::{CodeSet, Day, Memory, Sequence};
 use std::alloc::Global;
 use std::marker::Model;
 
@@ -28,28 +28,7 @@ impl Model for Line {
 }
 
 /// The selected variants of all positions, by position and then by variant, in record order.
-#[derive(Drop)]
-pub struct PartsList {
-    lines: Vec<Line>,
-}
-
-impl Model for PartsList {
-    ghost use Rattle.std.specs.Prelude.{List};
-    ghost use Rattle.book_model.specs.Parts.{PartsLine};
-
-    ghost Value = { List PartsLine };
-
-    ghost view = { λ l. l.lines.items };
-}
-
-impl PartsList {
-    /// The lines in their order.
-    pub fn lines(&self) -> &[Line]
-        ensures { result.now ≡ self.now }
-    {
-        &self.lines
-    }
-}
+pub type PartsList = Sequence<Line>;
 
 /// The parts list of a set of codes on a day: the selected variants of each position.
 pub fn select(alloc: Global, book: &Book, day: Day, set: &CodeSet) -> Result<PartsList, Memory>
@@ -62,7 +41,7 @@ pub fn select(alloc: Global, book: &Book, day: Day, set: &CodeSet) -> Result<Par
             push_lines(&mut lines, book, day, set, place as u32)?;
         }
     }
-    Ok(PartsList { lines })
+    Ok(Sequence::of(lines))
 }
 
 // Puts the lines of the position at this place behind the others.
@@ -75,10 +54,10 @@ fn push_lines(
 ) -> Result<(), Memory>
     requires codes { length set.now ≡ length book.now.codes }
     requires in_range { place < length book.now.positions }
-    ensures { OnOk result (lines.new.items ≡ lines.old.items ++ lines_at place (filter (is_chosen book.now day set.now) (variants_of place book.now.variants))) }
+    ensures { OnOk result (lines.new.items ≡ lines.old.items ++ lines_at place (filter (is_selected_at book.now day set.now) (variants_of place book.now.variants))) }
 {
     for variant in book.variants_of(place) {
-        if is_chosen(book, day, set, *variant) {
+        if is_selected_at(book, day, set, *variant) {
             lines.push(Line {
                 position: place,
                 variant: *variant,

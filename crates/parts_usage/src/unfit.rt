@@ -1,10 +1,10 @@
 //! The positions of which a set of codes selects a number of variants that isn't permitted.
 ghost use Rattle.std.specs.Prelude.{◌≡◌, ◌<◌, ◌≤◌, length, filter};
-ghost use Rattle.book_model.specs.Parts.{is_chosen, variants_of};
+ghost use Rattle.book_model.specs.Parts.{is_selected_at, variants_of};
 ghost use Rattle.book_model.specs.Sound.{permits};
 ghost use Rattle.parts_usage.specs.Unfit.{first_unfit_of};
 
-use crate::chosen::is_chosen;
+use crate::selected::is_selected_at;
 use book_model::{Book, Position, active};
 use pb_base::{CodeSet, Day};
 
@@ -24,7 +24,7 @@ pub fn first_unfit(book: &Book, day: Day, set: &CodeSet) -> Option<Unfit>
 {
     for (place, position) in book.positions().iter().enumerate() {
         if active(position.from, position.until, day) {
-            let count = count_chosen(book, day, set, place as u32);
+            let count = count_selected(book, day, set, place as u32);
             if !permits(position, count) {
                 return Some(Unfit {
                     position: place as u32,
@@ -47,15 +47,15 @@ fn permits(position: &Position, count: u32) -> bool
     }
 }
 
-// How many variants of the position at this place are chosen.
-fn count_chosen(book: &Book, day: Day, set: &CodeSet, place: u32) -> u32
+// How many variants of the position at this place are selected.
+fn count_selected(book: &Book, day: Day, set: &CodeSet, place: u32) -> u32
     requires codes { length set.now ≡ length book.now.codes }
     requires in_range { place < length book.now.positions }
-    ensures { result ≡ length (filter (is_chosen book.now day set.now) (variants_of place book.now.variants)) }
+    ensures { result ≡ length (filter (is_selected_at book.now day set.now) (variants_of place book.now.variants)) }
 {
     let mut count = 0;
     for variant in book.variants_of(place) {
-        if is_chosen(book, day, set, *variant) {
+        if is_selected_at(book, day, set, *variant) {
             count += 1;
         }
     }

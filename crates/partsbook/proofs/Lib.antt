@@ -1,6 +1,8 @@
 pub mod NamesText
 pub mod Texts
-pub mod Sinks
-pub mod Replies
-pub mod Answered
+pub mod Statuses
+pub mod Told
+pub mod Asked
+pub mod Caused
 pub mod Verified
+pub mod Sure

@@ -1,7 +1,6 @@
 -- A certificate that was found without fault shows that the book can be released.
-use Rattle.std.proofs.Common.{◌≡◌, ℕ, List, Option, None, Some, Result, Ok, Err, refl, subst}
-use Rattle.std.specs.Prelude.{IsOkAnd}
-use Rattle.std.specs.Option.{option_map_or}
+use Rattle.std.proofs.Common.{◌≡◌, ◌∙◌, ℕ, List, Option, None, Some, Result, Ok, Err, refl, sym, subst, ap, arith}
+use Rattle.std.specs.Prelude.{IsOkAnd, IfSome, take}
 use Rattle.book_model.specs.Contents.{Contents}
 use Rattle.book_model.specs.Book.{IsBook}
 use Rattle.book_model.specs.Sound.{IsReleasable}
@@ -12,13 +11,15 @@ use Rattle.derivation.specs.Certificate.{cert_answer}
 use Rattle.derivation.specs.declared.fault.CertFault.{CertFault}
 use Rattle.derivation.specs.declared.fault.Certified.{Certified}
 use Rattle.derivation.proofs.Released.{releasable_when_answered}
-use Rattle.pb_outside.specs.Files.{NamedBytes}
+use Rattle.pb_outside.specs.Files.{FilesTold}
+use Rattle.pb_outside.specs.Source.{ReadsUpTo}
 use Rattle.partsbook.specs.Words.{command_in}
-use Rattle.partsbook.specs.Reply.{usage_reply, certified_reply, content_reply, verify_reply, command_reply, reply}
-use Rattle.partsbook.specs.Run.{GivesReply, ShowsRelease}
-use Rattle.partsbook.specs.declared.command.Command.{Command}
-use Rattle.partsbook.specs.declared.command.Command.TheVariants.{Verify}
-use Rattle.partsbook.specs.declared.log.Note.{Note}
+use Rattle.partsbook.specs.Outside.{Outside, input_limit}
+use Rattle.partsbook.specs.RunReply.{RunReply, certified_reply, content_reply}
+use Rattle.partsbook.specs.Replies.{RepliesTo, RepliesToVerify}
+use Rattle.partsbook.specs.Run.{GivesReply, IsCaused, by_words, by_inputs, by_sink, by_memory, by_reply, ShowsReleasable}
+use Rattle.partsbook.specs.declared.command.BookCommand.{BookCommand}
+use Rattle.partsbook.specs.declared.command.BookCommand.TheVariants.{Verify}
 
 -- the status 0 comes with a certificate of the book
 certified-releasable : (b : Contents) (text : List ℕ) (answer : Result Certified CertFault) → cert_answer b text ≡ answer → IsBook b
@@ -30,20 +31,41 @@ content-releasable : (b : Contents) (content : Option (List ℕ)) → IsBook b �
 content-releasable b None book done = cc
 content-releasable b (Some text) book done = certified-releasable b text (cert_answer b text) refl book done
 
-verified-releasable : (input : List ℕ) (book : Result Contents BookFault) (content : Option (List ℕ)) → book_of input ≡ book
-    → 0 ≡ (verify_reply book content).status → IsOkAnd book IsReleasable
-verified-releasable input (Ok b) content is done = content-releasable b content (book_of-book input b is) done
-verified-releasable input (Err fault) content is done = cc
+verified-releasable : (input file : List ℕ) (book : Result Contents BookFault) (files files' : FilesTold) (reply : RunReply) → book_of input ≡ book
+    → RepliesToVerify book file files files' reply → 0 ≡ reply.status → IsOkAnd book IsReleasable
+verified-releasable input file (Ok b) files files' reply is h done =
+    content-releasable b h.content (book_of-book input b is) (done ∙ ap (λ (r : RunReply). r.status) h.answer)
+verified-releasable input file (Err fault) files files' reply is h done = let three : reply.status ≡ 3 = ap (λ (r : RunReply). r.status) h.answer in absurd (omega (arith, done, three))
 
-command-releasable : (words : List (List ℕ)) (file input : List ℕ) (content : Option (List ℕ)) → command_in words ≡ Some (Verify file)
-    → 0 ≡ (reply words input content).status → IsOkAnd (book_of input) IsReleasable
-unfolding reply command_reply
-command-releasable words file input content asked done =
-    verified-releasable input (book_of input) content refl
-    (subst (λ (c : Option Command). 0 ≡ (option_map_or (command_reply input content) c usage_reply).status) asked done)
+command-releasable : (command : BookCommand) (file input : List ℕ) (files files' : FilesTold) (reply : RunReply) → command ≡ Verify file
+    → RepliesTo command input files files' reply → 0 ≡ reply.status → IsOkAnd (book_of input) IsReleasable
+unfolding RepliesTo
+command-releasable command file input files files' reply e h done =
+    let verified : RepliesToVerify (book_of input) file files files' reply = subst (λ (c : BookCommand). RepliesTo c input files files' reply) e h in
+    verified-releasable input file (book_of input) files files' reply refl verified done
 
-pub shows_release : (words : List (List ℕ)) (left : Option (List ℕ)) (files : Option (List NamedBytes)) (taken taken' : Option (List ℕ)) (log log' : List Note)
-    → GivesReply words left files 0 taken taken' log log' → ShowsRelease words left
-shows_release words None files taken taken' log log' given = λ file asked. tt
-shows_release words (Some all) files taken taken' log log' (input, content, is_input, came, gives) = λ file asked.
-    subst (λ (i : List ℕ). IsOkAnd (book_of i) IsReleasable) is_input (command-releasable words file input content asked gives.status_is)
+of_input : (left left' : Option (List ℕ)) (input : List ℕ) → ReadsUpTo input_limit left left' input → IsOkAnd (book_of input) IsReleasable
+    → IfSome left (λ all. IsOkAnd (book_of (take input_limit all)) IsReleasable)
+of_input None left' input read h = tt
+of_input (Some all) left' input read h = subst (λ (i : List ℕ). IsOkAnd (book_of i) IsReleasable) read.0 h
+
+same_command : (asked : Option BookCommand) (command other : BookCommand) → asked ≡ Some command → asked ≡ Some other → command ≡ other
+same_command asked command other e e' = let both : Some command ≡ Some other = sym e ∙ e' in cc
+
+of_reply : (words : List (List ℕ)) (before after : Outside) → GivesReply words before after 0 → ShowsReleasable words before.reads.source.left
+of_reply words before after h = λ file asked.
+    of_input before.reads.source.left after.reads.source.left h.input h.read.text
+    (command-releasable h.command file h.input before.reads.files after.reads.files h.reply
+      (same_command (command_in words) h.command (Verify file) h.asked asked) h.replies h.told.ends)
+
+done_released : (words : List (List ℕ)) (before after : Outside) (status : ℕ) → 0 ≡ status → IsCaused words before after status
+    → ShowsReleasable words before.reads.source.left
+done_released words before after status done (by_words two none) = absurd (omega (arith, done, two))
+done_released words before after status done (by_inputs four fails) = absurd (omega (arith, done, four))
+done_released words before after status done (by_sink five rose) = absurd (omega (arith, done, five))
+done_released words before after status done (by_memory nine) = absurd (omega (arith, done, nine))
+done_released words before after status done (by_reply h) = of_reply words before after (subst (λ (s : ℕ). GivesReply words before after s) (sym done) h)
+
+pub IsCaused-released : (words : List (List ℕ)) (before after : Outside) (status : ℕ) → IsCaused words before after status → status ≡ 0
+    → ShowsReleasable words before.reads.source.left
+IsCaused-released words before after status h done = done_released words before after status (sym done) h

@@ -3,5 +3,8 @@ pub mod Words
 pub mod FaultText
 pub mod OutcomeText
 pub mod CertText
-pub mod Reply
+pub mod Outside
+pub mod RunReply
+pub mod Replies
+pub mod Tells
 pub mod Run

@@ -1,88 +1,105 @@
--- What a run does to the outside.
-use Rattle.std.specs.Prelude.{◌≡◌, ◌⊎◌, ℕ, ◌≤◌, List, [], ◌∷◌, ◌++◌, Option, Some, IfSome, IfOk, IsOkAnd, take, drop, codes}
-use Rattle.book_model.specs.Contents.{Contents}
+-- What a run does.
+use Rattle.std.specs.Prelude.{◌≡◌, ◌⊎◌, ℕ, ◌≤◌, true, List, Option, None, Some, IfSome, IsSomeAnd, IsNone, IsOkAnd, length, take}
 use Rattle.book_model.specs.Sound.{IsReleasable}
 use Rattle.book_text.specs.BookText.{book_of}
-use Rattle.pb_outside.specs.Faults.{Rose}
-use Rattle.pb_outside.specs.Files.{NamedBytes, ReadsFile}
-use Rattle.pb_outside.specs.Sink.{TakesPiece}
+use Rattle.pb_outside.specs.Faults.{Rose, Fails, IsLater}
+use Rattle.pb_outside.specs.Source.{LosesFront}
+use Rattle.pb_outside.specs.Files.{FilesTold}
 use Rattle.partsbook.specs.Words.{command_in}
-use Rattle.partsbook.specs.Reply.{Reply, cert_limit, content_reply, command_reply, reply}
-use Rattle.partsbook.specs.declared.command.Command.{Command}
-use Rattle.partsbook.specs.declared.command.Command.TheVariants.{Order, Verify}
-use Rattle.partsbook.specs.declared.log.Note.{Note}
-use Rattle.partsbook.specs.declared.log.Note.TheVariants.{Count}
+use Rattle.partsbook.specs.Outside.{Inputs, Outside, input_limit, ReadsInput, FailsAtInput}
+use Rattle.partsbook.specs.RunReply.{RunReply, usage_reply, memory_reply, memory_text, read_fault_reply}
+use Rattle.partsbook.specs.Replies.{RepliesTo, FailsAtFile, KeepsFiles, IsValidCommand}
+use Rattle.partsbook.specs.Tells.{IsTold, Tells}
+use Rattle.partsbook.specs.declared.command.BookCommand.{BookCommand}
+use Rattle.partsbook.specs.declared.command.BookCommand.TheVariants.{Verify}
 
--- a book's text has at most 1,048,576 bytes, and one byte more shows that it is too large
-abbrev pub input_limit : ℕ
-input_limit = 1048577
+-- the reply that is due to a command: to what it read, or to a fault of what it reads from; want of memory is free
+pub data Due (command : BookCommand) (before after : Inputs) (reply : RunReply) : Type 0 where
+  answer : (input : List ℕ) → ReadsInput before.source after.source input
+      → RepliesTo command input before.files after.files reply
+      → Due command before after reply
+  source_fault : FailsAtInput before.source after.source → after.files ≡ before.files
+      → reply ≡ read_fault_reply 1 before.source.faults.count after.source.faults.count
+      → Due command before after reply
+  file_fault : (input : List ℕ) → ReadsInput before.source after.source input
+      → FailsAtFile command input before.files after.files
+      → reply ≡ read_fault_reply 2 before.files.faults.count after.files.faults.count
+      → Due command before after reply
+  no_memory : LosesFront input_limit before.source.left after.source.left
+      → reply ≡ memory_reply
+      → Due command before after reply
 
--- the input is all of what the source had, or so much of it, where it tells that
-abbrev pub IsInput : Option (List ℕ) → List ℕ → Type 0
-IsInput left input = IfSome left (λ all. input ≡ take input_limit all)
+-- a command was answered: its reply is due, and was told
+pub record AnswersBook (command : BookCommand) (before after : Outside) (status : ℕ) : Type 0 where
+  pub reply : RunReply
+  pub due : Due command before.reads after.reads reply
+  pub told : Tells reply before.writes after.writes status
+  pub source_later : IsLater before.reads.source.faults after.reads.source.faults
+  pub files_kept : KeepsFiles command before.reads.files after.reads.files
 
--- and the rest is left unread
-abbrev pub LeavesRest : Option (List ℕ) → Option (List ℕ) → Type 0
-LeavesRest left left' = IfSome left (λ all. left' ≡ Some (drop input_limit all))
+-- the words are of no form: nothing was read
+pub record AnswersUsage (before after : Outside) (status : ℕ) : Type 0 where
+  pub told : Tells usage_reply before.writes after.writes status
+  pub untouched : after.reads ≡ before.reads
 
--- the content is that of the file that the command names, where the input is a book and the files are told; a longer
--- file than the limit has none
-abbrev pub CameFrom : Option (List NamedBytes) → List ℕ → Option (List ℕ) → Command → Type 0
-CameFrom files input content (Order day ordered) = Unit {0}
-CameFrom files input content (Verify file) = IfOk (book_of input) (λ b. ReadsFile file cert_limit files content)
+abbrev pub DoesAsked : Option BookCommand → Outside → Outside → ℕ → Type 0
+DoesAsked None = AnswersUsage
+DoesAsked (Some command) = AnswersBook command
 
--- a reply to a command and an input, with these files
-abbrev pub RepliesTo : Command → Option (List NamedBytes) → List ℕ → Reply → Type 0
-RepliesTo command files input r = (content : Option (List ℕ)) × CameFrom files input content command × (r ≡ command_reply input content command)
+-- what the words ask was done
+unfoldable pub Does : List (List ℕ) → Outside → Outside → ℕ → Type 0
+Does words = DoesAsked (command_in words)
 
--- a reply to the content of this file
-abbrev pub RepliesToFile : Contents → List ℕ → Option (List NamedBytes) → Reply → Type 0
-RepliesToFile b file files r = (content : Option (List ℕ)) × ReadsFile file cert_limit files content × (r ≡ content_reply b content)
+-- the text, the notes and the status are those of a reply to the words and to what was read
+pub record GivesReply (words : List (List ℕ)) (before after : Outside) (status : ℕ) : Type 0 where
+  pub command : BookCommand
+  pub input : List ℕ
+  pub reply : RunReply
+  pub asked : command_in words ≡ Some command
+  pub read : ReadsInput before.reads.source after.reads.source input
+  pub replies : RepliesTo command input before.reads.files after.reads.files reply
+  pub told : IsTold reply before.writes after.writes status
+  pub statuses : (status ≤ 1) ⊎ (status ≡ 3) ⊎ (status ≡ 8)
+
+-- the source or the files failed
+abbrev pub FailsToReadFrom : Inputs → Inputs → Type 0
+FailsToReadFrom before after = Fails before.source.faults after.source.faults ⊎ Rose before.files.faults.count after.files.faults.count
+
+-- from what each status comes
+pub data IsCaused (words : List (List ℕ)) (before after : Outside) (status : ℕ) : Type 0 where
+  by_words : status ≡ 2 → IsNone (command_in words) → IsCaused words before after status
+  by_inputs : status ≡ 4 → FailsToReadFrom before.reads after.reads → IsCaused words before after status
+  by_sink : status ≡ 5 → Rose before.writes.sink.faults after.writes.sink.faults → IsCaused words before after status
+  by_memory : status ≡ 9 → IsCaused words before after status
+  by_reply : GivesReply words before after status → IsCaused words before after status
 
 -- where the words ask for the check of a certificate, the input is a book that can be released: on every day of its term
 -- some set of codes is good, and every good set selects one variant at each mandatory position and nowhere two
-abbrev pub ShowsRelease : List (List ℕ) → Option (List ℕ) → Type 0
-ShowsRelease words left = (file : List ℕ) → command_in words ≡ Some (Verify file) → IfSome left (λ all. IsOkAnd (book_of (take input_limit all)) IsReleasable)
+abbrev pub ShowsReleasable : List (List ℕ) → Option (List ℕ) → Type 0
+ShowsReleasable words left = (file : List ℕ) → command_in words ≡ Some (Verify file) → IfSome left (λ all. IsOkAnd (book_of (take input_limit all)) IsReleasable)
 
--- the text was written whole, the status is the reply's, and the log has the notes on which it rests
-pub record Gives (r : Reply) (status : ℕ) (taken taken' : Option (List ℕ)) (log log' : List Note) : Type 0 where
-  pub status_is : status ≡ r.status
-  pub text : TakesPiece r.text taken taken'
-  pub notes : log' ≡ log ++ r.notes
+-- so many bytes are enough for each reply that the command may have, and for the line of want of memory
+pub record FitsReplies (command : BookCommand) (input : List ℕ) (files : FilesTold) (bytes : ℕ) : Type 0 where
+  pub replies : (files' : FilesTold) (reply : RunReply) → RepliesTo command input files files' reply → length reply.text ≤ bytes
+  pub memory : length memory_text ≤ bytes
 
--- the reply of a command to this input
-abbrev pub GivesFor : Command → List ℕ → Option (List NamedBytes) → ℕ → Option (List ℕ) → Option (List ℕ) → List Note → List Note → Type 0
-GivesFor command input files status taken taken' log log' = (content : Option (List ℕ)) × CameFrom files input content command × Gives (command_reply input content command) status taken taken' log log'
+-- the words are a command, and neither the input nor a file has a fault
+pub record IsValid (words : List (List ℕ)) (reads : Inputs) : Type 0 where
+  pub command : BookCommand
+  pub input : List ℕ
+  pub asked : command_in words ≡ Some command
+  pub given : IsSomeAnd reads.source.left (λ all. input ≡ take input_limit all)
+  pub valid : IsValidCommand command input reads.files.files
 
--- the reply of a command to what was read
-abbrev pub GivesReplyTo : Command → Option (List ℕ) → Option (List NamedBytes) → ℕ → Option (List ℕ) → Option (List ℕ) → List Note → List Note → Type 0
-GivesReplyTo command left files status taken taken' log log' = (input : List ℕ) × IsInput left input × GivesFor command input files status taken taken' log log'
+-- no count rose
+pub record IsUnfailing (before after : Outside) : Type 0 where
+  pub source : ¬ Rose before.reads.source.faults.count after.reads.source.faults.count
+  pub files : ¬ Rose before.reads.files.faults.count after.reads.files.faults.count
+  pub sink : ¬ Rose before.writes.sink.faults after.writes.sink.faults
 
--- the reply to the words and to what was read
-abbrev pub GivesReply : List (List ℕ) → Option (List ℕ) → Option (List NamedBytes) → ℕ → Option (List ℕ) → Option (List ℕ) → List Note → List Note → Type 0
-GivesReply words left files status taken taken' log log' = (input : List ℕ) × (content : Option (List ℕ)) × IsInput left input × IfSome (command_in words) (CameFrom files input content) × Gives (reply words input content) status taken taken' log log'
-
-abbrev pub read_fault_text : List ℕ
-read_fault_text = codes "read fault\n"
-
-abbrev pub memory_text : List ℕ
-memory_text = codes "want of memory\n"
-
--- the object of this number failed: the line says so, and the log has its two counts
-pub record TellsReadFault (which before after : ℕ) (taken taken' : Option (List ℕ)) (log log' : List Note) : Type 0 where
-  pub rose : Rose before after
-  pub text : TakesPiece read_fault_text taken taken'
-  pub notes : log' ≡ log ++ Count which before after ∷ []
-
--- the log ends with the two counts of the sink
-abbrev pub EndsWithCounts : ℕ → ℕ → List Note → List Note → Type 0
-EndsWithCounts before after log log' = (notes : List Note) × (log' ≡ log ++ (notes ++ Count 3 before after ∷ []))
-
--- what a status says of the sink, with its counts of faults before and after
-pub record TellsSink (status before after : ℕ) (taken taken' : Option (List ℕ)) (log log' : List Note) : Type 0 where
-  pub write_fault : status ≡ 5 → Rose before after
-  pub write_note : status ≡ 5 → EndsWithCounts before after log log'
-  -- the line of want of memory was written, unless the sink failed too
-  pub memory : status ≡ 9 → TakesPiece memory_text taken taken' ⊎ Rose before after
-  pub statuses : (status ≤ 5) ⊎ (status ≡ 8) ⊎ (status ≡ 9)
-  pub never_falls : before ≤ after
+-- no call on the source or the files fails from here on, and the sink is sure to take what is due
+pub record IsSure (words : List (List ℕ)) (before : Outside) : Type 0 where
+  pub valid : IsValid words before.reads
+  pub source : before.reads.source.faults.faultless ≡ true
+  pub files : before.reads.files.faults.faultless ≡ true
+  pub room : IsSomeAnd before.writes.sink.room (FitsReplies valid.command valid.input before.reads.files)

@@ -7,8 +7,8 @@ use Rattle.std.specs.List.{list_all}
 use Rattle.std.specs.declared.alloc.Global.{Global}
 use Rattle.pb_base.specs.Names.{same_name, is_code_name}
 use Rattle.pb_base.specs.Digits.{number_of}
-use Rattle.partsbook.specs.declared.command.Command.{Command}
-use Rattle.partsbook.specs.declared.command.Command.TheVariants.{Order, Verify}
+use Rattle.partsbook.specs.declared.command.BookCommand.{BookCommand}
+use Rattle.partsbook.specs.declared.command.BookCommand.TheVariants.{Order, Verify}
 
 -- the bytes of some words
 abbrev pub texts_of : List (String Global) → List (List ℕ)
@@ -18,7 +18,7 @@ abbrev pub codes_in : List (List ℕ) → Option (List (List ℕ))
 codes_in texts = if list_all is_code_name texts then Some texts else None
 
 -- a day is 1 to 5 digits
-abbrev pub order_in : List (List ℕ) → Option Command
+abbrev pub order_in : List (List ℕ) → Option BookCommand
 order_in [] = None
 order_in (day ∷ names) = option_and_then (λ on. option_map (λ ordered. Order on ordered) (codes_in names)) (number_of day)
 
@@ -27,12 +27,12 @@ abbrev pub is_file_name : List ℕ → Bool
 is_file_name [] = true
 is_file_name (b ∷ bs) = not (b == 45)
 
-abbrev pub verify_in : List (List ℕ) → Option Command
+abbrev pub verify_in : List (List ℕ) → Option BookCommand
 verify_in [] = None
 verify_in (file ∷ []) = if is_file_name file then Some (Verify file) else None
 verify_in (file ∷ word ∷ words) = None
 
 -- the command that the words ask for, or none where they are of no form
-unfoldable pub command_in : List (List ℕ) → Option Command
+unfoldable pub command_in : List (List ℕ) → Option BookCommand
 command_in [] = None
 command_in (name ∷ words) = if same_name name (codes "order") then order_in words else (if same_name name (codes "verify") then verify_in words else None)

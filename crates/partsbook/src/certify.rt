@@ -1,18 +1,17 @@
 //! Checks a certificate against the text of a book.
-ghost use Rattle.std.specs.Prelude.{◌≡◌, ◌≤◌, IfOk};
+ghost use Rattle.std.specs.Prelude.{◌≡◌, IfOk};
 ghost use Rattle.std.specs.Option.{option_map};
 ghost use Rattle.book_text.specs.BookText.{book_of};
 ghost use Rattle.derivation.specs.Certificate.{cert_answer};
-ghost use Rattle.pb_outside.specs.Faults.{Rose};
-ghost use Rattle.partsbook.specs.Reply.{IsAnswerStatus, cert_fault_reply, certified_reply, content_reply};
-ghost use Rattle.partsbook.specs.Run.{RepliesTo, RepliesToFile};
+ghost use Rattle.pb_outside.specs.Files.{FailsToRead};
+ghost use Rattle.partsbook.specs.RunReply.{cert_fault_reply, certified_reply, content_reply};
+ghost use Rattle.partsbook.specs.Replies.{RepliesToFile, RepliesToVerify, FailsAtCertificate, ReadsFiles};
 
 use crate::cert_text::{cert_fault_text, verified_text};
-use crate::command::Command;
 use crate::file_name::FileName;
 use crate::judge::book_fault_reply;
 use crate::log::Note;
-use crate::reply::Reply;
+use crate::run_reply::RunReply;
 use book_model::Book;
 use book_text::read_book;
 use derivation::{CertFault, CertKind, check_cert};
@@ -30,12 +29,13 @@ pub fn verify_reply<F: Files>(
     text: &[u8],
     file: &FileName,
     files: &mut F,
-) -> Result<Reply, OutError>
-    ensures reply { IfOk result (RepliesTo (Command.Verify file.now) (F.files files.old) text.now) }
-    ensures status { IfOk result (λ reply. IsAnswerStatus reply.status) }
-    ensures cause { result ≡ Err OutError.Failed → Rose (F.fault_count files.old) (F.fault_count files.new) }
-    ensures kept { F.files files.new ≡ F.files files.old }
-    ensures never_falls { F.fault_count files.old ≤ F.fault_count files.new }
+) -> Result<RunReply, OutError>
+    ensures reply { IfOk result (RepliesToVerify (book_of text.now) file.now (F.told files.old) (F.told files.new)) }
+    ensures cause {
+        let fails = FailsAtCertificate file.now text.now (F.told files.old) (F.told files.new) in
+        result ≡ Err OutError.Failed → fails
+    }
+    ensures kept { ReadsFiles (F.told files.old) (F.told files.new) }
 {
     match read_book(alloc, text) {
         Ok(book) => file_reply(alloc, &book, file, files),
@@ -49,12 +49,10 @@ fn file_reply<F: Files>(
     book: &Book,
     file: &FileName,
     files: &mut F,
-) -> Result<Reply, OutError>
-    ensures reply { IfOk result (RepliesToFile book.now file.now (F.files files.old)) }
-    ensures status { IfOk result (λ reply. IsAnswerStatus reply.status) }
-    ensures cause { result ≡ Err OutError.Failed → Rose (F.fault_count files.old) (F.fault_count files.new) }
-    ensures kept { F.files files.new ≡ F.files files.old }
-    ensures never_falls { F.fault_count files.old ≤ F.fault_count files.new }
+) -> Result<RunReply, OutError>
+    ensures reply { IfOk result (RepliesToFile book.now file.now (F.told files.old) (F.told files.new)) }
+    ensures cause { result ≡ Err OutError.Failed → FailsToRead file.now (F.told files.old) (F.told files.new) }
+    ensures kept { ReadsFiles (F.told files.old) (F.told files.new) }
 {
     match files.read(alloc, file.as_str(), CERT_LIMIT) {
         Ok(content) => Ok(content_reply(alloc, book, content)?),
@@ -62,9 +60,8 @@ fn file_reply<F: Files>(
     }
 }
 
-fn content_reply(alloc: Global, book: &Book, content: Option<Vec<u8>>) -> Result<Reply, Memory>
-    ensures reply { IfOk result (λ reply. reply ≡ content_reply book.now (option_map (λ bytes. bytes.items) content)) }
-    ensures status { IfOk result (λ reply. IsAnswerStatus reply.status) }
+fn content_reply(alloc: Global, book: &Book, content: Option<Vec<u8>>) -> Result<RunReply, Memory>
+    ensures { IfOk result (λ reply. reply ≡ content_reply book.now (option_map (λ bytes. bytes.items) content)) }
 {
     match content {
         Some(text) => certified_reply(alloc, book, &text),
@@ -78,20 +75,22 @@ fn content_reply(alloc: Global, book: &Book, content: Option<Vec<u8>>) -> Result
     }
 }
 
-fn certified_reply(alloc: Global, book: &Book, text: &[u8]) -> Result<Reply, Memory>
-    ensures reply { IfOk result (λ reply. reply ≡ certified_reply book.now (cert_answer book.now text.now)) }
-    ensures status { IfOk result (λ reply. IsAnswerStatus reply.status) }
+fn certified_reply(alloc: Global, book: &Book, text: &[u8]) -> Result<RunReply, Memory>
+    ensures { IfOk result (λ reply. reply ≡ certified_reply book.now (cert_answer book.now text.now)) }
 {
     match check_cert(alloc, book, text) {
-        Ok(certified) => Ok(Reply::new(verified_text(alloc, book, certified)?, 0, None)),
+        Ok(certified) => {
+            let text = verified_text(alloc, book, certified)?;
+            Ok(RunReply::plain(alloc, text, 0))
+        }
         Err(Fail::Refused(fault)) => cert_fault_reply(alloc, fault),
         Err(Fail::Memory) => Err(Memory),
     }
 }
 
-fn cert_fault_reply(alloc: Global, fault: CertFault) -> Result<Reply, Memory>
+fn cert_fault_reply(alloc: Global, fault: CertFault) -> Result<RunReply, Memory>
     ensures { IfOk result (λ reply. reply ≡ cert_fault_reply fault) }
 {
     let text = cert_fault_text(alloc, &fault)?;
-    Ok(Reply::new(text, 8, Some(Note::Cert(fault))))
+    RunReply::noted(alloc, text, 8, Note::Cert(fault))
 }

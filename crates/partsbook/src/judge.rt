@@ -1,14 +1,15 @@
 //! Judges an order against the text of a book.
-ghost use Rattle.std.specs.Prelude.{◌≡◌, ◌≤◌, IfOk};
+ghost use Rattle.std.specs.Prelude.{◌≡◌, IfOk};
 ghost use Rattle.std.specs.Option.{option_to_list};
 ghost use Rattle.book_text.specs.BookText.{book_of};
 ghost use Rattle.parts_usage.specs.Outcome.{outcome_of};
-ghost use Rattle.partsbook.specs.Reply.{book_fault_reply, order_fault_reply, outcome_status, outcome_notes, outcome_reply, judged_reply, order_reply, IsAnswerStatus};
+ghost use Rattle.partsbook.specs.RunReply.{book_fault_reply, order_fault_reply, outcome_status, outcome_notes};
+ghost use Rattle.partsbook.specs.RunReply.{outcome_reply, judged_reply, order_reply};
 
 use crate::fault_text::{book_fault_text, order_fault_text};
 use crate::log::Note;
 use crate::outcome_text::outcome_text;
-use crate::reply::Reply;
+use crate::run_reply::RunReply;
 use book_model::Book;
 use book_text::{BookFault, read_book};
 use parts_usage::{OrderFault, Outcome, outcome};
@@ -16,9 +17,8 @@ use pb_base::{CodeList, CodeName, Day, Fail, Memory};
 use std::alloc::Global;
 
 /// What the order of these codes on this day comes to against the book of the text.
-pub fn order_reply(alloc: Global, text: &[u8], day: Day, codes: &CodeList) -> Result<Reply, Memory>
-    ensures reply { IfOk result (λ reply. reply ≡ order_reply (book_of text.now) day codes.now) }
-    ensures status { IfOk result (λ reply. IsAnswerStatus reply.status) }
+pub fn order_reply(alloc: Global, text: &[u8], day: Day, codes: &CodeList) -> Result<RunReply, Memory>
+    ensures { IfOk result (λ reply. reply ≡ order_reply (book_of text.now) day codes.now) }
 {
     match read_book(alloc, text) {
         Ok(book) => judged_reply(alloc, &book, day, codes.names()),
@@ -27,9 +27,8 @@ pub fn order_reply(alloc: Global, text: &[u8], day: Day, codes: &CodeList) -> Re
     }
 }
 
-fn judged_reply(alloc: Global, book: &Book, day: Day, codes: &[CodeName]) -> Result<Reply, Memory>
-    ensures reply { IfOk result (λ reply. reply ≡ judged_reply book.now (outcome_of book.now day codes.now)) }
-    ensures status { IfOk result (λ reply. IsAnswerStatus reply.status) }
+fn judged_reply(alloc: Global, book: &Book, day: Day, codes: &[CodeName]) -> Result<RunReply, Memory>
+    ensures { IfOk result (λ reply. reply ≡ judged_reply book.now (outcome_of book.now day codes.now)) }
 {
     match outcome(alloc, book, day, codes) {
         Ok(judged) => outcome_reply(alloc, book, &judged),
@@ -38,17 +37,19 @@ fn judged_reply(alloc: Global, book: &Book, day: Day, codes: &[CodeName]) -> Res
     }
 }
 
-fn outcome_reply(alloc: Global, book: &Book, outcome: &Outcome) -> Result<Reply, Memory>
-    ensures reply { IfOk result (λ reply. reply ≡ outcome_reply book.now outcome.now) }
-    ensures status { IfOk result (λ reply. IsAnswerStatus reply.status) }
+fn outcome_reply(alloc: Global, book: &Book, outcome: &Outcome) -> Result<RunReply, Memory>
+    ensures { IfOk result (λ reply. reply ≡ outcome_reply book.now outcome.now) }
 {
     let text = outcome_text(alloc, book, outcome)?;
-    Ok(Reply::new(text, outcome_status(outcome), outcome_note(outcome)))
+    let status = outcome_status(outcome);
+    match outcome_note(outcome) {
+        Some(note) => RunReply::noted(alloc, text, status, note),
+        None => Ok(RunReply::plain(alloc, text, status)),
+    }
 }
 
 fn outcome_status(outcome: &Outcome) -> u8
-    ensures value { result ≡ outcome_status outcome.now }
-    ensures small { result ≤ 1 }
+    ensures { result ≡ outcome_status outcome.now }
 {
     match outcome {
         Outcome::Accepted { .. } => 0,
@@ -71,16 +72,16 @@ fn outcome_note(outcome: &Outcome) -> Option<Note>
 }
 
 /// `book fault ..`, with the fault as a note.
-pub fn book_fault_reply(alloc: Global, fault: BookFault) -> Result<Reply, Memory>
+pub fn book_fault_reply(alloc: Global, fault: BookFault) -> Result<RunReply, Memory>
     ensures { IfOk result (λ reply. reply ≡ book_fault_reply fault) }
 {
     let text = book_fault_text(alloc, &fault)?;
-    Ok(Reply::new(text, 3, Some(Note::Text(fault))))
+    RunReply::noted(alloc, text, 3, Note::Text(fault))
 }
 
-fn order_fault_reply(alloc: Global, fault: OrderFault) -> Result<Reply, Memory>
+fn order_fault_reply(alloc: Global, fault: OrderFault) -> Result<RunReply, Memory>
     ensures { IfOk result (λ reply. reply ≡ order_fault_reply fault) }
 {
     let text = order_fault_text(alloc, &fault)?;
-    Ok(Reply::new(text, 3, Some(Note::Order(fault))))
+    RunReply::noted(alloc, text, 3, Note::Order(fault))
 }

@@ -9,7 +9,7 @@ use std::alloc::Global;
 use std::marker::Model;
 
 /// One thing that a status rests on. Places count from 0.
-#[derive(Clone, Copy, Debug, PartialEq, Eq)]
+#[derive(Debug, Drop, PartialEq, Eq)]
 pub enum Note {
     /// The text of the book has this fault.
     Text(BookFault),
@@ -56,6 +56,16 @@ impl RunLog {
         ensures err { OnErr result (self.new ≡ self.old) }
     {
         self.notes.push(note)?;
+        Ok(())
+    }
+
+    /// Moves notes behind the others. On want of memory the log is as before.
+    pub fn append(&mut self, notes: Vec<Note>) -> Result<(), Memory>
+        ensures ok { OnOk result (self.new ≡ self.old ++ notes.items) }
+        ensures err { OnErr result (self.new ≡ self.old) }
+    {
+        let mut notes = notes;
+        self.notes.append(&mut notes)?;
         Ok(())
     }
 

@@ -4,20 +4,21 @@
 mod cert_text;
 mod certify;
 mod command;
-mod deliver;
+mod due;
 mod fault_text;
 mod file_name;
 mod judge;
 mod log;
 mod outcome_text;
-mod reply;
 mod run;
+mod run_reply;
 #[cfg(test)]
 mod tests;
+mod tell;
 mod text;
 mod words;
 
-use crate::deliver::{tell_usage, tell_want_of_memory};
+use crate::tell::{tell_usage, tell_want_of_memory};
 use crate::log::RunLog;
 use crate::run::run;
 use pb_outside::{StreamSink, StreamSource, SystemFiles};

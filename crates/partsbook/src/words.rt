@@ -2,14 +2,14 @@
 ghost use Rattle.std.specs.Prelude.{◌≡◌, IfOk};
 ghost use Rattle.partsbook.specs.Words.{texts_of, codes_in, order_in, is_file_name, verify_in, command_in};
 
-use crate::command::Command;
+use crate::command::BookCommand;
 use crate::file_name::FileName;
 use pb_base::{CodeList, CodeName, Memory, number_of};
 use std::alloc::Global;
 
 /// The command that the words ask for, or None where they are of no form.
 #[tactic(auto, unfolding(crate::specs::Words::command_in))]
-pub fn command_in(alloc: Global, words: &[String]) -> Result<Option<Command>, Memory>
+pub fn command_in(alloc: Global, words: &[String]) -> Result<Option<BookCommand>, Memory>
     ensures { IfOk result (λ command. command ≡ command_in (texts_of words.now)) }
 {
     let Some((name, rest)) = words.split_first() else {
@@ -24,7 +24,7 @@ pub fn command_in(alloc: Global, words: &[String]) -> Result<Option<Command>, Me
     }
 }
 
-fn order_in(alloc: Global, words: &[String]) -> Result<Option<Command>, Memory>
+fn order_in(alloc: Global, words: &[String]) -> Result<Option<BookCommand>, Memory>
     ensures { IfOk result (λ command. command ≡ order_in (texts_of words.now)) }
 {
     let Some((day, names)) = words.split_first() else {
@@ -34,7 +34,7 @@ fn order_in(alloc: Global, words: &[String]) -> Result<Option<Command>, Memory>
         return Ok(None);
     };
     match codes_in(alloc, names)? {
-        Some(codes) => Ok(Some(Command::Order { day, codes })),
+        Some(codes) => Ok(Some(BookCommand::Order { day, codes })),
         None => Ok(None),
     }
 }
@@ -52,7 +52,7 @@ fn codes_in(alloc: Global, words: &[String]) -> Result<Option<CodeList>, Memory>
     Ok(Some(codes))
 }
 
-fn verify_in(alloc: Global, words: &[String]) -> Result<Option<Command>, Memory>
+fn verify_in(alloc: Global, words: &[String]) -> Result<Option<BookCommand>, Memory>
     ensures { IfOk result (λ command. command ≡ verify_in (texts_of words.now)) }
 {
     let Some((name, further)) = words.split_first() else {
@@ -62,7 +62,7 @@ fn verify_in(alloc: Global, words: &[String]) -> Result<Option<Command>, Memory>
         return Ok(None);
     }
     let file = FileName::of(alloc, name.as_str())?;
-    Ok(Some(Command::Verify { file }))
+    Ok(Some(BookCommand::Verify { file }))
 }
 
 // A word that begins with `-` is an option, and there is none.

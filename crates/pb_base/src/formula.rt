@@ -1,7 +1,7 @@
 //! Formulas over the codes of a book.
 ghost use Rattle.std.specs.Prelude.{◌≡◌, ◌+◌, ◌++◌, ◌∷◌, [], replicate, IsTrue, IfOk, OnOk, length};
 ghost use Rattle.pb_base.specs.Rule.{code, negation, both, either, always, never, holds, codes_below, negated};
-ghost use Rattle.pb_base.specs.Node.{nodes_of, rule_of_leaf, leaf_node};
+ghost use Rattle.pb_base.specs.Node.{nodes_of, rule_of, rule_of_leaf, leaf_node};
 ghost use Rattle.pb_base.specs.Shape.{rule_of_shape};
 ghost use Rattle.pb_base.specs.declared.node.Node.TheVariants.{Not};
 
@@ -134,6 +134,14 @@ impl Formula {
         push_leaf(&mut self.nodes, leaf, signs)?;
         self.nodes.push(Node::Or(size))?;
         Ok(self)
+    }
+
+    /// The formula of a list of nodes that is the list of some formula. It is kept as it is.
+    pub fn of_nodes(nodes: Vec<Node>) -> Formula
+        requires { nodes.items ≡ nodes_of (rule_of nodes.items) }
+        ensures { result ≡ rule_of nodes.items }
+    {
+        Formula { nodes }
     }
 
     /// The list that the formula is kept as: each connective behind its two sides, with a jump between them.

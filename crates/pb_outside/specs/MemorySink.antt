@@ -1,12 +1,17 @@
 -- A sink in memory.
-use Rattle.std.specs.Prelude.{ℕ, ◌-◌, List, ◌++◌, length, Bool, nat_lt, ◌||◌, if◌then◌else◌}
-use Rattle.pb_outside.specs.FaultPlan.{Plan, is_to_fail, after_call, with_fault}
+use Rattle.std.specs.Prelude.{ℕ, ◌-◌, List, ◌++◌, Option, None, Some, length, Bool, nat_lt, ◌||◌, if◌then◌else◌}
+use Rattle.pb_outside.specs.FaultPlan.{Plan, is_to_fail, is_over, after_call, with_fault}
+use Rattle.pb_outside.specs.Sink.{SinkTold}
 
 -- what was taken, the room that is left, and the calls that are to fail
 pub record Writes : Type 0 where
   pub taken : List ℕ
   pub room : ℕ
   pub plan : Plan
+
+-- what it tells; its room is sure while no call is to fail
+abbrev pub told_by : Writes → SinkTold
+told_by w = record { taken = Some w.taken; room = if is_over w.plan then Some w.room else None; faults = w.plan.faults }
 
 -- the next call fails: it is to fail, or the piece is longer than the room
 abbrev pub refuses : Writes → List ℕ → Bool

@@ -1,5 +1,15 @@
--- What a read gives of the bytes that are left.
-use Rattle.std.specs.Prelude.{◌≡◌, ℕ, ◌+◌, ◌≤◌, List, [], ◌++◌, Option, Some, IfSome, length, take, drop}
+-- What a source tells, and what a read gives of the bytes that are left.
+use Rattle.std.specs.Prelude.{◌≡◌, ℕ, ◌+◌, ◌≤◌, List, [], ◌++◌, Option, None, Some, IfSome, false, length, take, drop}
+use Rattle.pb_outside.specs.Faults.{Faults}
+
+-- the bytes that reads will give from here on, where the source tells them, and its faults
+pub record SourceTold : Type 0 where
+  pub left : Option (List ℕ)
+  pub faults : Faults
+
+-- of an object that is no source
+abbrev pub no_input : SourceTold
+no_input = record { left = None; faults = record { count = 0; faultless = false } }
 
 -- some bytes, so many, were appended
 pub record Appends (count : ℕ) (into into' : List ℕ) : Type 0 where
@@ -20,3 +30,7 @@ ReadsPiece count left left' into into' = IfSome left (λ bytes. GivesNext count 
 -- all of what is left was given, or as much of it as the limit allows, and the rest is left
 abbrev pub ReadsUpTo : ℕ → Option (List ℕ) → Option (List ℕ) → List ℕ → Type 0
 ReadsUpTo limit left left' bytes = IfSome left (λ all. (bytes ≡ take limit all) × (left' ≡ Some (drop limit all)))
+
+-- only a front of what was left is gone, which is no longer than the limit
+abbrev pub LosesFront : ℕ → Option (List ℕ) → Option (List ℕ) → Type 0
+LosesFront limit left left' = IfSome left (λ all. (count : ℕ) × (count ≤ limit) × (left' ≡ Some (drop count all)))

@@ -2,6 +2,7 @@
 ghost use Rattle.std.specs.Prelude.{◌≡◌, ◌≤◌};
 ghost use Rattle.pb_outside.specs.Faults.{Rose, raised};
 
+use crate::OutError;
 use std::marker::Model;
 
 /// A count of faults. It never falls, and stays at the last value of 64 bits once it is there.
@@ -39,5 +40,15 @@ impl FaultCount {
         ensures never_falls { self.old ≤ self.new }
     {
         self.faults = self.faults.saturating_add(1);
+    }
+
+    /// Counts one fault more, and answers that a call failed.
+    pub fn fail<T>(&mut self) -> Result<T, OutError>
+        ensures failed { result ≡ Err OutError.Failed }
+        ensures rose { Rose self.old self.new }
+        ensures never_falls { self.old ≤ self.new }
+    {
+        self.raise();
+        Err(OutError::Failed)
     }
 }

@@ -1,7 +1,8 @@
 //! Which calls of an object in memory are to fail.
-ghost use Rattle.std.specs.Prelude.{◌≡◌, ◌==◌, ◌≤◌};
+ghost use Rattle.std.specs.Prelude.{◌≡◌, ◌==◌, true, false};
 ghost use Rattle.std.specs.List.{list_any};
-ghost use Rattle.pb_outside.specs.FaultPlan.{is_to_fail, after_call, with_fault};
+ghost use Rattle.pb_outside.specs.Faults.{IsLater};
+ghost use Rattle.pb_outside.specs.FaultPlan.{is_to_fail, is_over, faults_of, after_call, with_fault};
 
 use crate::FaultCount;
 use std::marker::Model;
@@ -59,7 +60,8 @@ impl FaultPlan {
     pub fn begin_call(&mut self) -> bool
         ensures fails { result ≡ is_to_fail self.old }
         ensures after { self.new ≡ after_call self.old }
-        ensures never_falls { self.old.faults ≤ self.new.faults }
+        ensures possible { result ≡ true → is_over self.old ≡ false }
+        ensures later { IsLater (faults_of self.old) (faults_of self.new) }
     {
         let fails = is_among(&self.fails, self.next_call);
         self.next_call = self.next_call.saturating_add(1);
@@ -72,7 +74,7 @@ impl FaultPlan {
     /// Counts a fault that was not planned.
     pub fn count_fault(&mut self)
         ensures after { self.new ≡ with_fault self.old }
-        ensures never_falls { self.old.faults ≤ self.new.faults }
+        ensures later { IsLater (faults_of self.old) (faults_of self.new) }
     {
         self.faults.raise();
     }

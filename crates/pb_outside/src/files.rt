@@ -1,8 +1,8 @@
 //! Files that are read whole, by name.
-ghost use Rattle.std.specs.Prelude.{◌≡◌, ◌≤◌, List, ℕ, Option, IfOk};
+ghost use Rattle.std.specs.Prelude.{◌≡◌, IfOk, OnOk};
 ghost use Rattle.std.specs.Option.{option_map};
-ghost use Rattle.pb_outside.specs.Faults.{Rose};
-ghost use Rattle.pb_outside.specs.Files.{NamedBytes, content_of, ReadsFile};
+ghost use Rattle.pb_outside.specs.Faults.{IsLater};
+ghost use Rattle.pb_outside.specs.Files.{FilesTold, ReadsFile, FailsToRead};
 
 use crate::{FaultCount, OutError, StreamSource, read_up_to};
 use std::alloc::Global;
@@ -10,21 +10,23 @@ use std::{fs, rt};
 
 /// Files that are read whole.
 pub trait Files {
-    /// The files, where the object tells them.
-    ghost files: { Self → Option (List NamedBytes) };
-
-    ghost fault_count: { Self → ℕ };
+    /// The files, and the faults so far.
+    ghost told: { Self → FilesTold };
 
     /// The content of a file, or None where it is longer than `max` bytes. A missing file is a fault.
     fn read(&mut self, alloc: Global, name: &str, max: usize) -> Result<Option<Vec<u8>>, OutError>
-        ensures told { IfOk result (λ content. ReadsFile name.now max (files self.old) (option_map (λ bytes. bytes.items) content)) }
-        ensures kept { files self.new ≡ files self.old }
-        ensures cause { result ≡ Err OutError.Failed → Rose (fault_count self.old) (fault_count self.new) }
-        ensures never_falls { fault_count self.old ≤ fault_count self.new };
+        ensures content {
+            let content = option_map (λ bytes. bytes.items) in
+            IfOk result (λ found. ReadsFile name.now max (told self.old).files (content found))
+        }
+        ensures stays { OnOk result ((told self.new).faults.count ≡ (told self.old).faults.count) }
+        ensures cause { result ≡ Err OutError.Failed → FailsToRead name.now (told self.old) (told self.new) }
+        ensures kept { (told self.new).files ≡ (told self.old).files }
+        ensures later { IsLater (told self.old).faults (told self.new).faults };
 
     /// How often a call has failed so far.
     fn faults(&self) -> u64
-        ensures { result ≡ fault_count self.now };
+        ensures { result ≡ (told self.now).faults.count };
 }
 
 /// The files of the system. It tells no content.
@@ -37,7 +39,7 @@ pub struct SystemFiles<'a, R: rt::Files> {
 impl<'a, R: rt::Files> SystemFiles<'a, R> {
     /// No fault so far.
     pub fn new(system: &'a R) -> SystemFiles<'a, R>
-        ensures { ⟦<SystemFiles<'a, R> as Files>⟧.fault_count result ≡ 0 }
+        ensures { (⟦<SystemFiles<'a, R> as Files>⟧.told result).faults.count ≡ 0 }
     {
         SystemFiles {
             system,
@@ -47,18 +49,13 @@ impl<'a, R: rt::Files> SystemFiles<'a, R> {
 }
 
 impl<R: rt::Files> Files for SystemFiles<'_, R> {
-    ghost use Rattle.std.specs.Prelude.{None};
+    ghost use Rattle.std.specs.Prelude.{None, false};
 
-    ghost files = { λ _. None };
-
-    ghost fault_count = { λ s. s.faults };
+    ghost told = { λ s. record { files = None; faults = record { count = s.faults; faultless = false } } };
 
     fn read(&mut self, alloc: Global, name: &str, max: usize) -> Result<Option<Vec<u8>>, OutError> {
         match read_file(alloc, self.system, name, max) {
-            Err(OutError::Failed) => {
-                self.faults.raise();
-                Err(OutError::Failed)
-            }
+            Err(OutError::Failed) => self.faults.fail(),
             answer => answer,
         }
     }

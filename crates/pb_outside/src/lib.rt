@@ -1,6 +1,7 @@
 //! What lies outside a program: bytes that come in, bytes that go out, and files. Each is a trait with a count of faults, and an answer `Failed` comes only where the count rose. The objects in memory tell all their content, and the adapters over the system tell none.
 #![tactic(auto)]
 
+mod ends;
 mod error;
 mod fault_count;
 mod fault_plan;
@@ -14,6 +15,7 @@ mod source;
 mod streams;
 mod whole;
 
+pub use ends::Ends;
 pub use error::OutError;
 pub use fault_count::FaultCount;
 pub use fault_plan::FaultPlan;

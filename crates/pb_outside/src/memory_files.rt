@@ -1,9 +1,10 @@
 //! Files in memory.
-ghost use Rattle.std.specs.Prelude.{◌≡◌, ◌≤◌, ◌↔◌, IsTrue, Some, IfOk};
+ghost use Rattle.std.specs.Prelude.{◌≡◌, ◌↔◌, IsTrue, Some, IfOk, OnOk};
 ghost use Rattle.std.specs.Option.{option_map};
-ghost use Rattle.pb_outside.specs.Faults.{Rose};
-ghost use Rattle.pb_outside.specs.Files.{ReadsFile};
-ghost use Rattle.pb_outside.specs.MemoryFiles.{refuses, after_call_for};
+ghost use Rattle.pb_outside.specs.Faults.{IsLater};
+ghost use Rattle.pb_outside.specs.FaultPlan.{faults_of};
+ghost use Rattle.pb_outside.specs.Files.{ReadsFile, FailsToRead};
+ghost use Rattle.pb_outside.specs.MemoryFiles.{told_by, refuses, after_call_for};
 
 use crate::{FaultPlan, Files, NamedFile, OutError};
 use std::alloc::Global;
@@ -42,15 +43,17 @@ impl MemoryFiles {
 }
 
 impl Files for MemoryFiles {
-    ghost files = { λ f. Some f.files };
-
-    ghost fault_count = { λ f. f.plan.faults };
+    ghost told = { told_by };
 
     fn read(&mut self, alloc: Global, name: &str, max: usize) -> Result<Option<Vec<u8>>, OutError>
-        ensures told { IfOk result (λ content. ReadsFile name.now max (Some self.old.files) (option_map (λ bytes. bytes.items) content)) }
+        ensures content {
+            let content = option_map (λ bytes. bytes.items) in
+            IfOk result (λ found. ReadsFile name.now max (Some self.old.files) (content found))
+        }
+        ensures stays { OnOk result (self.new.plan.faults ≡ self.old.plan.faults) }
+        ensures cause { result ≡ Err OutError.Failed → FailsToRead name.now (told_by self.old) (told_by self.new) }
         ensures kept { self.new.files ≡ self.old.files }
-        ensures cause { result ≡ Err OutError.Failed → Rose self.old.plan.faults self.new.plan.faults }
-        ensures never_falls { self.old.plan.faults ≤ self.new.plan.faults }
+        ensures later { IsLater (faults_of self.old.plan) (faults_of self.new.plan) }
 
         // Exactly the calls that are to fail, and those for a file that is not there, do so.
         ensures fails { (result ≡ Err OutError.Failed) ↔ IsTrue (refuses self.old name.now) }

@@ -1,10 +1,9 @@
 //! A sink in memory.
-ghost use Rattle.std.specs.Prelude.{◌≡◌, ◌≢◌, ◌≤◌, ◌↔◌, [], IsTrue, Some, IfOk, OnOk, OnErr};
-ghost use Rattle.pb_outside.specs.Faults.{Rose};
-ghost use Rattle.pb_outside.specs.MemorySink.{refuses, after_write, after_refusal};
-ghost use Rattle.pb_outside.specs.Sink.{TakesPiece, TakesFront};
+ghost use Rattle.std.specs.Prelude.{◌≡◌, ◌≢◌, ◌↔◌, [], IsTrue, IfOk, OnOk, OnErr};
+ghost use Rattle.pb_outside.specs.MemorySink.{told_by, refuses, after_write, after_refusal};
+ghost use Rattle.pb_outside.specs.Sink.{Takes, Refuses};
 
-use crate::{FaultPlan, OutError, Sink};
+use crate::{Ends, FaultPlan, OutError, Sink};
 use pb_base::Memory;
 use std::alloc::Global;
 use std::marker::Model;
@@ -50,17 +49,21 @@ impl MemorySink {
     }
 }
 
+impl Ends for MemorySink {
+    ghost use Rattle.pb_outside.specs.Source.{no_input};
+
+    ghost input = { λ _. no_input };
+
+    ghost output = { told_by };
+
+    ghost names = { λ _. [] };
+}
+
 impl Sink for MemorySink {
-    ghost taken = { λ s. Some s.taken };
-
-    ghost write_fault_count = { λ s. s.plan.faults };
-
     fn write(&mut self, piece: &[u8]) -> Result<(), OutError>
-        ensures whole { OnOk result (TakesPiece piece.now (Some self.old.taken) (Some self.new.taken)) }
-        ensures front { OnErr result (TakesFront piece.now (Some self.old.taken) (Some self.new.taken)) }
+        ensures whole { OnOk result (Takes piece.now (told_by self.old) (told_by self.new)) }
+        ensures cause { OnErr result (Refuses piece.now (told_by self.old) (told_by self.new)) }
         ensures no_memory { result ≢ Err OutError.Memory }
-        ensures cause { result ≡ Err OutError.Failed → Rose self.old.plan.faults self.new.plan.faults }
-        ensures never_falls { self.old.plan.faults ≤ self.new.plan.faults }
 
         // Exactly the calls that are to fail, and pieces longer than the room, are refused.
         ensures fails { (result ≡ Err OutError.Failed) ↔ IsTrue (refuses self.old piece.now) }

@@ -1,11 +1,12 @@
 //! A source in memory.
-ghost use Rattle.std.specs.Prelude.{◌≡◌, ◌≤◌, ◌↔◌, IsTrue, Some, IfOk, OnErr};
-ghost use Rattle.pb_outside.specs.Faults.{Rose};
-ghost use Rattle.pb_outside.specs.FaultPlan.{is_to_fail, after_call};
-ghost use Rattle.pb_outside.specs.MemorySource.{next_count, piece_limit};
+ghost use Rattle.std.specs.Prelude.{◌≡◌, ◌≤◌, ◌↔◌, [], IsTrue, Some, IfOk, OnOk, OnErr};
+ghost use Rattle.std.specs.Io.KnownBytes.{Keeps};
+ghost use Rattle.pb_outside.specs.Faults.{Fails, IsLater};
+ghost use Rattle.pb_outside.specs.FaultPlan.{is_to_fail, faults_of, after_call};
+ghost use Rattle.pb_outside.specs.MemorySource.{told_by, next_count, piece_limit};
 ghost use Rattle.pb_outside.specs.Source.{Appends, ReadsPiece};
 
-use crate::{FaultPlan, OutError, Source};
+use crate::{Ends, FaultPlan, OutError, Source};
 use std::marker::Model;
 
 /// Bytes in memory, given in pieces of chosen lengths, with chosen calls that fail. It tells all.
@@ -57,20 +58,31 @@ fn limit_of_call(pieces: &[usize], call: u64, most: usize) -> usize
     }
 }
 
+impl Ends for MemorySource {
+    ghost use Rattle.pb_outside.specs.Sink.{no_output};
+
+    ghost input = { told_by };
+
+    ghost output = { λ _. no_output };
+
+    ghost names = { λ _. [] };
+}
+
 impl Source for MemorySource {
-    ghost left = { λ s. Some s.left };
-
-    ghost read_fault_count = { λ s. s.plan.faults };
-
     fn read(&mut self, into: &mut Vec<u8>, max: usize) -> Result<usize, OutError>
         requires { 1 ≤ max }
         ensures at_most { IfOk result (λ count. count ≤ max) }
         ensures appends { IfOk result (λ count. Appends count into.old.items into.new.items) }
-        ensures told { IfOk result (λ count. ReadsPiece count (Some self.old.left) (Some self.new.left) into.old.items into.new.items) }
+        ensures told {
+            let left = Some self.old.left in
+            let left' = Some self.new.left in
+            IfOk result (λ count. ReadsPiece count left left' into.old.items into.new.items)
+        }
+        ensures stays { OnOk result (self.new.plan.faults ≡ self.old.plan.faults) }
         ensures unchanged { OnErr result (into.new.items ≡ into.old.items) }
         ensures kept { OnErr result (self.new.left ≡ self.old.left) }
-        ensures cause { result ≡ Err OutError.Failed → Rose self.old.plan.faults self.new.plan.faults }
-        ensures never_falls { self.old.plan.faults ≤ self.new.plan.faults }
+        ensures cause { result ≡ Err OutError.Failed → Fails (faults_of self.old.plan) (faults_of self.new.plan) }
+        ensures later { IsLater (faults_of self.old.plan) (faults_of self.new.plan) }
 
         // Exactly the calls whose numbers are among those to fail do so.
         ensures fails { (result ≡ Err OutError.Failed) ↔ IsTrue (is_to_fail self.old.plan) }

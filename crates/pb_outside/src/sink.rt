@@ -1,26 +1,20 @@
 //! Where bytes go.
-ghost use Rattle.std.specs.Prelude.{◌≡◌, ◌≢◌, ◌≤◌, List, ℕ, Option, OnOk, OnErr};
-ghost use Rattle.pb_outside.specs.Faults.{Rose};
-ghost use Rattle.pb_outside.specs.Sink.{TakesPiece, TakesFront};
+ghost use Rattle.std.specs.Prelude.{◌≡◌, ◌≢◌, OnOk, OnErr};
+ghost use Rattle.pb_outside.specs.Sink.{Takes, Refuses};
 
-use crate::OutError;
+use crate::{Ends, OutError};
 
 /// Bytes that go out: standard output, a connection, or bytes kept in memory.
-pub trait Sink {
-    /// The bytes that were taken so far, where the sink tells them.
-    ghost taken: { Self → Option (List ℕ) };
-
-    ghost write_fault_count: { Self → ℕ };
-
-    /// Takes the whole piece. After an error it may have taken a front of it.
+pub trait Sink: Ends {
+    /// Takes the whole piece. After an error it may have taken a front of it. This takes no memory.
     fn write(&mut self, piece: &[u8]) -> Result<(), OutError>
-        ensures whole { OnOk result (TakesPiece piece.now (taken self.old) (taken self.new)) }
-        ensures front { OnErr result (TakesFront piece.now (taken self.old) (taken self.new)) }
+        ensures whole { OnOk result (Takes piece.now (Self.output self.old) (Self.output self.new)) }
+        ensures cause { OnErr result (Refuses piece.now (Self.output self.old) (Self.output self.new)) }
         ensures no_memory { result ≢ Err OutError.Memory }
-        ensures cause { result ≡ Err OutError.Failed → Rose (write_fault_count self.old) (write_fault_count self.new) }
-        ensures never_falls { write_fault_count self.old ≤ write_fault_count self.new };
+        ensures other_end { Self.input self.new ≡ Self.input self.old }
+        ensures same_names { Self.names self.new ≡ Self.names self.old };
 
     /// How often writing has failed so far.
     fn write_faults(&self) -> u64
-        ensures { result ≡ write_fault_count self.now };
+        ensures { result ≡ (Self.output self.now).faults };
 }

@@ -1,29 +1,32 @@
 //! Where bytes come from.
-ghost use Rattle.std.specs.Prelude.{◌≡◌, ◌≤◌, List, ℕ, Option, IfOk, OnErr};
-ghost use Rattle.pb_outside.specs.Faults.{Rose};
+ghost use Rattle.std.specs.Prelude.{◌≡◌, ◌≤◌, IfOk, OnOk, OnErr};
+ghost use Rattle.std.specs.Io.KnownBytes.{Keeps};
+ghost use Rattle.pb_outside.specs.Faults.{Fails, IsLater};
 ghost use Rattle.pb_outside.specs.Source.{Appends, ReadsPiece};
 
-use crate::OutError;
+use crate::{Ends, OutError};
 
 /// Bytes that come in piece by piece: standard input, a connection, or bytes in memory.
-pub trait Source {
-    /// The bytes that reads will give from here on, where the source tells them.
-    ghost left: { Self → Option (List ℕ) };
-
-    ghost read_fault_count: { Self → ℕ };
-
+pub trait Source: Ends {
     /// Appends the next bytes, `max` of them at most, and answers how many. 0 is the end.
     fn read(&mut self, into: &mut Vec<u8>, max: usize) -> Result<usize, OutError>
         requires { 1 ≤ max }
         ensures at_most { IfOk result (λ count. count ≤ max) }
         ensures appends { IfOk result (λ count. Appends count into.old.items into.new.items) }
-        ensures told { IfOk result (λ count. ReadsPiece count (left self.old) (left self.new) into.old.items into.new.items) }
+        ensures told {
+            let left = (Self.input self.old).left in
+            let left' = (Self.input self.new).left in
+            IfOk result (λ count. ReadsPiece count left left' into.old.items into.new.items)
+        }
+        ensures stays { OnOk result ((Self.input self.new).faults.count ≡ (Self.input self.old).faults.count) }
         ensures unchanged { OnErr result (into.new.items ≡ into.old.items) }
-        ensures kept { OnErr result (left self.new ≡ left self.old) }
-        ensures cause { result ≡ Err OutError.Failed → Rose (read_fault_count self.old) (read_fault_count self.new) }
-        ensures never_falls { read_fault_count self.old ≤ read_fault_count self.new };
+        ensures kept { OnErr result (Keeps (Self.input self.old).left (Self.input self.new).left) }
+        ensures cause { result ≡ Err OutError.Failed → Fails (Self.input self.old).faults (Self.input self.new).faults }
+        ensures later { IsLater (Self.input self.old).faults (Self.input self.new).faults }
+        ensures other_end { Self.output self.new ≡ Self.output self.old }
+        ensures same_names { Self.names self.new ≡ Self.names self.old };
 
     /// How often reading has failed so far.
     fn read_faults(&self) -> u64
-        ensures { result ≡ read_fault_count self.now };
+        ensures { result ≡ (Self.input self.now).faults.count };
 }

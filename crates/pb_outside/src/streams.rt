@@ -1,7 +1,10 @@
-//! Adapters over the streams of the system: standard input and output, opened files and connections. They tell no content.
-ghost use Rattle.std.specs.Prelude.{◌≡◌};
+//! Adapters over readers and writers: standard input and output, opened files and connections. They tell what the reader
+//! or the writer tells, and those of the system tell nothing.
+ghost use Rattle.std.specs.Prelude.{◌≡◌, [], None, false};
+ghost use Rattle.pb_outside.specs.Source.{no_input};
+ghost use Rattle.pb_outside.specs.Sink.{no_output};
 
-use crate::{FaultCount, OutError, Sink, Source};
+use crate::{Ends, FaultCount, OutError, Sink, Source};
 use std::io::{Read, Write};
 
 /// How many bytes one read asks for at most.
@@ -17,7 +20,8 @@ pub struct StreamSource<R: Read> {
 impl<R: Read> StreamSource<R> {
     /// No fault so far.
     pub fn new(reader: R) -> StreamSource<R>
-        ensures { ⟦<StreamSource<R> as Source>⟧.read_fault_count result ≡ 0 }
+        ensures left { (⟦<StreamSource<R> as Ends>⟧.input result).left ≡ R.remaining reader }
+        ensures faults { (⟦<StreamSource<R> as Ends>⟧.input result).faults.count ≡ 0 }
     {
         StreamSource {
             reader,
@@ -26,26 +30,28 @@ impl<R: Read> StreamSource<R> {
     }
 }
 
+impl<R: Read> Ends for StreamSource<R> {
+    ghost input = { λ s. record { left = R.remaining s.reader; faults = record { count = s.faults; faultless = false } } };
+
+    ghost output = { λ _. no_output };
+
+    ghost names = { λ _. [] };
+}
+
 impl<R: Read> Source for StreamSource<R> {
-    ghost use Rattle.std.specs.Prelude.{None};
-
-    ghost left = { λ _. None };
-
-    ghost read_fault_count = { λ s. s.faults };
-
     fn read(&mut self, into: &mut Vec<u8>, max: usize) -> Result<usize, OutError> {
         let mut chunk = [0; CHUNK];
         let most = max.min(CHUNK);
         into.reserve(most)?;
         match self.reader.read(&mut chunk[..most]) {
             Ok(count) => {
-                into.extend_from_slice(&chunk[..count])?;
+                // There is room, so no byte that was read is lost.
+                if into.extend_from_slice(&chunk[..count]).is_err() {
+                    unreachable!();
+                }
                 Ok(count)
             }
-            Err(_) => {
-                self.faults.raise();
-                Err(OutError::Failed)
-            }
+            Err(_) => self.faults.fail(),
         }
     }
 
@@ -64,7 +70,8 @@ pub struct StreamSink<W: Write> {
 impl<W: Write> StreamSink<W> {
     /// No fault so far.
     pub fn new(writer: W) -> StreamSink<W>
-        ensures { ⟦<StreamSink<W> as Sink>⟧.write_fault_count result ≡ 0 }
+        ensures taken { (⟦<StreamSink<W> as Ends>⟧.output result).taken ≡ W.contents writer }
+        ensures faults { (⟦<StreamSink<W> as Ends>⟧.output result).faults ≡ 0 }
     {
         StreamSink {
             writer,
@@ -73,27 +80,26 @@ impl<W: Write> StreamSink<W> {
     }
 }
 
+impl<W: Write> Ends for StreamSink<W> {
+    ghost input = { λ _. no_input };
+
+    ghost output = { λ s. record { taken = W.contents s.writer; room = None; faults = s.faults } };
+
+    ghost names = { λ _. [] };
+}
+
 impl<W: Write> Sink for StreamSink<W> {
-    ghost use Rattle.std.specs.Prelude.{None};
-
-    ghost taken = { λ _. None };
-
-    ghost write_fault_count = { λ s. s.faults };
-
     fn write(&mut self, piece: &[u8]) -> Result<(), OutError> {
         let mut rest = piece;
         while !rest.is_empty() {
             match self.writer.write(rest) {
-                Ok(0) | Err(_) => {
-                    self.faults.raise();
-                    return Err(OutError::Failed);
-                }
+                Ok(0) => return self.faults.fail(),
                 Ok(count) => rest = &rest[count..],
+                Err(_) => return self.faults.fail(),
             }
         }
         if self.writer.flush().is_err() {
-            self.faults.raise();
-            return Err(OutError::Failed);
+            return self.faults.fail();
         }
         Ok(())
     }

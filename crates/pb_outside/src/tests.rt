@@ -79,23 +79,46 @@ fn files_in_memory_are_found_by_the_first_of_a_name(rt: HostRuntime) -> Result<(
     Ok(())
 }
 
-/// A reader and writer that fails at each call.
+/// A reader that gives two bytes and then fails.
 #[derive(Drop)]
-struct Broken;
+struct Torn {
+    given: bool,
+}
 
-impl Read for Broken {
-    fn read(&mut self, _buf: &mut [u8]) -> io::Result<usize> {
-        Err(io::Error::from(io::ErrorKind::Other))
+impl Read for Torn {
+    fn read(&mut self, buf: &mut [u8]) -> io::Result<usize> {
+        if self.given || buf.len() < 2 {
+            return Err(io::Error::from(io::ErrorKind::Other));
+        }
+        self.given = true;
+        buf[0] = b'a';
+        buf[1] = b'b';
+        Ok(2)
     }
 }
 
-impl Write for Broken {
-    fn write(&mut self, _buf: &[u8]) -> io::Result<usize> {
-        Err(io::Error::from(io::ErrorKind::Other))
+/// A writer that takes one byte a call, and whose flush may fail.
+#[derive(Drop)]
+struct Slow<'a> {
+    taken: &'a mut Vec<u8>,
+    flushes: bool,
+}
+
+impl Write for Slow<'_> {
+    fn write(&mut self, buf: &[u8]) -> io::Result<usize> {
+        let Some(first) = buf.first() else {
+            return Ok(0);
+        };
+        self.taken.push(*first)?;
+        Ok(1)
     }
 
     fn flush(&mut self) -> io::Result<()> {
-        Ok(())
+        if self.flushes {
+            Ok(())
+        } else {
+            Err(io::Error::from(io::ErrorKind::Other))
+        }
     }
 }
 
@@ -115,11 +138,19 @@ fn the_adapters_pass_bytes_on_and_count_faults(rt: HostRuntime) -> Result<(), Fa
     assert!(rt; files.read(alloc, &name, 5).is_err());
     assert_eq!(rt; (files.faults(), sink.write_faults()), (1, 0));
 
-    let mut broken = StreamSource::new(Broken);
-    let mut into = Vec::new(alloc);
-    assert_eq!(rt; broken.read(&mut into, 5), Err(OutError::Failed));
-    let mut torn = StreamSink::new(Broken);
-    assert_eq!(rt; torn.write(b"abc"), Err(OutError::Failed));
-    assert_eq!(rt; (broken.read_faults(), torn.write_faults()), (1, 1));
+    let mut torn = StreamSource::new(Torn { given: false });
+    assert!(rt; matches!(read_up_to(alloc, &mut torn, 9), Err(OutError::Failed)));
+    assert_eq!(rt; torn.read_faults(), 1);
+
+    for (flushes, want, faults) in [(true, Ok(()), 0), (false, Err(OutError::Failed), 1)] {
+        let mut taken = Vec::new(alloc);
+        let mut slow = StreamSink::new(Slow {
+            taken: &mut taken,
+            flushes,
+        });
+        assert_eq!(rt; slow.write(b"abc"), want);
+        assert_eq!(rt; slow.write_faults(), faults);
+        assert_eq!(rt; taken.as_slice(), b"abc".as_slice());
+    }
     Ok(())
 }

@@ -1,6 +1,7 @@
 pub mod FirstFiring
 pub mod Laws
 mod Steps
-mod WakingLemmas
-mod TurnLemmas
+mod OccurrenceLemmas
+mod WorklistLemmas
 mod Cases
+mod WorkedRows

@@ -1,3 +1,4 @@
 pub mod Completing
 pub mod Completion
-pub mod Waking
+pub mod Occurrences
+pub mod Worklist

@@ -1,9 +1,6 @@
 //! What completing an order gives.
-ghost use Rattle.std.specs.Prelude.{◌≡◌, [], ◌∷◌, ◌++◌, OnOk, OnErr, IfOk};
 
-use pb_base::{CodeSet, Memory};
-use std::alloc::Global;
-use std::marker::Model;
+use pb_base::{CodeSet, Sequence};
 
 /// A code that completing added, and the rule that added it.
 #[derive(Clone, Copy, Debug, PartialEq, Eq)]
@@ -15,46 +12,7 @@ pub struct Added {
 }
 
 /// Codes that were added, in order of adding.
-#[derive(Drop)]
-pub struct AddedList {
-    items: Vec<Added>,
-}
-
-impl Model for AddedList {
-    ghost use Rattle.std.specs.Prelude.{List};
-    ghost use Rattle.supplement.specs.declared.completed.Added.{Added};
-
-    ghost Value = { List Added };
-
-    ghost view = { λ l. l.items.items };
-}
-
-impl AddedList {
-    /// The list of no addition.
-    pub fn new(alloc: Global) -> AddedList
-        ensures { result ≡ [] }
-    {
-        AddedList {
-            items: Vec::new(alloc),
-        }
-    }
-
-    /// Puts an addition behind the others. On want of memory the list is as before.
-    pub fn push(&mut self, added: Added) -> Result<(), Memory>
-        ensures ok { OnOk result (self.new ≡ self.old ++ added ∷ []) }
-        ensures err { OnErr result (self.new ≡ self.old) }
-    {
-        self.items.push(added)?;
-        Ok(())
-    }
-
-    /// The additions in order of adding.
-    pub fn as_slice(&self) -> &[Added]
-        ensures { result.now ≡ self.now }
-    {
-        &self.items
-    }
-}
+pub type AddedList = Sequence<Added>;
 
 /// A completed set, and how it was completed.
 #[derive(Drop)]

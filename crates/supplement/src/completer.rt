@@ -4,8 +4,8 @@ ghost use Rattle.book_model.specs.Good.{is_closed};
 ghost use Rattle.supplement.specs.Completion.{completion_of, Includes};
 
 use crate::completed::Completed;
-use crate::wake_index::WakeIndex;
-use crate::waking::complete_by_waking;
+use crate::completion::complete_by_worklist;
+use crate::occurrences::OccurrenceLists;
 use book_model::Book;
 use pb_base::{CodeSet, Day, Memory};
 use std::alloc::Global;
@@ -16,7 +16,7 @@ use std::marker::Model;
 pub struct Completer<'a> {
     book: &'a Book,
     day: Day,
-    index: WakeIndex,
+    occurrences: OccurrenceLists,
 }
 
 impl<'a> Model for Completer<'a> {
@@ -27,11 +27,11 @@ impl<'a> Model for Completer<'a> {
     ghost coded = { completing_code };
 
     ghost use Rattle.std.specs.Prelude.{length};
-    ghost use Rattle.supplement.specs.Waking.{IsIndex};
+    ghost use Rattle.supplement.specs.Occurrences.{AreOccurrences};
 
     ghost view = { λ c. record { book = c.book.now; day = c.day } };
 
-    ghost invariant = { λ c. IsIndex (length c.book.now.codes) c.book.now.supplements c.day c.index };
+    ghost invariant = { λ c. AreOccurrences (length c.book.now.codes) c.book.now.supplements c.day c.occurrences };
 }
 
 impl<'a> Completer<'a> {
@@ -40,8 +40,12 @@ impl<'a> Completer<'a> {
         ensures { IfOk result (λ c. c ≡ record { book = book.now; day = day }) }
     {
         let codes = book.codes().len();
-        let index = WakeIndex::of(alloc, codes, book.supplements(), day)?;
-        Ok(Completer { book, day, index })
+        let occurrences = OccurrenceLists::of(alloc, codes, book.supplements(), day)?;
+        Ok(Completer {
+            book,
+            day,
+            occurrences,
+        })
     }
 
     /// Adds to a set of the book's codes what its supplementing rules add. On want of memory the set is given up.
@@ -52,6 +56,12 @@ impl<'a> Completer<'a> {
         ensures includes { IfOk result (λ c. Includes set c.set) }
         ensures same_codes { IfOk result (λ c. length c.set ≡ length set) }
     {
-        complete_by_waking(alloc, self.book.supplements(), &self.index, self.day, set)
+        complete_by_worklist(
+            alloc,
+            self.book.supplements(),
+            &self.occurrences,
+            self.day,
+            set,
+        )
     }
 }

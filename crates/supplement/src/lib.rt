@@ -1,13 +1,13 @@
 //! Completing an order: a book's supplementing rules add the codes that follow from what was ordered.
 #![tactic(auto)]
 
-mod awake;
 mod completed;
 mod completer;
+mod completion;
 mod firing;
+mod occurrences;
 mod plain;
-mod wake_index;
-mod waking;
+mod worklist;
 
 pub use completed::{Added, AddedList, Completed};
 pub use completer::Completer;

@@ -1,14 +1,15 @@
 //! Both bodies of completing over rules that are drawn, and each call once with ample memory.
-ghost use Rattle.std.specs.Prelude.{◌≡◌, ◌<◌, ◌≤◌, IfOk, All, length, vec_len};
+ghost use Rattle.std.specs.Prelude.{◌≡◌, ◌<◌, ◌≤◌, IfOk, IfSome, All, length, vec_len};
+ghost use Rattle.pb_base.specs.declared.limits.TheConstants.{MOST_SUPPLEMENTS};
 ghost use Rattle.book_model.specs.Book.{RuleFits, SupplementFits};
 
 use crate::completed::{Added, Completed};
+use crate::completion::complete_by_worklist;
+use crate::occurrences::OccurrenceLists;
 use crate::plain::complete_by_trying;
-use crate::wake_index::WakeIndex;
-use crate::waking::complete_by_waking;
 use crate::{Completer, complete_plainly};
 use book_model::{Book, BookParts, Supplement, VariantGroups, fires};
-use pb_base::{CodeSet, CodeTable, Formula, Id, Memory};
+use pb_base::{CodeSet, CodeTable, Formula, Id, Leaf, Memory};
 use std::alloc::Global;
 use std::test::Fail;
 
@@ -33,9 +34,9 @@ fn drawn_formula(alloc: Global, shape: u32, a: u32, b: u32) -> Result<Formula, M
     ensures { IfOk result (RuleFits 6) }
 {
     match shape {
-        0 => Ok(Formula::code(a)),
-        1 => Formula::and(alloc, Formula::code(a), Formula::code(b)),
-        2 => Formula::or(alloc, Formula::code(a), Formula::code(b)),
+        0 => Formula::code(alloc, a),
+        1 => Formula::code(alloc, a)?.and_leaf(Leaf::Code(b), 0),
+        2 => Formula::code(alloc, a)?.or_leaf(Leaf::Code(b), 0),
         _ => without(alloc, a, b),
     }
 }
@@ -46,8 +47,7 @@ fn without(alloc: Global, a: u32, b: u32) -> Result<Formula, Memory>
     requires b_is_code { b < 6 }
     ensures { IfOk result (RuleFits 6) }
 {
-    let absent = Formula::not(alloc, Formula::code(b))?;
-    Formula::and(alloc, Formula::code(a), absent)
+    Formula::code(alloc, a)?.and_leaf(Leaf::Code(b), 1)
 }
 
 fn drawn_rules(alloc: Global, id: Id, seed: u32) -> Result<Vec<Supplement>, Memory>
@@ -65,27 +65,33 @@ fn drawn_rules(alloc: Global, id: Id, seed: u32) -> Result<Vec<Supplement>, Memo
 }
 
 // What both bodies make of an order of one code, if they agree.
-fn agreed(alloc: Global, rules: &[Supplement], ordered: u32) -> Result<Option<Completed>, Memory>
-    requires fit { All (SupplementFits 6) rules.now }
-    requires few { length rules.now ≤ 8 }
-    requires is_code { ordered < 6 }
+fn agreed(
+    alloc: Global,
+    codes: u32,
+    rules: &[Supplement],
+    ordered: u32,
+) -> Result<Option<Completed>, Memory>
+    requires fit { All (SupplementFits codes) rules.now }
+    requires few { length rules.now ≤ MOST_SUPPLEMENTS }
+    requires is_code { ordered < codes }
+    ensures { IfOk result (λ agreed. IfSome agreed (λ completed. length completed.set ≡ codes)) }
 {
-    let set = only(alloc, ordered)?;
-    let index = WakeIndex::of(alloc, 6, rules, 1)?;
+    let set = only(alloc, codes, ordered)?;
+    let occurrences = OccurrenceLists::of(alloc, codes, rules, 1)?;
     let slow = complete_by_trying(alloc, rules, 1, set.copy(alloc)?)?;
-    let fast = complete_by_waking(alloc, rules, &index, 1, set)?;
-    Ok(if are_same(&slow, &fast) {
-        Some(fast)
+    let fast = complete_by_worklist(alloc, rules, &occurrences, 1, set)?;
+    if are_same(&slow, &fast) && fast.set.len() == codes {
+        Ok(Some(fast))
     } else {
-        None
-    })
+        Ok(None)
+    }
 }
 
-fn only(alloc: Global, ordered: u32) -> Result<CodeSet, Memory>
-    requires is_code { ordered < 6 }
-    ensures { IfOk result (λ set. length set ≡ 6) }
+fn only(alloc: Global, codes: u32, ordered: u32) -> Result<CodeSet, Memory>
+    requires is_code { ordered < codes }
+    ensures { IfOk result (λ set. length set ≡ codes) }
 {
-    let mut set = CodeSet::none(alloc, 6)?;
+    let mut set = CodeSet::none(alloc, codes)?;
     set.with(ordered);
     Ok(set)
 }
@@ -141,8 +147,7 @@ fn both_bodies_agree_on_drawn_rules(rt: HostRuntime) -> Result<(), Fail> {
     for seed in 0..150u32 {
         let rules = drawn_rules(alloc, id, seed)?;
         for ordered in 0..6u32 {
-            let completed = agreed(alloc, &rules, ordered)?.ok_or("the bodies differ")?;
-            assert_eq!(rt; completed.set.len(), 6);
+            let completed = agreed(alloc, 6, &rules, ordered)?.ok_or("the bodies differ")?;
             let added = completed.added.as_slice();
             most = if added.len() > most {
                 added.len()
@@ -150,7 +155,7 @@ fn both_bodies_agree_on_drawn_rules(rt: HostRuntime) -> Result<(), Fail> {
                 most
             };
             turned_true = turned_true || one_turned_true(&rules, added);
-            let before = only(alloc, ordered)?;
+            let before = only(alloc, 6, ordered)?;
             turned_false = turned_false || one_turned_false(&rules, &before, &completed.set);
         }
     }
@@ -199,12 +204,67 @@ fn the_lower_rank_fires_and_at_one_rank_the_earlier_record(rt: HostRuntime) -> R
         (1, 1, Added { code: 1, rule: 0 }),
     ] {
         let rules = exclusive_rules(rt.alloc(), id, first_rank, second_rank)?;
-        let completed = agreed(rt.alloc(), &rules, 0)?.ok_or("the bodies differ")?;
+        let completed = agreed(rt.alloc(), 6, &rules, 0)?.ok_or("the bodies differ")?;
         assert_eq!(rt;
             completed.added.as_slice(),
             [want].as_slice(),
             "{first_rank}, {second_rank}"
         );
+    }
+    Ok(())
+}
+
+// Of 5,000 rules over 2,000 codes: the first thousand make a chain in which each code adds the next at a lower rank, and each other one is of a code of the chain and one that never comes in.
+fn chain_rule(alloc: Global, id: Id, place: u32) -> Result<Supplement, Memory>
+    requires { place < MOST_SUPPLEMENTS }
+    ensures { IfOk result (SupplementFits 2000) }
+{
+    let in_chain = place < 1000;
+    let link = Formula::code(alloc, place % 1000)?;
+    Ok(Supplement {
+        id,
+        rank: 1000 - place % 1000,
+        code: if in_chain { place + 1 } else { place % 2000 },
+        rule: if in_chain {
+            link
+        } else {
+            link.and_leaf(Leaf::Code(1001 + place % 999), 0)?
+        },
+        from: 1,
+        until: 1,
+    })
+}
+
+fn chain_rules(alloc: Global, id: Id) -> Result<Vec<Supplement>, Memory>
+    ensures fit { IfOk result (λ rules. All (SupplementFits 2000) rules.items) }
+    ensures few { IfOk result (λ rules. vec_len rules ≤ MOST_SUPPLEMENTS) }
+{
+    let mut rules = Vec::new(alloc);
+    for place in 0..5000u32 {
+        let rule = chain_rule(alloc, id, place)?;
+        rules.push(rule)?;
+    }
+    Ok(rules)
+}
+
+#[test]
+fn a_chain_of_a_thousand_among_five_thousand_rules(rt: HostRuntime) -> Result<(), Fail> {
+    let id = Id::of(b"S").ok_or("an id")?;
+    let rules = chain_rules(rt.alloc(), id)?;
+    assert_eq!(rt; rules.len(), 5000);
+    let completed = agreed(rt.alloc(), 2000, &rules, 0)?.ok_or("the bodies differ")?;
+    let added = completed.added.as_slice();
+    assert_eq!(rt; added.len(), 1000);
+    for (place, addition) in added.iter().enumerate() {
+        let place = place as u32;
+        let want = Added {
+            code: place + 1,
+            rule: place,
+        };
+        assert_eq!(rt; *addition, want);
+    }
+    for code in 0..2000u32 {
+        assert_eq!(rt; completed.set.has(code), code <= 1000, "the code {code}");
     }
     Ok(())
 }

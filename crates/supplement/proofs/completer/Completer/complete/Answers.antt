@@ -10,16 +10,16 @@ use Rattle.supplement.specs.declared.completed.Completed.{Completed}
 use Rattle.supplement.proofs.Laws.{IsCompleted, is_completed-completion}
 use Rattle.supplement.proofs.completer.Completer.complete.Goals as goal
 
-abbrev is_completion : (c : goal.After-complete_by_waking) → Completed → Type 0
+abbrev is_completion : (c : goal.After-complete_by_worklist) → Completed → Type 0
 is_completion c k = k ≡ completion_by c.supplements.result.now c.self.inside.day c.args.set
 
 -- the completer's book has these rules
-of_this_book : (c : goal.After-complete_by_waking) (P : List Supplement → ℕ → Type 0) → P c.supplements.result.now c.self.inside.day → P c.args.self.now.book.supplements c.args.self.now.day
+of_this_book : (c : goal.After-complete_by_worklist) (P : List Supplement → ℕ → Type 0) → P c.supplements.result.now c.self.inside.day → P c.args.self.now.book.supplements c.args.self.now.day
 of_this_book c P holds =
     subst (λ (v : Completing). P v.book.supplements v.day) c.self.view_is
     (subst (λ (rules : List Supplement). P rules c.self.inside.day) c.supplements.ensures.value holds)
 
-is_completed : (c : goal.After-complete_by_waking) (k : Completed) → is_completion c k → IsCompleted c.args.self.now.book.supplements c.args.self.now.day c.args.set k.set
+is_completed : (c : goal.After-complete_by_worklist) (k : Completed) → is_completion c k → IsCompleted c.args.self.now.book.supplements c.args.self.now.day c.args.set k.set
 is_completed c k is =
     let rules = c.supplements.result.now in
     let same : length c.self.inside.book.now.codes ≡ length c.args.set = ap (λ v. length v.book.codes) c.self.view_is ∙ sym c.requires in
@@ -29,7 +29,7 @@ is_completed c k is =
 
 pub returns : goal.returns
 returns c =
-    let completed = c.complete_by_waking.ensures in
+    let completed = c.complete_by_worklist.ensures in
     record {
       completion = IfOk-weaker _ (is_completion c) (λ k. k ≡ completion_of c.args.self.now.book c.args.self.now.day c.args.set) (λ k is. of_this_book c (λ rs day. k ≡ completion_by rs day c.args.set) is) completed;
       closed = IfOk-weaker _ (is_completion c) (λ k. IsTrue (is_closed c.args.self.now.book c.args.self.now.day k.set)) (λ k is. (is_completed c k is).closed) completed;

@@ -1,0 +1,131 @@
+-- Valid words and inputs have their answer where nothing fails, memory allowing.
+use Rattle.std.proofs.Common.{◌≡◌, ◌≤◌, ◌∙◌, ℕ, List, true, false, length, refl, sym, subst, ap, inl, inr, take}
+use Rattle.std.specs.Prelude.{◌⊎◌, Option, None, Some, Result, Ok, Err, IsOk, IfOk, IfSome, IsSomeAnd}
+use Rattle.book_model.specs.Contents.{Contents}
+use Rattle.book_text.specs.BookText.{book_of}
+use Rattle.book_text.specs.declared.fault.BookFault.{BookFault}
+use Rattle.pb_outside.specs.Faults.{Rose}
+use Rattle.pb_outside.specs.Source.{ReadsUpTo}
+use Rattle.pb_outside.specs.Files.{NamedBytes, FilesTold, content_of}
+use Rattle.partsbook.specs.Words.{command_in}
+use Rattle.partsbook.specs.Outside.{Inputs, Outside, input_limit}
+use Rattle.partsbook.specs.RunReply.{RunReply, memory_reply, memory_text}
+use Rattle.partsbook.specs.Replies.{IsCertificate, HasCertificate, IsValidCommand, RepliesTo, FailsAtFile}
+use Rattle.partsbook.specs.Tells.{IsTold}
+use Rattle.partsbook.specs.Run.{Due, answer, source_fault, file_fault, no_memory, AnswersBook, DoesAsked, Does, FitsReplies, IsValid, IsUnfailing, IsSure}
+use Rattle.partsbook.specs.declared.command.BookCommand.{BookCommand}
+use Rattle.partsbook.specs.declared.command.BookCommand.TheVariants.{Order, Verify}
+use Rattle.partsbook.proofs.Statuses.{valid-status}
+use Rattle.partsbook.proofs.Told.{Ends-of_tells, told_whole}
+use Rattle.partsbook.proofs.Caused.{file_rose}
+
+-- the status of a command that was answered, or of want of memory
+abbrev pub IsServed : ℕ → Type 0
+IsServed status = (status ≤ 1) ⊎ (status ≡ 9)
+
+-- what was asked was done
+answered : (asked : Option BookCommand) (command : BookCommand) (before after : Outside) (status : ℕ) → asked ≡ Some command
+    → DoesAsked asked before after status → AnswersBook command before after status
+answered asked command before after status e h = subst (λ (a : Option BookCommand). DoesAsked a before after status) e h
+
+-- the input that was read is the one that was given
+same_input : (left left' : Option (List ℕ)) (input read : List ℕ) → IsSomeAnd left (λ all. input ≡ take input_limit all)
+    → ReadsUpTo input_limit left left' read → input ≡ read
+same_input None left' input read given h = absurd given
+same_input (Some all) left' input read given h = given ∙ sym h.0
+
+-- a reply that was told to a valid command
+told_status : (command : BookCommand) (input read : List ℕ) (files files' : FilesTold) (reply : RunReply) → input ≡ read
+    → IsValidCommand command input files.files → RepliesTo command read files files' reply → reply.status ≤ 1
+told_status command input read files files' reply e valid h =
+    valid-status command read files files' reply (subst (λ (i : List ℕ). IsValidCommand command i files.files) e valid) h
+
+-- a file with a certificate is there
+has_file : (found : Option (List ℕ)) (b : Contents) → IsSomeAnd found (IsCertificate b) → found ≡ None → ⊥
+has_file None b has none = has
+has_file (Some text) b has none = cc
+
+has_named : (files : Option (List NamedBytes)) (b : Contents) (file : List ℕ) → HasCertificate b files file
+    → IfSome files (λ all. content_of all file ≡ None) → ⊥
+has_named None b file has none = has
+has_named (Some all) b file has none = has_file (content_of all file) b has none
+
+has_certificate : (book : Result Contents BookFault) (files : Option (List NamedBytes)) (file : List ℕ) → IsOk book
+    → IfOk book (λ b. HasCertificate b files file) → IfSome files (λ all. content_of all file ≡ None) → ⊥
+has_certificate (Ok b) files file ok has none = has_named files b file has none
+has_certificate (Err fault) files file ok has none = let clash : false ≡ true = ok in cc
+
+-- files that say that no call on them fails give the file of a valid command
+no_file_fault : (command : BookCommand) (input read : List ℕ) (files files' : FilesTold) → input ≡ read
+    → IsValidCommand command input files.files → files.faults.faultless ≡ true → FailsAtFile command read files files' → ⊥
+unfolding FailsAtFile IsValidCommand
+no_file_fault (Order day ordered) input read files files' e valid sure h = absurd h
+no_file_fault (Verify file) input read files files' e valid sure h = has_certificate (book_of input) files.files file valid.book valid.certificate (h.fault.possible sure)
+
+-- nothing fails from here on
+sure : (command : BookCommand) (input : List ℕ) (before after : Outside) (status : ℕ) (reply : RunReply)
+    → IsSomeAnd before.reads.source.left (λ all. input ≡ take input_limit all)
+    → IsValidCommand command input before.reads.files.files
+    → before.reads.source.faults.faultless ≡ true → before.reads.files.faults.faultless ≡ true
+    → (IsSomeAnd before.writes.sink.room (FitsReplies command input before.reads.files))
+    → Due command before.reads after.reads reply
+    → ((IsSomeAnd before.writes.sink.room (λ bytes. length reply.text ≤ bytes)) → IsTold reply before.writes after.writes status ⊎ (status ≡ 9))
+    → IsServed status
+sure command input before after status reply given valid source files room (answer read reads replies) tells =
+    let same : input ≡ read = same_input before.reads.source.left after.reads.source.left input read given reads.text in
+    elim (tells (fits before.writes.sink.room same room)) [
+      | inl told ↦ inl (subst (λ (s : ℕ). s ≤ 1) (sym told.ends) (told_status command input read before.reads.files after.reads.files reply same valid replies))
+      | inr nine ↦ inr nine
+    ]
+  where
+    fits : (room' : Option ℕ) → input ≡ read → IsSomeAnd room' (FitsReplies command input before.reads.files) → IsSomeAnd room' (λ bytes. length reply.text ≤ bytes)
+    fits None same fit = fit
+    fits (Some bytes) same fit = fit.replies after.reads.files reply (subst (λ (i : List ℕ). RepliesTo command i before.reads.files after.reads.files reply) (sym same) replies)
+sure command input before after status reply given valid source files room (source_fault fails same is) tells =
+    let clash : true ≡ false = sym source ∙ fails.fault.possible in cc
+sure command input before after status reply given valid source files room (file_fault read reads fails is) tells =
+    absurd (no_file_fault command input read before.reads.files after.reads.files (same_input before.reads.source.left after.reads.source.left input read given reads.text) valid files fails)
+sure command input before after status reply given valid source files room (no_memory front is) tells =
+    elim (tells (fits before.writes.sink.room room)) [
+      | inl told ↦ inr (told.ends ∙ ap (λ (r : RunReply). r.status) is)
+      | inr nine ↦ inr nine
+    ]
+  where
+    fits : (room' : Option ℕ) → IsSomeAnd room' (FitsReplies command input before.reads.files) → IsSomeAnd room' (λ bytes. length reply.text ≤ bytes)
+    fits None fit = fit
+    fits (Some bytes) fit = subst (λ (r : RunReply). length r.text ≤ bytes) (sym is) fit.memory
+
+memory_fits : (room : Option ℕ) (command : BookCommand) (input : List ℕ) (files : FilesTold) → IsSomeAnd room (FitsReplies command input files)
+    → IsSomeAnd room (λ bytes. length memory_text ≤ bytes)
+memory_fits None command input files fit = fit
+memory_fits (Some bytes) command input files fit = fit.memory
+
+pub Does-sure : (words : List (List ℕ)) (before after : Outside) (status : ℕ) → Does words before after status → IsSure words before → IsServed status
+unfolding Does
+Does-sure words before after status does s =
+    let h : AnswersBook s.valid.command before after status = answered (command_in words) s.valid.command before after status s.valid.asked does in
+    sure s.valid.command s.valid.input before after status h.reply s.valid.given s.valid.valid s.source s.files s.room h.due
+    (λ fits. told_whole h.reply before.writes after.writes status fits (memory_fits before.writes.sink.room s.valid.command s.valid.input before.reads.files s.room) h.told)
+
+-- no count rose
+unfailing : (command : BookCommand) (input : List ℕ) (before after : Outside) (status : ℕ) (reply : RunReply)
+    → IsSomeAnd before.reads.source.left (λ all. input ≡ take input_limit all)
+    → IsValidCommand command input before.reads.files.files → IsUnfailing before after
+    → Due command before.reads after.reads reply → IsTold reply before.writes after.writes status → IsServed status
+unfailing command input before after status reply given valid none (answer read reads replies) told =
+    let same : input ≡ read = same_input before.reads.source.left after.reads.source.left input read given reads.text in
+    inl (subst (λ (s : ℕ). s ≤ 1) (sym told.ends) (told_status command input read before.reads.files after.reads.files reply same valid replies))
+unfailing command input before after status reply given valid none (source_fault fails same is) told = absurd (none.source fails.fault.rose)
+unfailing command input before after status reply given valid none (file_fault read reads fails is) told =
+    absurd (none.files (file_rose command read before.reads.files after.reads.files fails))
+unfailing command input before after status reply given valid none (no_memory front is) told = inr (told.ends ∙ ap (λ (r : RunReply). r.status) is)
+
+pub Does-unfailing : (words : List (List ℕ)) (before after : Outside) (status : ℕ) → Does words before after status → IsValid words before.reads
+    → IsUnfailing before after → IsServed status
+unfolding Does
+Does-unfailing words before after status does v none =
+    let h : AnswersBook v.command before after status = answered (command_in words) v.command before after status v.asked does in
+    elim (Ends-of_tells h.reply before.writes after.writes status h.told) [
+      | inl told ↦ unfailing v.command v.input before after status h.reply v.given v.valid none h.due told
+      | inr failed ↦ elim failed [ inl sink ↦ absurd (none.sink sink.rose) | inr nine ↦ inr nine ]
+    ]

@@ -1,0 +1,74 @@
+//! What a run answers.
+ghost use Rattle.std.specs.Prelude.{◌≡◌, [], ◌∷◌, IfOk};
+ghost use Rattle.partsbook.specs.RunReply.{read_fault_reply};
+
+use crate::log::Note;
+use crate::text::Text;
+use pb_base::Memory;
+use std::alloc::Global;
+use std::marker::Model;
+
+/// A text to write, the status that goes with it, and what the status rests on.
+#[derive(Drop)]
+pub struct RunReply {
+    text: Text,
+    status: u8,
+    notes: Vec<Note>,
+}
+
+impl Model for RunReply {
+    ghost use Rattle.partsbook.specs.RunReply.{RunReply};
+
+    ghost Value = { RunReply };
+
+    ghost view = { λ r. record { text = r.text; status = r.status; notes = r.notes.items } };
+}
+
+impl RunReply {
+    /// The status rests on nothing but the answer itself.
+    pub fn plain(alloc: Global, text: Text, status: u8) -> RunReply
+        ensures { result ≡ record { text = text; status = status; notes = [] } }
+    {
+        RunReply {
+            text,
+            status,
+            notes: Vec::new(alloc),
+        }
+    }
+
+    /// The status rests on one thing.
+    pub fn noted(alloc: Global, text: Text, status: u8, note: Note) -> Result<RunReply, Memory>
+        ensures { IfOk result (λ r. r ≡ record { text = text; status = status; notes = note ∷ [] }) }
+    {
+        let mut notes = Vec::new(alloc);
+        notes.push(note)?;
+        Ok(RunReply {
+            text,
+            status,
+            notes,
+        })
+    }
+
+    /// The object of this number failed: 1 is the source, and 2 the files; with its counts of faults.
+    pub fn read_fault(alloc: Global, which: u8, before: u64, after: u64) -> Result<RunReply, Memory>
+        ensures { IfOk result (λ reply. reply ≡ read_fault_reply which before after) }
+    {
+        let mut text = Text::new(alloc);
+        text.put(b"read fault\n")?;
+        let note = Note::Count {
+            which,
+            before,
+            after,
+        };
+        RunReply::noted(alloc, text, 4, note)
+    }
+
+    /// The text, the status and the notes.
+    pub fn into_parts(self) -> (Text, u8, Vec<Note>)
+        ensures text { result.0 ≡ self.text }
+        ensures status { result.1 ≡ self.status }
+        ensures notes { result.2.items ≡ self.notes }
+    {
+        (self.text, self.status, self.notes)
+    }
+}

@@ -1,6 +1,0 @@
--- The heap has the turn beside what it had.
-use Rattle.std.proofs.lemmas.List.Sorted.{IsPermutation-map}
-use Rattle.supplement.proofs.awake.Awake.push.Goals as goal
-
-pub returns : goal.returns
-returns c = rw (← c.self.view_is) (IsPermutation-map (λ r. r.0) _ _ c.in_ok-push.ensures.permutation)

@@ -1,0 +1,34 @@
+-- Each firing rule goes one step on the way, and each rule that fires then is worklist.
+use Rattle.std.proofs.Common.{◌<◌, length, sym, subst, ◌∙◌}
+use Rattle.supplement.specs.Occurrences.{AreOccurrences}
+use Rattle.supplement.proofs.Steps.{steps, ends, adds_absent, fewer_after}
+use Rattle.supplement.proofs.WorklistLemmas.{held_after}
+use Rattle.supplement.proofs.completion.complete_by_worklist.Goals as goal
+
+pub with-requires : goal.with-requires
+with-requires c =
+    (adds_absent c.args.supplements.now c.args.day c.args.set c.loop-firing.set c.loop-firing.added c.in-Some.firing c.requires.fit (sym c.in-Some.ensures.value) c.loop-firing.invariant.0).0
+
+pub add_rules_of-requires-clause-in_range : goal.add_rules_of-requires-clause-in_range
+add_rules_of-requires-clause-in_range c =
+    let code = (adds_absent c.args.supplements.now c.args.day c.args.set c.loop-firing.set c.loop-firing.added c.in-Some.firing c.requires.fit (sym c.in-Some.ensures.value) c.loop-firing.invariant.0).0 in
+    subst (λ n. c.in-Some.firing.code < n) (c.loop-firing.invariant.0.same_codes ∙ sym c.requires.occurrences.linked.codes_have_heads) code
+
+pub loop-firing-smaller : goal.loop-firing-smaller
+loop-firing-smaller c =
+    rw c.with.ensures (fewer_after c.args.supplements.now c.args.day c.args.set c.loop-firing.set c.loop-firing.added c.in-Some.firing c.requires.fit (sym c.in-Some.ensures.value) c.loop-firing.invariant.0)
+
+pub loop-firing-preserved : goal.loop-firing-preserved
+loop-firing-preserved c =
+    let rules = c.args.supplements.now in
+    let f = c.in-Some.firing in
+    let first = sym c.in-Some.ensures.value in
+    let code = (adds_absent rules c.args.day c.args.set c.loop-firing.set c.loop-firing.added f c.requires.fit first c.loop-firing.invariant.0).0 in
+    let indexed : AreOccurrences (length c.loop-firing.set) rules c.args.day c.args.occurrences.now = subst (λ n. AreOccurrences n rules c.args.day c.args.occurrences.now) (sym c.loop-firing.invariant.0.same_codes) c.requires.occurrences in (
+      rw (c.with.ensures, c.in_ok-push.ensures.ok) (steps rules c.args.day c.args.set c.loop-firing.set c.loop-firing.added f c.requires.fit first c.loop-firing.invariant.0),
+      c.in_ok-add_rules_of.ensures.candidates,
+      rw c.with.ensures (held_after rules c.args.day c.loop-firing.set c.args.occurrences.now f c.next_firing.new.worklist c.add_rules_of.new.worklist indexed first code c.in-Some.ensures.others c.in_ok-add_rules_of.ensures.keeps c.in_ok-add_rules_of.ensures.added),
+    )
+
+pub returns : goal.returns
+returns c = ends c.args.supplements.now c.args.day c.args.set c.loop-firing.set c.loop-firing.added (sym c.in_default.ensures.value) c.loop-firing.invariant.0

@@ -1,0 +1,48 @@
+-- The candidate that was taken out is that of a rule; where it fires it fires first, and where not, none is missed.
+use Rattle.std.proofs.Common.{length, sym, subst, refl, ◌∙◌, arith}
+use Rattle.std.proofs.lemmas.Option.{slice_get_read, slice_get_within}
+use Rattle.std.proofs.lemmas.List.Sorted.{length_permutation}
+use Rattle.book_model.specs.Book.{SupplementFits}
+use Rattle.book_model.specs.declared.record.Supplement.{Supplement}
+use Rattle.supplement.proofs.WorklistLemmas.{candidates_left, candidate_taken, still_held, others_left, next_is_first, none_held}
+use Rattle.supplement.proofs.completion.next_firing.Goals as goal
+
+pub bounds-supplements-candidate : goal.bounds-supplements-candidate
+bounds-supplements-candidate c =
+    let taken = candidate_taken c.args.supplements.now c.loop-candidate.worklist c.pop.new.self c.in-Some.candidate c.in-Some.ensures.moved c.loop-candidate.invariant.0 in
+    slice_get_within c.args.supplements.now c.in-Some.candidate.rule taken.0 taken.1
+
+pub fires-requires : goal.fires-requires
+fires-requires c =
+    let taken = candidate_taken c.args.supplements.now c.loop-candidate.worklist c.pop.new.self c.in-Some.candidate c.in-Some.ensures.moved c.loop-candidate.invariant.0 in
+    let within = slice_get_within c.args.supplements.now c.in-Some.candidate.rule taken.0 taken.1 in
+    subst (λ (r : Supplement). SupplementFits (length c.args.set.now) r) (sym c.index-supplements-candidate.is) (c.requires.fit c.in-Some.candidate.rule c.index-supplements-candidate.result within)
+
+pub returns-then-fires-clause-value : goal.returns-then-fires-clause-value
+returns-then-fires-clause-value c =
+    let rules = c.args.supplements.now in
+    let taken = candidate_taken rules c.loop-candidate.worklist c.pop.new.self c.in-Some.candidate c.in-Some.ensures.moved c.loop-candidate.invariant.0 in
+    let there = slice_get_read rules (length rules) c.in-Some.candidate.rule c.index-supplements-candidate.result refl (slice_get_within rules c.in-Some.candidate.rule taken.0 taken.1) c.index-supplements-candidate.is in
+    next_is_first rules c.args.day c.args.set.now c.loop-candidate.worklist c.pop.new.self c.in-Some.candidate c.index-supplements-candidate.result there (sym c.fires.ensures ∙ c.if-fires.true)
+    c.in-Some.ensures.moved c.in-Some.ensures.first c.loop-candidate.invariant.0 c.loop-candidate.invariant.1
+
+pub returns-then-fires-clause-candidates : goal.returns-then-fires-clause-candidates
+returns-then-fires-clause-candidates c = candidates_left c.args.supplements.now c.loop-candidate.worklist c.pop.new.self c.in-Some.candidate c.in-Some.ensures.moved c.loop-candidate.invariant.0
+
+pub returns-then-fires-clause-others : goal.returns-then-fires-clause-others
+returns-then-fires-clause-others c = others_left c.args.supplements.now c.args.day c.args.set.now c.loop-candidate.worklist c.pop.new.self c.in-Some.candidate c.in-Some.ensures.moved c.loop-candidate.invariant.1
+
+pub loop-candidate-smaller : goal.loop-candidate-smaller
+loop-candidate-smaller c = omega (arith, length_permutation c.loop-candidate.worklist _ c.in-Some.ensures.moved)
+
+pub loop-candidate-preserved : goal.loop-candidate-preserved
+loop-candidate-preserved c =
+    let rules = c.args.supplements.now in
+    let taken = candidate_taken rules c.loop-candidate.worklist c.pop.new.self c.in-Some.candidate c.in-Some.ensures.moved c.loop-candidate.invariant.0 in
+    let there = slice_get_read rules (length rules) c.in-Some.candidate.rule c.index-supplements-candidate.result refl (slice_get_within rules c.in-Some.candidate.rule taken.0 taken.1) c.index-supplements-candidate.is in (
+      candidates_left rules c.loop-candidate.worklist c.pop.new.self c.in-Some.candidate c.in-Some.ensures.moved c.loop-candidate.invariant.0,
+      still_held rules c.args.day c.args.set.now c.loop-candidate.worklist c.pop.new.self c.in-Some.candidate c.index-supplements-candidate.result there (sym c.fires.ensures ∙ c.if-fires.false) c.in-Some.ensures.moved c.loop-candidate.invariant.1,
+    )
+
+pub returns-clause-value : goal.returns-clause-value
+returns-clause-value c = none_held c.args.supplements.now c.args.day c.args.set.now c.loop-candidate.worklist c.in_default.ensures.none c.loop-candidate.invariant.1

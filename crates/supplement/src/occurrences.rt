@@ -1,0 +1,120 @@
+//! From codes to the rules in whose formulas they occur.
+ghost use Rattle.std.specs.Prelude.{◌≡◌, ◌<◌, ◌≤◌, ℕ, [], length, replicate, slice_get, Contains, IfOk, OnOk, IsTrue, All};
+ghost use Rattle.pb_base.specs.Rule.{codes_below};
+ghost use Rattle.pb_base.specs.Node.{is_below};
+ghost use Rattle.pb_base.specs.declared.limits.TheConstants.{MOST_SUPPLEMENTS};
+ghost use Rattle.book_model.specs.Book.{SupplementFits};
+ghost use Rattle.book_model.specs.declared.record.Supplement.{Supplement};
+ghost use Rattle.supplement.specs.declared.worklist.Candidate.{Candidate};
+ghost use Rattle.supplement.specs.Occurrences.{occurs, is_code, Lists, AreLinked, Notes, AreOccurrences};
+ghost use Rattle.supplement.specs.Worklist.{candidate_of, AreCandidates};
+
+use crate::worklist::{Candidate, Worklist};
+use book_model::{Supplement, active};
+use pb_base::{Day, Formula, Memory, Node};
+use std::alloc::Global;
+
+/// A rule in whose formula a code occurs.
+#[derive(Clone, Copy)]
+pub struct Entry {
+    /// The place of the rule among the supplementing rules, counted from 0.
+    pub rule: u32,
+    /// The place of the next entry of the same code.
+    pub next: Option<usize>,
+}
+
+/// For each code the active supplementing rules in whose formulas it occurs. The entries of all codes stand in one vector, those of a code linked from its head.
+#[derive(Drop)]
+pub struct OccurrenceLists {
+    /// For each code the place of its first entry.
+    pub heads: Vec<Option<usize>>,
+    pub entries: Vec<Entry>,
+}
+
+impl OccurrenceLists {
+    /// The lists of the rules that are active on this day, over so many codes.
+    pub fn of(
+        alloc: Global,
+        codes: u32,
+        supplements: &[Supplement],
+        day: Day,
+    ) -> Result<OccurrenceLists, Memory>
+        requires fit { All (SupplementFits codes) supplements.now }
+        requires places { length supplements.now ≤ MOST_SUPPLEMENTS }
+        ensures { IfOk result (AreOccurrences codes supplements.now day) }
+    {
+        let mut lists = empty_lists(alloc, codes)?;
+        for (place, supplement) in supplements.iter().enumerate() {
+            if active(supplement.from, supplement.until, day) {
+                lists.note_codes(&supplement.rule, place as u32)?;
+            }
+        }
+        Ok(lists)
+    }
+
+    /// Puts the rules in whose formulas a code occurs to the others that are to be tried.
+    pub fn add_rules_of(
+        &self,
+        code: u32,
+        supplements: &[Supplement],
+        worklist: &mut Worklist,
+    ) -> Result<(), Memory>
+        requires linked { AreLinked (length self.now.heads.items) (length supplements.now) self.now }
+        requires in_range { code < length self.now.heads.items }
+        requires candidates { AreCandidates supplements.now worklist.old }
+        ensures candidates { OnOk result (AreCandidates supplements.now worklist.new) }
+        ensures keeps { OnOk result ((c : Candidate) → Contains worklist.old c → Contains worklist.new c) }
+        ensures added { OnOk result ((p : ℕ) (s : Supplement) → Lists self.now code p → slice_get supplements.now p ≡ Some s → Contains worklist.new (candidate_of p s)) }
+    {
+        let mut at = self.heads[code as usize];
+        while let Some(place) = at {
+            let entry = self.entries[place];
+            let rank = supplements[entry.rule as usize].rank;
+            worklist.push(Candidate {
+                rank,
+                rule: entry.rule,
+            })?;
+            at = entry.next;
+        }
+        Ok(())
+    }
+
+    // Notes the rule at each code of a formula.
+    fn note_codes(&mut self, formula: &Formula, rule: u32) -> Result<(), Memory>
+        requires { IsTrue (codes_below (length self.old.heads.items) formula.now) }
+        ensures { OnOk result (Notes self.old self.new rule (λ c. occurs c formula.now)) }
+    {
+        for node in formula.nodes() {
+            self.note_node(*node, rule)?;
+        }
+        Ok(())
+    }
+
+    // Notes the rule at a node that is a code.
+    #[inline(always)]
+    fn note_node(&mut self, node: Node, rule: u32) -> Result<(), Memory>
+        requires { IsTrue (is_below (length self.old.heads.items) node) }
+        ensures { OnOk result (Notes self.old self.new rule (λ c. is_code c node)) }
+    {
+        let Node::Code(code) = node else {
+            return Ok(());
+        };
+        let place = self.entries.len();
+        let next = self.heads[code as usize];
+        self.entries.push(Entry { rule, next })?;
+        self.heads[code as usize] = Some(place);
+        Ok(())
+    }
+}
+
+// The lists that have no rule.
+fn empty_lists(alloc: Global, codes: u32) -> Result<OccurrenceLists, Memory>
+    ensures heads { IfOk result (λ lists. lists.heads.items ≡ replicate codes None) }
+    ensures entries { IfOk result (λ lists. lists.entries.items ≡ []) }
+{
+    let heads = vec![in alloc; None; codes as usize]?;
+    Ok(OccurrenceLists {
+        heads,
+        entries: Vec::new(alloc),
+    })
+}

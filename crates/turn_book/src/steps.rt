@@ -1,0 +1,109 @@
+//! The steps of a call, between the ticket and the end of the turn.
+ghost use Rattle.std.specs.Prelude.{◌≡◌, ◌≤◌, [], Some};
+ghost use Rattle.turn_book.specs.History.{IsRun, entry};
+ghost use Rattle.turn_book.specs.Steps.{IsAt, IsSameSeat, machine_at, Holds, TakesTurn, MakesCall, HoldsStep, has_counted, kept_of, share_of};
+ghost use Rattle.turn_book.specs.declared.view.Stage.TheVariants.{Idle, Waits, Turn};
+
+use crate::machine::Machine;
+use crate::plays::{Count, Look, Noted, Opens, PassOn, Portion, Share};
+use crate::slot::{empty, full};
+use crate::view::{LENGTH, MACHINE, Opening, SERVING, Turns, View};
+use atomic_table::{Seat, Shared};
+use std::marker::Brand;
+use std::snapshot::Snapshot;
+use std::sync::Wait;
+use std::thread;
+
+type TurnTable<M> = Shared<
+    Option<M>,
+    View<M, <M as Machine>::Call, <M as Machine>::Reply>,
+    Opening<M>,
+    Turns<M>,
+>;
+
+type TurnSeat<M> = Seat<Option<M>, View<M, <M as Machine>::Call, <M as Machine>::Reply>>;
+
+// Looks at the ticket that is served, until it is this seat's.
+pub(crate) fn wait_turn<M: Machine, B: Opens<M>, R: Wait>(
+    rt: &R,
+    table: &TurnTable<M>,
+    seat: &mut TurnSeat<M>,
+    ticket: u64,
+)
+    requires table { IsAt table.now.table_id seat.old.table_id }
+    requires start { B.start ≡ Some table.now.key.start.value }
+    requires ticket { (seat.old.me.0.stage ≡ Waits) × (seat.old.me.0.ticket ≡ ticket) }
+    ensures seat { IsSameSeat seat.old seat.new }
+    ensures turn { let is_run = IsRun M.fits M.legal M.valid in
+        TakesTurn is_run table.now.key.start.value seat.old.me seat.new.me }
+{
+    for _ in rt.forever() {
+        if table.load::<Look<M, B>>(seat, SERVING) == ticket {
+            return;
+        }
+        thread::yield_now();
+    }
+    unreachable!()
+}
+
+// The machine's step, out of the table and back into it, and the end of the turn.
+pub(crate) fn take_turn<M: Machine>(
+    table: &TurnTable<M>,
+    seat: &mut TurnSeat<M>,
+    call: M::Call,
+) -> M::Reply
+    requires table { IsAt table.now.table_id seat.old.table_id }
+    requires turn { seat.old.me.0.stage ≡ Turn }
+    requires machine { Holds seat.old.me (machine_at table.now.key.start.value seat.old.me) }
+    requires valid { M.valid (machine_at table.now.key.start.value seat.old.me) }
+    requires call { M.fits (machine_at table.now.key.start.value seat.old.me) call }
+    ensures seat { IsSameSeat seat.old seat.new }
+    ensures call { let before = machine_at table.now.key.start.value seat.old.me in
+        MakesCall (M.legal before) call result seat.old.me seat.new.me }
+{
+    let mut machine = full(table.exchange(seat, MACHINE, None));
+    let asked = Snapshot::of(&call);
+    let reply = machine.step(call);
+    let said = Snapshot::of(&reply);
+    empty(table.exchange(seat, MACHINE, Some(machine)));
+    count::<M, Brand>(table, seat, &asked, &said);
+    table.fetch_add::<PassOn>(seat, SERVING, 1);
+    reply
+}
+
+// Puts the call with its reply into the history.
+fn count<M: Machine, N: Noted<M::Call, M::Reply>>(
+    table: &TurnTable<M>,
+    seat: &mut TurnSeat<M>,
+    asked: &Snapshot<M::Call>,
+    said: &Snapshot<M::Reply>,
+)
+    requires table { IsAt table.now.table_id seat.old.table_id }
+    requires noted { (N.call ≡ Some asked.now.value) × (N.reply ≡ Some said.now.value) }
+    requires turn { seat.old.me.0.stage ≡ Turn }
+    requires step { HoldsStep M.fits M.legal table.now.key.start.value
+        (asked.now.value, said.now.value) seat.old.me }
+    ensures seat { IsSameSeat seat.old seat.new }
+    ensures counted { (y : M) → Holds seat.old.me y
+        → let last = entry asked.now.value said.now.value y in
+        seat.new.me ≡ (has_counted last seat.old.me.0, seat.old.me.1) }
+{
+    table.fetch_add::<Count<N>>(seat, LENGTH, 1);
+}
+
+// A second seat, which has `left` of the first one's calls.
+pub(crate) fn cut<M: Machine, P: Portion>(
+    table: &TurnTable<M>,
+    seat: &mut TurnSeat<M>,
+    left: u64,
+) -> TurnSeat<M>
+    requires table { IsAt table.now.table_id seat.old.table_id }
+    requires portion { P.given ≡ left }
+    requires left { left ≤ seat.old.me.0.left }
+    requires idle { seat.old.me.0.stage ≡ Idle }
+    ensures seat { IsSameSeat seat.old seat.new }
+    ensures first { seat.new.me ≡ (kept_of left seat.old.me.0, seat.old.me.1) }
+    ensures second { (result.table_id ≡ seat.old.table_id) × (result.me ≡ (share_of left seat.old.me.0, [])) }
+{
+    table.split_seat::<Share<P>>(seat)
+}
