@@ -39,7 +39,7 @@ pub fn read_rule(alloc: Global, text: &[u8], codes: &CodeTable) -> Result<Formul
             at += token.len();
         }
     }
-    reader.finish(alloc, text.len() as u32)
+    reader.finish(text.len() as u32)
 }
 
 fn is_all_blank(text: &[u8]) -> bool

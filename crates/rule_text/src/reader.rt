@@ -49,7 +49,7 @@ impl Reader {
             stage: Stage::Awaiting,
             pending: ArrayVec::new(),
             nodes: 0,
-            expression: Expression::new(),
+            expression: Expression::new(alloc),
             outer: Vec::new(alloc),
         }
     }
@@ -73,7 +73,7 @@ impl Reader {
     }
 
     // The formula, if the text may end here.
-    pub(crate) fn finish(mut self, alloc: Global, end: u32) -> Result<Formula, Fail<RuleFault>>
+    pub(crate) fn finish(self, end: u32) -> Result<Formula, Fail<RuleFault>>
         ensures { Answers result (finish end (state_of self)) }
     {
         match self.stage {
@@ -85,7 +85,7 @@ impl Reader {
             }
             Stage::Ended => {}
         }
-        Ok(self.expression.take_whole(alloc)?)
+        Ok(self.expression.into_formula()?)
     }
 
     #[inline(always)]
@@ -101,7 +101,7 @@ impl Reader {
         match token {
             Token::Word(name) => self.word(alloc, at, name, codes),
             Token::Minus => self.minus(at),
-            Token::Opening => self.opening(at),
+            Token::Opening => self.opening(alloc, at),
             _ => refused(token.misplaced(at)),
         }
     }
@@ -124,7 +124,8 @@ impl Reader {
         }
         self.nodes += 1;
         let signs = take_signs(&mut self.pending);
-        self.expression.add_word(alloc, leaf, signs)?;
+        let before = mem::replace(&mut self.expression, Expression::new(alloc));
+        self.expression = before.with_word(leaf, signs)?;
         self.stage = Stage::Complete;
         Ok(())
     }
@@ -146,13 +147,13 @@ impl Reader {
     }
 
     #[inline(always)]
-    fn opening(&mut self, at: u32) -> Result<(), Fail<RuleFault>>
+    fn opening(&mut self, alloc: Global, at: u32) -> Result<(), Fail<RuleFault>>
         ensures { (names : List (List ℕ)) → Leaves result (state_of self.new) (step names (state_at Awaiting self.old) (at, opening)) }
     {
         if self.pending.is_full() {
             return refused(RuleFault::TooDeep(at));
         }
-        let outer = mem::replace(&mut self.expression, Expression::new());
+        let outer = mem::replace(&mut self.expression, Expression::new(alloc));
         self.outer.push(outer)?;
         self.pending.push(Pending::Bracket);
         self.stage = Stage::Awaiting;
@@ -197,7 +198,8 @@ impl Reader {
             return refused(RuleFault::TooLong(at));
         }
         self.nodes += 1;
-        self.expression.add_slash(alloc)?;
+        let before = mem::replace(&mut self.expression, Expression::new(alloc));
+        self.expression = before.with_slash()?;
         self.stage = Stage::Awaiting;
         Ok(())
     }
@@ -210,11 +212,10 @@ impl Reader {
             return refused(RuleFault::Expected(at));
         };
         self.pending.pop();
-        let factor = self.expression.take_whole(alloc)?;
-        self.expression = self.outer.pop().unwrap_or(Expression::new());
+        let outer = self.outer.pop().unwrap_or(Expression::new(alloc));
+        let inner = mem::replace(&mut self.expression, Expression::new(alloc));
         let signs = take_signs(&mut self.pending);
-        let factor = factor.negated(signs)?;
-        self.expression.add_factor(alloc, factor)?;
+        self.expression = outer.with_bracket(inner, signs)?;
         self.stage = Stage::Complete;
         Ok(())
     }
