@@ -1,5 +1,5 @@
 -- The list of nodes of an expression that is read.
-use Rattle.std.proofs.Common.{◌≡◌, Bool, true, false, cond, ltb, ℕ, zero, suc, ◌+◌, ◌<◌, ◌≤◌, List, [], ◌∷◌, ◌++◌, length, length-append, take, drop, ◌-◌, append_assoc, Option, Some, None, refl, sym, ap, subst, ◌∙◌, arith}
+use Rattle.std.proofs.Common.{◌≡◌, Bool, true, false, cond, ltb, ℕ, zero, suc, ◌<◌, ◌≤◌, List, [], ◌∷◌, ◌++◌, length, length-append, take, drop, ◌-◌, append_assoc, Option, Some, None, refl, sym, ap, subst, ◌∙◌, arith}
 use Rattle.std.specs.Prelude.{unwrap_or}
 use Rattle.std.proofs.Math.ListN.{set}
 use Rattle.std.proofs.lemmas.List.{take-append-le, set_split}
@@ -9,7 +9,7 @@ use Rattle.pb_base.specs.Node.{size_with, nodes_of, rule_of}
 use Rattle.pb_base.specs.declared.node.Node.{Node}
 use Rattle.pb_base.specs.declared.node.Node.TheVariants.{No, WhenTrue, WhenFalse, And, Or}
 use Rattle.pb_base.proofs.Nodes.{reads, length-nodes_of, both_joined, either_joined}
-use Rattle.rule_text.specs.Reading.{Open, joined, whole, with_factor, with_slash, nothing}
+use Rattle.rule_text.specs.Reading.{Open, joined, whole, with_factor}
 use Rattle.std.proofs.lemmas.Bool.Decides.{nat_tests}
 use Rattle.rule_text.specs.Draft.{with_nodes, with_term, rule_in, nodes_in, left_in, open_in, IsLeft, IsDraft}
 
@@ -47,9 +47,10 @@ pub extended : (start : ℕ) (ns xs : List Node) (rule : Rule) → IsLeft start 
 extended zero ns xs rule is_left are = ((tt, is_kept (ns ++ xs) rule are), open-of None _ _ (is_product (ns ++ xs) rule are))
 extended (suc at) ns xs rule (inside, left) are =
     let front : take at (ns ++ xs) ≡ take at ns = take-append-le at ns xs (omega arith) in
-    let back : drop (suc at) (ns ++ xs) ≡ nodes_of rule = drop-append (suc at) ns xs (omega arith) ∙ are in
-    (((omega (arith, length-append ns xs), front ∙ left ∙ ap (λ side. nodes_of (rule_of side)) (sym front)), is_kept _ rule back),
-    ap (λ side. record { left = Some (rule_of side); product = rule_in (drop (suc at) (ns ++ xs)) }) front ∙ open-of (Some (rule_of (take at ns))) _ _ (is_product _ rule back))
+    let back : drop (suc at) (ns ++ xs) ≡ nodes_of rule = drop-append (suc at) ns xs (omega arith) ∙ are in (
+      ((omega (arith, length-append ns xs), front ∙ left ∙ ap (λ side. nodes_of (rule_of side)) (sym front)), is_kept _ rule back),
+      ap (λ side. record { left = Some (rule_of side); product = rule_in (drop (suc at) (ns ++ xs)) }) front ∙ open-of (Some (rule_of (take at ns))) _ _ (is_product _ rule back),
+    )
 
 no_term : (start : ℕ) (ns : List Node) → length ns ≤ start → drop start ns ≡ []
 no_term zero [] short = refl
@@ -115,10 +116,11 @@ behind_slash ns rule jump start are is_start =
     let long : length all ≡ suc (length ns) = omega (arith, length-append ns (jump ∷ [])) in
     let front : take (length ns) all ≡ ns = take-append_seam ns (jump ∷ []) in
     let none : drop (suc (length ns)) all ≡ [] = no_term (suc (length ns)) all (omega arith) in
-    let fits : IsDraft (suc (length ns)) all × (open_in (suc (length ns)) all ≡ record { left = Some rule; product = None }) =
-    (((omega arith, front ∙ are ∙ ap nodes_of (sym (reads rule (take (length ns) all) (front ∙ are)))), none ∙ ap (λ side. nodes_in (rule_in side)) (sym none)),
-    ap (λ side. record { left = Some (rule_of (take (length ns) all)); product = rule_in side }) none
-    ∙ ap (λ r. record { left = Some r; product = None }) (reads rule (take (length ns) all) (front ∙ are))) in
+    let fits : IsDraft (suc (length ns)) all × (open_in (suc (length ns)) all ≡ record { left = Some rule; product = None }) = (
+      ((omega arith, front ∙ are ∙ ap nodes_of (sym (reads rule (take (length ns) all) (front ∙ are)))), none ∙ ap (λ side. nodes_in (rule_in side)) (sym none)),
+      ap (λ side. record { left = Some (rule_of (take (length ns) all)); product = rule_in side }) none
+          ∙ ap (λ r. record { left = Some r; product = None }) (reads rule (take (length ns) all) (front ∙ are)),
+    ) in
     subst (λ k. IsDraft k all × (open_in k all ≡ record { left = Some rule; product = None })) (sym (is_start ∙ long)) fits
 
 -- the jump over the last term gets its size, and the connective closes the list

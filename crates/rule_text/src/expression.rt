@@ -4,7 +4,7 @@ ghost use Rattle.pb_base.specs.Rule.{negated};
 ghost use Rattle.pb_base.specs.Node.{nodes_of, rule_of_leaf, leaf_node};
 ghost use Rattle.pb_base.specs.declared.node.Node.TheVariants.{Not};
 ghost use Rattle.rule_text.specs.Reading.{nothing, whole, with_factor, with_slash};
-ghost use Rattle.rule_text.specs.Draft.{with_term, with_nodes};
+ghost use Rattle.rule_text.specs.Draft.{open_in, with_term, with_nodes, IsDraft};
 
 use pb_base::{Formula, Leaf, Memory, Node};
 use std::alloc::Global;
@@ -43,34 +43,61 @@ impl Expression {
         }
     }
 
-    // With a factor more, of one word under this many minus signs.
-    #[inline(always)]
-    pub(crate) fn with_word(mut self, leaf: Leaf, signs: u32) -> Result<Expression, Memory>
-        ensures { IfOk result (λ e. e ≡ with_factor self (negated signs (rule_of_leaf leaf))) }
+    // Nothing was read yet, and there is room for this many nodes.
+    pub(crate) fn with_room(alloc: Global, room: usize) -> Result<Expression, Memory>
+        ensures { IfOk result (λ e. e ≡ nothing) }
     {
-        join_word(&mut self.nodes, self.start, leaf, signs)?;
-        Ok(self)
+        let nodes = Vec::with_capacity(alloc, room)?;
+        Ok(Expression { nodes, start: 0 })
     }
 
-    // With a factor more, which stood in brackets, under this many minus signs.
-    pub(crate) fn with_bracket(mut self, inner: Expression, signs: u32) -> Result<Expression, Memory>
-        ensures { IfOk result (λ e. e ≡ with_factor self (negated signs (whole inner))) }
+    // A factor more, of one word under this many minus signs. On want of memory, here and below, nothing is left of the expression.
+    #[inline(always)]
+    pub(crate) fn add_word(&mut self, leaf: Leaf, signs: u32) -> Result<(), Memory>
+        ensures { OnOk result (self.new ≡ with_factor self.old (negated signs (rule_of_leaf leaf))) }
+    {
+        match join_word(&mut self.nodes, self.start, leaf, signs) {
+            Ok(()) => Ok(()),
+            Err(memory) => {
+                self.nodes.clear();
+                self.start = 0;
+                Err(memory)
+            }
+        }
+    }
+
+    // A factor more, which stood in brackets, under this many minus signs.
+    pub(crate) fn add_bracket(&mut self, inner: Expression, signs: u32) -> Result<(), Memory>
+        ensures { OnOk result (self.new ≡ with_factor self.old (negated signs (whole inner))) }
     {
         let mut factor = inner.into_nodes()?;
         push_signs(&mut factor, signs)?;
-        join_nodes(&mut self.nodes, self.start, &factor)?;
-        Ok(self)
+        match join_nodes(&mut self.nodes, self.start, &factor) {
+            Ok(()) => Ok(()),
+            Err(memory) => {
+                self.nodes.clear();
+                self.start = 0;
+                Err(memory)
+            }
+        }
     }
 
     // A further term begins.
     #[inline(always)]
-    pub(crate) fn with_slash(self) -> Result<Expression, Memory>
-        ensures { IfOk result (λ e. e ≡ with_slash self) }
+    pub(crate) fn add_slash(&mut self) -> Result<(), Memory>
+        ensures { OnOk result (self.new ≡ with_slash self.old) }
     {
-        let mut nodes = self.into_nodes()?;
-        nodes.push(Node::WhenFalse(0))?;
-        let start = nodes.len();
-        Ok(Expression { nodes, start })
+        match begin_term(&mut self.nodes, self.start) {
+            Ok(start) => {
+                self.start = start;
+                Ok(())
+            }
+            Err(memory) => {
+                self.nodes.clear();
+                self.start = 0;
+                Err(memory)
+            }
+        }
     }
 
     // The formula, if it ends here.
@@ -80,52 +107,67 @@ impl Expression {
         Ok(Formula::of_nodes(self.into_nodes()?))
     }
 
-    // Its nodes, if it ends here. A term without a factor, which no text has, counts as FALSE.
-    #[inline(always)]
+    // Its nodes, if it ends here.
     fn into_nodes(self) -> Result<Vec<Node>, Memory>
         ensures { IfOk result (λ nodes. nodes.items ≡ nodes_of (whole self)) }
     {
-        let start = self.start;
-        let mut nodes = with_term(self.nodes, start)?;
-        if start == 0 {
-            return Ok(nodes);
-        }
-        let size = size_of(&nodes[start..])?;
-        nodes[start - 1] = Node::WhenFalse(size);
-        nodes.push(Node::Or(size))?;
+        let mut nodes = self.nodes;
+        end_term(&mut nodes, self.start)?;
         Ok(nodes)
     }
 }
 
-// The nodes with a last term, which is FALSE where it has no factor.
+// Puts FALSE for the last term, which begins at this place, where it has no factor. No text of the grammar has such a term.
 #[inline(always)]
-fn with_term(mut nodes: Vec<Node>, start: usize) -> Result<Vec<Node>, Memory>
-    ensures { IfOk result (λ ns. ns.items ≡ with_term start nodes.items) }
+fn fill_term(nodes: &mut Vec<Node>, start: usize) -> Result<(), Memory>
+    ensures { OnOk result (nodes.new.items ≡ with_term start nodes.old.items) }
 {
-    if nodes.len() > start {
-        return Ok(nodes);
+    if nodes.len() <= start {
+        nodes.push(Node::No)?;
     }
-    nodes.push(Node::No)?;
-    Ok(nodes)
+    Ok(())
+}
+
+// Ends the last term, which begins at this place: the jump over it gets its size.
+#[inline(always)]
+fn end_term(nodes: &mut Vec<Node>, start: usize) -> Result<(), Memory>
+    requires { IsDraft start nodes.old.items }
+    ensures { OnOk result (nodes.new.items ≡ nodes_of (whole (open_in start nodes.old.items))) }
+{
+    fill_term(nodes, start)?;
+    if start == 0 {
+        return Ok(());
+    }
+    let size = size_of(&nodes[start..])?;
+    nodes[start - 1] = Node::WhenFalse(size);
+    nodes.push(Node::Or(size))?;
+    Ok(())
+}
+
+// Ends the last term, which begins at this place, and begins a further one, whose place it answers.
+#[inline(always)]
+fn begin_term(nodes: &mut Vec<Node>, start: usize) -> Result<usize, Memory>
+    requires { IsDraft start nodes.old.items }
+    ensures draft { IfOk result (λ next. IsDraft next nodes.new.items) }
+    ensures read { IfOk result (λ next. open_in next nodes.new.items ≡ with_slash (open_in start nodes.old.items)) }
+{
+    end_term(nodes, start)?;
+    nodes.push(Node::WhenFalse(0))?;
+    Ok(nodes.len())
 }
 
 // Joins a factor of one word to the last term, which begins at this place.
 #[inline(always)]
-fn join_word(
-    nodes: &mut Vec<Node>,
-    start: usize,
-    leaf: Leaf,
-    signs: u32,
-) -> Result<(), Memory>
+fn join_word(nodes: &mut Vec<Node>, start: usize, leaf: Leaf, signs: u32) -> Result<(), Memory>
     ensures { OnOk result (nodes.new.items ≡ with_nodes start nodes.old.items (leaf_node leaf ∷ replicate signs Not)) }
 {
     if nodes.len() <= start {
         return push_word(nodes, leaf, signs);
     }
-    let size = signs.checked_add(1).ok_or(Memory)?;
-    nodes.push(Node::WhenTrue(size))?;
+    let word_size = signs.checked_add(1).ok_or(Memory)?;
+    nodes.push(Node::WhenTrue(word_size))?;
     push_word(nodes, leaf, signs)?;
-    nodes.push(Node::And(size))?;
+    nodes.push(Node::And(word_size))?;
     Ok(())
 }
 
