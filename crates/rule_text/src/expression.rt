@@ -186,7 +186,7 @@ fn join_nodes(nodes: &mut Vec<Node>, start: usize, factor: &[Node]) -> Result<()
     Ok(())
 }
 
-// The number of nodes of a side.
+// The number of nodes of a side. One of 2^32, which no text of 512 words and signs makes, counts as want of memory.
 #[inline(always)]
 fn size_of(nodes: &[Node]) -> Result<u32, Memory>
     ensures { IfOk result (λ size. size ≡ length nodes.now) }
