@@ -102,7 +102,8 @@ impl Kernel {
     /// Appends the resolvent of a chain, which begins with the clause at `start` and goes through the pairs in order.
     pub fn resolve(&mut self, start: Ref, pairs: &[Pair]) -> Result<Ref, Fail<StepFault>>
         requires { 0 < length pairs.now }
-        ensures answer { Answers result (placed (chain self.old.clauses start pairs.now) (length self.old.clauses)) }
+        ensures answer { Answers result
+            (placed (chain self.old.clauses start pairs.now) (length self.old.clauses)) }
         ensures ok { OnOk result (IfOk (chain self.old.clauses start pairs.now)
             (λ c. self.new ≡ grown self.old start pairs.now c)) }
         ensures bounds { KeepsBounds self.old.clauses self.new.clauses }
