@@ -118,7 +118,7 @@ fn put_step(text: &mut Text, kernel: &Kernel, at: Ref) -> Result<(), Memory>
         OnOk result (text.new ≡ text.old ++ line_of (codes "step") (decimal start ∷ pair_words pairs)) }
     ensures fit { let n = at - kernel.now.given in
         OnOk result (LineFits (step_line (slice_index kernel.now.starts n)
-            (slice_index_or kernel.now.pairs n []))) }
+        (slice_index_or kernel.now.pairs n []))) }
 {
     match kernel.start_of(at) {
         Some(start) => put_step_line(text, start, kernel.pairs_of(at)),
