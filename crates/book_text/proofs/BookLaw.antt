@@ -13,7 +13,9 @@ use Rattle.book_model.specs.declared.record.Module.{Module}
 use Rattle.book_model.specs.declared.record.Position.{Position}
 use Rattle.book_model.specs.declared.record.Variant.{Variant}
 use Rattle.book_text.specs.Rows.{Row, rows_of}
-use Rattle.book_text.specs.Fault.{and_then, at_row}
+use Rattle.pb_base.specs.Results.{and_then}
+use Rattle.pb_base.specs.declared.limits.TheConstants.{MOST_TEXT_BYTES}
+use Rattle.book_text.specs.Fault.{at_row}
 use Rattle.book_text.specs.Fields.{field, is_width, name_in, day_in, term_in}
 use Rattle.book_text.specs.Kind.{kind_of}
 use Rattle.book_text.specs.Entry.{book_in, heading_of_kind, heading_of}
@@ -115,6 +117,12 @@ passes-book heading rows names records ordered first second =
     whole-book heading names records ordered (first_pass-fits heading.term rows names first)
     (second_pass-fits heading.term names rows records second) (passes-named heading.term names rows records first second)
 
+-- it has as many positions as their names are
+pub passes-positions : (term : Days) (rows : List Row) (names : Names) (records : Records)
+    → first_pass term rows ≡ Ok names → second_pass term names rows ≡ Ok records → length names.positions ≡ length records.positions
+passes-positions term rows names records first second =
+    sym (as-many (λ (p : Position). p.id) records.positions names.positions (passes-named term names rows records first second).positions)
+
 -- what the rows of a text read as, if they have no fault, is a book
 pub rows-book : (rows : List Row) (b : Contents) → book_of_rows rows ≡ Ok b → IsBook b
 rows-book [] b h = cc
@@ -135,4 +143,4 @@ whole-by false true rows b h = rows-book rows b h
 
 pub book_of-book : (text : List ℕ) (b : Contents) → book_of text ≡ Ok b → IsBook b
 unfolding book_of
-book_of-book text b h = whole-by (nat_lt 1048576 (length text)) (is_utf8 text) (rows_of text) b h
+book_of-book text b h = whole-by (nat_lt MOST_TEXT_BYTES (length text)) (is_utf8 text) (rows_of text) b h

@@ -1,7 +1,7 @@
 -- Names that stay distinct as they are added.
-use Rattle.std.proofs.Common.{◌≡◌, ℕ, ◌+◌, Bool, true, false, List, [], ◌∷◌, ◌++◌, Option, Some, None, cond, refl, sym, ap, ◌∙◌}
-use Rattle.std.specs.Prelude.{is_some, is_none, not, ◌||◌}
-use Rattle.std.specs.List.{IsDistinct, AllByRecursion, list_any, position_from}
+use Rattle.std.proofs.Common.{◌≡◌, ℕ, ◌+◌, Bool, true, false, List, [], ◌∷◌, ◌++◌, Option, Some, None, cond, refl, sym, ◌∙◌}
+use Rattle.std.specs.Prelude.{is_some}
+use Rattle.std.specs.List.{IsDistinct, AllByRecursion, position_from}
 use Rattle.std.specs.Cmp.Lexicographic.{nat_list_eq_equiv}
 use Rattle.std.proofs.lemmas.Iterator.Adapters.{position_from-zero}
 use Rattle.pb_base.specs.Names.{same_name, place_in}
@@ -61,15 +61,3 @@ AllByRecursion-append P (x ∷ xs) ys h g = (h.0, AllByRecursion-append P xs ys 
 
 pub absent-append : (xs ys : List (List ℕ)) (x : List ℕ) → IsAbsent x xs → IsAbsent x ys → IsAbsent x (xs ++ ys)
 absent-append xs ys x = AllByRecursion-append (λ y. same_name x y ≡ false) xs ys
-
-none-at : (b any : Bool) (i : ℕ) (rest : Option ℕ) → is_none rest ≡ not any → is_none (cond b (Some i) rest) ≡ not (b || any)
-none-at true any i rest h = refl
-none-at false any i rest h = h
-
-none-from : {X : Type 0} (test : X → Bool) (i : ℕ) (xs : List X) → is_none (position_from test i xs) ≡ not (list_any test xs)
-none-from test i [] = refl
-none-from test i (x ∷ xs) = none-at (test x) (list_any test xs) i (position_from test (i + 1) xs) (none-from test (i + 1) xs)
-
--- a name has no place where no name of the list is the same
-pub no-place : (names : List (List ℕ)) (name : List ℕ) → is_none (place_in names name) ≡ not (list_any (same_name name) names)
-no-place names name = ap is_none (position_from-zero (same_name name) names) ∙ none-from (same_name name) 0 names

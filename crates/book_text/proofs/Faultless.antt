@@ -1,7 +1,8 @@
 -- What was done where no fault was found, and what holds at the end of passes without a fault.
 use Rattle.std.proofs.Common.{◌≡◌, ◌+◌, ℕ, List, [], ◌∷◌, Result, Ok, Err, refl, ap, subst}
 use Rattle.book_text.specs.Rows.{Row}
-use Rattle.book_text.specs.Fault.{and_then, at_row}
+use Rattle.pb_base.specs.Results.{and_then}
+use Rattle.book_text.specs.Fault.{at_row}
 use Rattle.book_text.specs.Pass.{pass}
 use Rattle.book_text.specs.declared.fault.BookKind.{BookKind}
 

@@ -1,5 +1,5 @@
--- The field at a place, and the value of digits.
-use Rattle.std.proofs.Common.{◌≡◌, ◌≤◌, ◌<◌, ◌^◌, ℕ, zero, suc, List, [], ◌∷◌, Some, None, get_or, arith, refl}
+-- The field at a place.
+use Rattle.std.proofs.Common.{◌≡◌, ℕ, zero, suc, List, [], ◌∷◌, Some, None, get_or, refl}
 use Rattle.csv.specs.Records.{field_at}
 
 pub field-found : (fields : List (List ℕ)) (place : ℕ) (text : List ℕ) → field_at fields place ≡ Some text → text ≡ get_or fields place []
@@ -13,12 +13,3 @@ unfolding field_at
 field-past [] place h = refl
 field-past (f ∷ fs) zero h = cc
 field-past (f ∷ fs) (suc place) h = field-past fs place h
-
--- one of the first four powers of ten
-pub ten_power-small : (i : ℕ) → i < 5 → 10 ^ i ≤ 10000
-ten_power-small zero h = omega arith
-ten_power-small (suc zero) h = omega arith
-ten_power-small (suc (suc zero)) h = omega arith
-ten_power-small (suc (suc (suc zero))) h = omega arith
-ten_power-small (suc (suc (suc (suc zero)))) h = omega arith
-ten_power-small (suc (suc (suc (suc (suc i))))) h = absurd (omega arith)

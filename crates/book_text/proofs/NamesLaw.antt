@@ -4,6 +4,7 @@ use Rattle.std.specs.Prelude.{is_some, nat_le}
 use Rattle.std.specs.List.{IsDistinct}
 use Rattle.std.proofs.lemmas.List.{length_push}
 use Rattle.pb_base.specs.Names.{same_name, place_in}
+use Rattle.pb_base.specs.declared.limits.TheConstants.{MOST_CODES, MOST_SUPPLEMENTS, MOST_CONSTRUCTS, MOST_MODULES, MOST_POSITIONS, MOST_VARIANTS}
 use Rattle.book_text.specs.Rows.{Row}
 use Rattle.book_text.specs.Entry.{entry_of}
 use Rattle.book_text.specs.Names.{no_names, added, added_beside, entered}
@@ -51,16 +52,16 @@ pub record ListFits (limit : ℕ) (names : List (List ℕ)) : Type 0 where
   pub distinct : IsDistinct same_name names
 
 pub record RulesFit (supplements constructs : List (List ℕ)) : Type 0 where
-  pub supplements_within : length supplements ≤ 5000
-  pub constructs_within : length constructs ≤ 10000
+  pub supplements_within : length supplements ≤ MOST_SUPPLEMENTS
+  pub constructs_within : length constructs ≤ MOST_CONSTRUCTS
   pub distinct : IsDistinct same_name (supplements ++ constructs)
 
 pub record NamesFit (n : Names) : Type 0 where
-  pub codes : ListFits 2000 n.codes
+  pub codes : ListFits MOST_CODES n.codes
   pub rules : RulesFit n.supplements n.constructs
-  pub modules : ListFits 1000 n.modules
-  pub positions : ListFits 5000 n.positions
-  pub variants : ListFits 20000 n.variants
+  pub modules : ListFits MOST_MODULES n.modules
+  pub positions : ListFits MOST_POSITIONS n.positions
+  pub variants : ListFits MOST_VARIANTS n.variants
 
 ListFits-added : (limit : ℕ) (which : Which) (names : List (List ℕ)) (name : List ℕ) (new : List (List ℕ)) → ListFits limit names → added limit which names name ≡ Ok new → ListFits limit new
 ListFits-added limit which names name new fits h =
@@ -68,9 +69,9 @@ ListFits-added limit which names name new fits h =
     subst (ListFits limit) (sym more.is) (record { within = omega (arith, length_push names name, more.room); distinct = distinct-push names name fits.distinct more.absent })
 
 RulesFit-supplement : (supplements constructs : List (List ℕ)) (id : List ℕ) (new : List (List ℕ)) → RulesFit supplements constructs
-    → added_beside constructs 5000 Supplements supplements id ≡ Ok new → RulesFit new constructs
+    → added_beside constructs MOST_SUPPLEMENTS Supplements supplements id ≡ Ok new → RulesFit new constructs
 RulesFit-supplement supplements constructs id new fits h =
-    let (apart, more) = added_beside-Ok constructs 5000 Supplements supplements id new h in
+    let (apart, more) = added_beside-Ok constructs MOST_SUPPLEMENTS Supplements supplements id new h in
     subst (λ (l : List (List ℕ)). RulesFit l constructs) (sym more.is) (record {
       supplements_within = omega (arith, length_push supplements id, more.room);
       constructs_within = fits.constructs_within;
@@ -78,9 +79,9 @@ RulesFit-supplement supplements constructs id new fits h =
     })
 
 RulesFit-construct : (supplements constructs : List (List ℕ)) (id : List ℕ) (new : List (List ℕ)) → RulesFit supplements constructs
-    → added_beside supplements 10000 Constructs constructs id ≡ Ok new → RulesFit supplements new
+    → added_beside supplements MOST_CONSTRUCTS Constructs constructs id ≡ Ok new → RulesFit supplements new
 RulesFit-construct supplements constructs id new fits h =
-    let (apart, more) = added_beside-Ok supplements 10000 Constructs constructs id new h in
+    let (apart, more) = added_beside-Ok supplements MOST_CONSTRUCTS Constructs constructs id new h in
     subst (RulesFit supplements) (sym more.is) (record {
       supplements_within = fits.supplements_within;
       constructs_within = omega (arith, length_push constructs id, more.room);
@@ -89,35 +90,35 @@ RulesFit-construct supplements constructs id new fits h =
 
 NamesFit-entered : (n new : Names) (entry : Entry) → NamesFit n → entered n entry ≡ Ok new → NamesFit new
 NamesFit-entered n new (e.Code name) fits h =
-    let (l, is, whole) = and_then-Ok (added 2000 Codes n.codes name) (λ l. Ok (record n { codes = l })) new h in
+    let (l, is, whole) = and_then-Ok (added MOST_CODES Codes n.codes name) (λ l. Ok (record n { codes = l })) new h in
     let same : record n { codes = l } ≡ new = cc in
-    subst NamesFit same (record { codes = ListFits-added 2000 Codes n.codes name l fits.codes is; rules = fits.rules; modules = fits.modules; positions = fits.positions; variants = fits.variants })
+    subst NamesFit same (record { codes = ListFits-added MOST_CODES Codes n.codes name l fits.codes is; rules = fits.rules; modules = fits.modules; positions = fits.positions; variants = fits.variants })
 NamesFit-entered n new (e.Supplement id rank code days) fits h =
-    let (l, is, whole) = and_then-Ok (added_beside n.constructs 5000 Supplements n.supplements id) (λ l. Ok (record n { supplements = l })) new h in
+    let (l, is, whole) = and_then-Ok (added_beside n.constructs MOST_SUPPLEMENTS Supplements n.supplements id) (λ l. Ok (record n { supplements = l })) new h in
     let same : record n { supplements = l } ≡ new = cc in
     subst NamesFit same (record { codes = fits.codes; rules = RulesFit-supplement n.supplements n.constructs id l fits.rules is; modules = fits.modules; positions = fits.positions; variants = fits.variants })
 NamesFit-entered n new (e.Construct id on days) fits h =
-    let (l, is, whole) = and_then-Ok (added_beside n.supplements 10000 Constructs n.constructs id) (λ l. Ok (record n { constructs = l })) new h in
+    let (l, is, whole) = and_then-Ok (added_beside n.supplements MOST_CONSTRUCTS Constructs n.constructs id) (λ l. Ok (record n { constructs = l })) new h in
     let same : record n { constructs = l } ≡ new = cc in
     subst NamesFit same (record { codes = fits.codes; rules = RulesFit-construct n.supplements n.constructs id l fits.rules is; modules = fits.modules; positions = fits.positions; variants = fits.variants })
 NamesFit-entered n new (e.Module id) fits h =
-    let (l, is, whole) = and_then-Ok (added 1000 Modules n.modules id) (λ l. Ok (record n { modules = l })) new h in
+    let (l, is, whole) = and_then-Ok (added MOST_MODULES Modules n.modules id) (λ l. Ok (record n { modules = l })) new h in
     let same : record n { modules = l } ≡ new = cc in
-    subst NamesFit same (record { codes = fits.codes; rules = fits.rules; modules = ListFits-added 1000 Modules n.modules id l fits.modules is; positions = fits.positions; variants = fits.variants })
+    subst NamesFit same (record { codes = fits.codes; rules = fits.rules; modules = ListFits-added MOST_MODULES Modules n.modules id l fits.modules is; positions = fits.positions; variants = fits.variants })
 NamesFit-entered n new (e.Position id group mandatory days) fits h =
-    let (l, is, whole) = and_then-Ok (added 5000 Positions n.positions id) (λ l. Ok (record n { positions = l })) new h in
+    let (l, is, whole) = and_then-Ok (added MOST_POSITIONS Positions n.positions id) (λ l. Ok (record n { positions = l })) new h in
     let same : record n { positions = l } ≡ new = cc in
-    subst NamesFit same (record { codes = fits.codes; rules = fits.rules; modules = fits.modules; positions = ListFits-added 5000 Positions n.positions id l fits.positions is; variants = fits.variants })
+    subst NamesFit same (record { codes = fits.codes; rules = fits.rules; modules = fits.modules; positions = ListFits-added MOST_POSITIONS Positions n.positions id l fits.positions is; variants = fits.variants })
 NamesFit-entered n new (e.Variant id position part quantity days) fits h =
-    let (l, is, whole) = and_then-Ok (added 20000 Variants n.variants id) (λ l. Ok (record n { variants = l })) new h in
+    let (l, is, whole) = and_then-Ok (added MOST_VARIANTS Variants n.variants id) (λ l. Ok (record n { variants = l })) new h in
     let same : record n { variants = l } ≡ new = cc in
-    subst NamesFit same (record { codes = fits.codes; rules = fits.rules; modules = fits.modules; positions = fits.positions; variants = ListFits-added 20000 Variants n.variants id l fits.variants is })
+    subst NamesFit same (record { codes = fits.codes; rules = fits.rules; modules = fits.modules; positions = fits.positions; variants = ListFits-added MOST_VARIANTS Variants n.variants id l fits.variants is })
 
 no_names-fit : NamesFit no_names
 unfolding IsDistinct
 no_names-fit =
     let none : (limit : ℕ) → ListFits limit [] = λ limit. record { within = omega arith; distinct = tt } in
-    record { codes = none 2000; rules = record { supplements_within = omega arith; constructs_within = omega arith; distinct = tt }; modules = none 1000; positions = none 5000; variants = none 20000 }
+    record { codes = none MOST_CODES; rules = record { supplements_within = omega arith; constructs_within = omega arith; distinct = tt }; modules = none MOST_MODULES; positions = none MOST_POSITIONS; variants = none MOST_VARIANTS }
 
 pub first_pass-fits : (term : Days) (rows : List Row) (names : Names) → first_pass term rows ≡ Ok names → NamesFit names
 first_pass-fits term rows names h =

@@ -3,7 +3,9 @@ use Rattle.std.proofs.Common.{◌≡◌, ◌+◌, ◌<◌, ◌≤◌, ℕ, List,
 use Rattle.std.specs.List.{zip}
 use Rattle.std.proofs.lemmas.List.{drop_more, drop_all}
 use Rattle.book_text.specs.Rows.{Row, IsShort}
-use Rattle.book_text.specs.Fault.{and_then, at_row}
+use Rattle.pb_base.specs.Results.{and_then}
+use Rattle.pb_base.specs.declared.limits.TheConstants.{MOST_TEXT_BYTES}
+use Rattle.book_text.specs.Fault.{at_row}
 use Rattle.book_text.specs.Pass.{pass}
 use Rattle.book_text.specs.Entry.{entry_of, rule_text_of}
 use Rattle.book_text.specs.Records.{Records}
@@ -111,7 +113,7 @@ module _ (names : Names) (k : ℕ) (r : Records) (entries : List Entry) (texts :
       ∙ pass-end (λ state (said : Entry × List ℕ). resolved names state said.0 said.1) (k + 2) r
 
 -- the text of a rule is as short as the fields of its row
-pub rule_text-short : (entry : Entry) (row : Row) → IsShort row → length (rule_text_of entry row) ≤ 1048576
+pub rule_text-short : (entry : Entry) (row : Row) → IsShort row → length (rule_text_of entry row) ≤ MOST_TEXT_BYTES
 rule_text-short (e.Code name) row h = omega arith
 rule_text-short (e.Supplement id rank code days) row h = h 4
 rule_text-short (e.Construct id on days) row h = h 3

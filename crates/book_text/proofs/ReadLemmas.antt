@@ -5,7 +5,9 @@ use Rattle.pb_base.specs.Answers.{Answers}
 use Rattle.pb_base.specs.declared.answer.Fail.{Fail}
 use Rattle.pb_base.specs.declared.answer.Fail.TheVariants.{Refused, Memory}
 use Rattle.book_text.specs.Rows.{rows_of}
-use Rattle.book_text.specs.Fault.{Gives, and_then}
+use Rattle.pb_base.specs.Results.{and_then}
+use Rattle.pb_base.specs.Answers.{Gives}
+use Rattle.pb_base.specs.declared.limits.TheConstants.{MOST_TEXT_BYTES}
 use Rattle.book_text.specs.BookText.{book_of, book_of_rows}
 use Rattle.book_text.specs.declared.fault.BookFault.{BookFault}
 use Rattle.book_text.specs.declared.fault.BookKind.TheVariants.{TooLarge, NotUtf8}
@@ -14,17 +16,17 @@ pub false-unless : (b : Bool) → (b ≡ true → ⊥) → false ≡ b
 false-unless true h = absurd (h refl)
 false-unless false h = refl
 
-pub book_of-large : (text : List ℕ) → 1048576 < length text → book_of text ≡ Err (record { row = 0; kind = TooLarge })
+pub book_of-large : (text : List ℕ) → MOST_TEXT_BYTES < length text → book_of text ≡ Err (record { row = 0; kind = TooLarge })
 unfolding book_of
-book_of-large text h = let large : nat_lt 1048576 (length text) ≡ true = grind arith in rw large refl
+book_of-large text h = let large : nat_lt MOST_TEXT_BYTES (length text) ≡ true = grind arith in rw large refl
 
-pub book_of-not_utf8 : (text : List ℕ) → length text ≤ 1048576 → is_utf8 text ≡ false → book_of text ≡ Err (record { row = 0; kind = NotUtf8 })
+pub book_of-not_utf8 : (text : List ℕ) → length text ≤ MOST_TEXT_BYTES → is_utf8 text ≡ false → book_of text ≡ Err (record { row = 0; kind = NotUtf8 })
 unfolding book_of
-book_of-not_utf8 text h u = let small : nat_lt 1048576 (length text) ≡ false = grind arith in rw (small, u) refl
+book_of-not_utf8 text h u = let small : nat_lt MOST_TEXT_BYTES (length text) ≡ false = grind arith in rw (small, u) refl
 
-pub book_of-rows : (text : List ℕ) → length text ≤ 1048576 → is_utf8 text ≡ true → book_of text ≡ book_of_rows (rows_of text)
+pub book_of-rows : (text : List ℕ) → length text ≤ MOST_TEXT_BYTES → is_utf8 text ≡ true → book_of text ≡ book_of_rows (rows_of text)
 unfolding book_of
-book_of-rows text h u = let small : nat_lt 1048576 (length text) ≡ false = grind arith in rw (small, u) refl
+book_of-rows text h u = let small : nat_lt MOST_TEXT_BYTES (length text) ≡ false = grind arith in rw (small, u) refl
 
 -- a fault of a step is the fault of what follows it
 pub refused-through : {U A B : Type 0} (error : Fail BookFault) (view : U → A) (answer : Result A BookFault) (f : A → Result B BookFault)

@@ -1,6 +1,6 @@
 -- The records that the second pass gives without a fault refer to records of the book, and carry the ids of the first pass.
 use Rattle.std.proofs.Common.{◌≡◌, ◌≤◌, ◌<◌, ◌+◌, ℕ, Bool, true, false, List, [], ◌∷◌, ◌++◌, length, map, Option, Some, None, Result, Ok, Err, refl, sym, ap, ◌∙◌, subst, arith, if◌then◌else◌}
-use Rattle.std.specs.Prelude.{nat_le, nat_eq, IfSome, All}
+use Rattle.std.specs.Prelude.{nat_le, nat_eq, ok_or, IfSome, All}
 use Rattle.std.proofs.lemmas.List.{map_push}
 use Rattle.std.proofs.lemmas.List.Elements.{All-push, All-nil}
 use Rattle.std.proofs.lemmas.List.Quantifiers.{position-Some}
@@ -17,18 +17,19 @@ use Rattle.book_model.specs.declared.record.Module.{Module}
 use Rattle.book_model.specs.declared.record.Position.{Position}
 use Rattle.book_model.specs.declared.record.Variant.{Variant}
 use Rattle.book_text.specs.Rows.{Row}
-use Rattle.book_text.specs.Fault.{and_then}
+use Rattle.pb_base.specs.Results.{and_then}
+use Rattle.pb_base.specs.declared.limits.TheConstants.{MOST_CODES, MOST_SUPPLEMENTS, MOST_CONSTRUCTS, MOST_MODULES, MOST_POSITIONS, MOST_VARIANTS, MOST_CHOICES}
 use Rattle.book_text.specs.Entry.{entry_of, rule_text_of}
 use Rattle.book_text.specs.Names.{no_names, added, added_beside, entered}
 use Rattle.book_text.specs.FirstPass.{entered_row, first_pass}
 use Rattle.book_text.specs.Records.{Records, no_records}
-use Rattle.book_text.specs.SecondPass.{known, place_of, place_if_named, as_rule, rule_in, supplement_of, construct_of, position_of, variant_of, with_variant, resolved, resolved_row, second_pass}
+use Rattle.book_text.specs.SecondPass.{place_of, place_if_named, as_rule, rule_in, supplement_of, construct_of, position_of, variant_of, with_variant, resolved, resolved_row, second_pass}
 use Rattle.book_text.specs.declared.fields.Days.{Days}
 use Rattle.book_text.specs.declared.names.Names.{Names}
 use Rattle.book_text.specs.declared.entry.Entry.{Entry}
 use Rattle.book_text.specs.declared.entry.Entry.TheVariants as e
 use Rattle.book_text.specs.declared.fault.BookKind.{BookKind}
-use Rattle.book_text.specs.declared.fault.BookKind.TheVariants.{Limit}
+use Rattle.book_text.specs.declared.fault.BookKind.TheVariants.{UnknownName, Limit}
 use Rattle.book_text.specs.declared.fault.Which.TheVariants.{Codes, Supplements, Constructs, Modules, Positions, Variants, Choices}
 use Rattle.book_text.proofs.ChoiceLemmas.{length-variants_from-push}
 use Rattle.book_text.proofs.Faultless.{and_then-Ok, pass-keeps, passes-keep}
@@ -36,7 +37,7 @@ use Rattle.book_text.proofs.NamesLaw.{added-Ok, added_beside-Ok}
 
 -- ---- places and rules
 
-known-Ok : (o : Option ℕ) (place : ℕ) → known o ≡ Ok place → o ≡ Some place
+known-Ok : (o : Option ℕ) (place : ℕ) → ok_or o UnknownName ≡ Ok place → o ≡ Some place
 known-Ok (Some p) place h = let same : p ≡ place = cc in ap (λ n. Some n) same
 known-Ok None place h = cc
 
@@ -104,21 +105,21 @@ full-by true variants new h = cc
 full-by false variants new h = (refl, cc)
 
 with_variant-Ok : (variants : List Variant) (v : Variant) (new : List Variant) → with_variant variants v ≡ Ok new
-    → (length (variants_of v.position variants) < 200) × (new ≡ variants ++ v ∷ [])
+    → (length (variants_of v.position variants) < MOST_CHOICES) × (new ≡ variants ++ v ∷ [])
 with_variant-Ok variants v new h =
-    let (full, is) = full-by (nat_le 200 (length (variants_of v.position variants))) (variants ++ v ∷ []) new h in (grind (arith, full), is)
+    let (full, is) = full-by (nat_le MOST_CHOICES (length (variants_of v.position variants))) (variants ++ v ∷ []) new h in (grind (arith, full), is)
 
 abbrev pub HasFewChoices : List Variant → Type 0
-HasFewChoices variants = (place : ℕ) → length (variants_of place variants) ≤ 200
+HasFewChoices variants = (place : ℕ) → length (variants_of place variants) ≤ MOST_CHOICES
 
-few-at : (same : Bool) (position place n m : ℕ) → nat_eq position place ≡ same → (position ≡ place → n < 200) → n ≤ 200 → m ≡ n + (if same then 1 else 0) → m ≤ 200
+few-at : (same : Bool) (position place n m : ℕ) → nat_eq position place ≡ same → (position ≡ place → n < MOST_CHOICES) → n ≤ MOST_CHOICES → m ≡ n + (if same then 1 else 0) → m ≤ MOST_CHOICES
 few-at true position place n m e here all is = let at : position ≡ place = grind (arith, e) in omega (arith, here at)
 few-at false position place n m e here all is = omega arith
 
-HasFewChoices-push : (variants : List Variant) (v : Variant) → length (variants_of v.position variants) < 200 → HasFewChoices variants → HasFewChoices (variants ++ v ∷ [])
+HasFewChoices-push : (variants : List Variant) (v : Variant) → length (variants_of v.position variants) < MOST_CHOICES → HasFewChoices variants → HasFewChoices (variants ++ v ∷ [])
 HasFewChoices-push variants v room few place =
     few-at (nat_eq v.position place) v.position place (length (variants_of place variants)) (length (variants_of place (variants ++ v ∷ []))) refl
-    (λ at. subst (λ (p : ℕ). length (variants_of p variants) < 200) at room) (few place) (length-variants_from-push 0 place variants v)
+    (λ at. subst (λ (p : ℕ). length (variants_of p variants) < MOST_CHOICES) at room) (few place) (length-variants_from-push 0 place variants v)
 
 -- ---- the second pass
 
@@ -196,17 +197,17 @@ named-push id_of records x names new id same at is =
 
 AreNamed-row : (all n n' : Names) (r r' : Records) (entry : Entry) (text : List ℕ) → AreNamed n r → entered n entry ≡ Ok n' → resolved all r entry text ≡ Ok r' → AreNamed n' r'
 AreNamed-row all n n' r r' (e.Code name) text named h g =
-    let (l, is, whole) = and_then-Ok (added 2000 Codes n.codes name) (λ l. Ok (record n { codes = l })) n' h in
+    let (l, is, whole) = and_then-Ok (added MOST_CODES Codes n.codes name) (λ l. Ok (record n { codes = l })) n' h in
     let one : record n { codes = l } ≡ n' = cc in
     let other : r ≡ r' = cc in
     let start : AreNamed (record n { codes = l }) r = record { supplements = named.supplements; constructs = named.constructs; modules = named.modules; positions = named.positions; variants = named.variants } in
     subst (AreNamed n') other (subst (λ (m : Names). AreNamed m r) one start)
 AreNamed-row all n n' r r' (e.Supplement id rank code days) text named h g =
-    let (l, is, whole) = and_then-Ok (added_beside n.constructs 5000 Supplements n.supplements id) (λ l. Ok (record n { supplements = l })) n' h in
+    let (l, is, whole) = and_then-Ok (added_beside n.constructs MOST_SUPPLEMENTS Supplements n.supplements id) (λ l. Ok (record n { supplements = l })) n' h in
     let (s, made, rest) = and_then-Ok (supplement_of all.codes id rank code days text) (λ s. Ok (record r { supplements = r.supplements ++ s ∷ [] })) r' g in
     let one : record n { supplements = l } ≡ n' = cc in
     let other : record r { supplements = r.supplements ++ s ∷ [] } ≡ r' = cc in
-    let more = (added_beside-Ok n.constructs 5000 Supplements n.supplements id l is).1 in
+    let more = (added_beside-Ok n.constructs MOST_SUPPLEMENTS Supplements n.supplements id l is).1 in
     let id_of : Supplement → List ℕ = λ s. s.id in
     let start : AreNamed (record n { supplements = l }) (record r { supplements = r.supplements ++ s ∷ [] }) = record {
       supplements = named-push id_of r.supplements s n.supplements l id named.supplements (supplement_of-Ok all.codes id rank code days text s made).0 more.is;
@@ -217,11 +218,11 @@ AreNamed-row all n n' r r' (e.Supplement id rank code days) text named h g =
     } in
     subst (AreNamed n') other (subst (λ (m : Names). AreNamed m (record r { supplements = r.supplements ++ s ∷ [] })) one start)
 AreNamed-row all n n' r r' (e.Construct id on days) text named h g =
-    let (l, is, whole) = and_then-Ok (added_beside n.supplements 10000 Constructs n.constructs id) (λ l. Ok (record n { constructs = l })) n' h in
+    let (l, is, whole) = and_then-Ok (added_beside n.supplements MOST_CONSTRUCTS Constructs n.constructs id) (λ l. Ok (record n { constructs = l })) n' h in
     let (c, made, rest) = and_then-Ok (construct_of all.codes id on days text) (λ c. Ok (record r { constructs = r.constructs ++ c ∷ [] })) r' g in
     let one : record n { constructs = l } ≡ n' = cc in
     let other : record r { constructs = r.constructs ++ c ∷ [] } ≡ r' = cc in
-    let more = (added_beside-Ok n.supplements 10000 Constructs n.constructs id l is).1 in
+    let more = (added_beside-Ok n.supplements MOST_CONSTRUCTS Constructs n.constructs id l is).1 in
     let id_of : Construct → List ℕ = λ c. c.id in
     let start : AreNamed (record n { constructs = l }) (record r { constructs = r.constructs ++ c ∷ [] }) = record {
       supplements = named.supplements;
@@ -232,7 +233,7 @@ AreNamed-row all n n' r r' (e.Construct id on days) text named h g =
     } in
     subst (AreNamed n') other (subst (λ (m : Names). AreNamed m (record r { constructs = r.constructs ++ c ∷ [] })) one start)
 AreNamed-row all n n' r r' (e.Module id) text named h g =
-    let (l, is, whole) = and_then-Ok (added 1000 Modules n.modules id) (λ l. Ok (record n { modules = l })) n' h in
+    let (l, is, whole) = and_then-Ok (added MOST_MODULES Modules n.modules id) (λ l. Ok (record n { modules = l })) n' h in
     let one : record n { modules = l } ≡ n' = cc in
     let m : Module = record { id = id } in
     let other : record r { modules = r.modules ++ m ∷ [] } ≡ r' = cc in
@@ -240,13 +241,13 @@ AreNamed-row all n n' r r' (e.Module id) text named h g =
     let start : AreNamed (record n { modules = l }) (record r { modules = r.modules ++ m ∷ [] }) = record {
       supplements = named.supplements;
       constructs = named.constructs;
-      modules = named-push id_of r.modules m n.modules l id named.modules refl (added-Ok 1000 Modules n.modules id l is).is;
+      modules = named-push id_of r.modules m n.modules l id named.modules refl (added-Ok MOST_MODULES Modules n.modules id l is).is;
       positions = named.positions;
       variants = named.variants;
     } in
     subst (AreNamed n') other (subst (λ (k : Names). AreNamed k (record r { modules = r.modules ++ m ∷ [] })) one start)
 AreNamed-row all n n' r r' (e.Position id group mandatory days) text named h g =
-    let (l, is, whole) = and_then-Ok (added 5000 Positions n.positions id) (λ l. Ok (record n { positions = l })) n' h in
+    let (l, is, whole) = and_then-Ok (added MOST_POSITIONS Positions n.positions id) (λ l. Ok (record n { positions = l })) n' h in
     let (p, made, rest) = and_then-Ok (position_of all.modules id group mandatory days) (λ p. Ok (record r { positions = r.positions ++ p ∷ [] })) r' g in
     let one : record n { positions = l } ≡ n' = cc in
     let other : record r { positions = r.positions ++ p ∷ [] } ≡ r' = cc in
@@ -255,18 +256,18 @@ AreNamed-row all n n' r r' (e.Position id group mandatory days) text named h g =
       supplements = named.supplements;
       constructs = named.constructs;
       modules = named.modules;
-      positions = named-push id_of r.positions p n.positions l id named.positions (position_of-Ok all.modules id group mandatory days p made).0 (added-Ok 5000 Positions n.positions id l is).is;
+      positions = named-push id_of r.positions p n.positions l id named.positions (position_of-Ok all.modules id group mandatory days p made).0 (added-Ok MOST_POSITIONS Positions n.positions id l is).is;
       variants = named.variants;
     } in
     subst (AreNamed n') other (subst (λ (m : Names). AreNamed m (record r { positions = r.positions ++ p ∷ [] })) one start)
 AreNamed-row all n n' r r' (e.Variant id position part quantity days) text named h g =
-    let (l, is, whole) = and_then-Ok (added 20000 Variants n.variants id) (λ l. Ok (record n { variants = l })) n' h in
+    let (l, is, whole) = and_then-Ok (added MOST_VARIANTS Variants n.variants id) (λ l. Ok (record n { variants = l })) n' h in
     let (v, made, rest) = and_then-Ok (variant_of all id position part quantity days text) (λ v. and_then (with_variant r.variants v) (λ variants. Ok (record r { variants = variants }))) r' g in
     let (variants, joined, last) = and_then-Ok (with_variant r.variants v) (λ variants. Ok (record r { variants = variants })) r' rest in
     let one : record n { variants = l } ≡ n' = cc in
     let other : record r { variants = variants } ≡ r' = cc in
     let id_of : Variant → List ℕ = λ v. v.id in
-    let pushed = named-push id_of r.variants v n.variants l id named.variants (variant_of-Ok all id position part quantity days text v made).0 (added-Ok 20000 Variants n.variants id l is).is in
+    let pushed = named-push id_of r.variants v n.variants l id named.variants (variant_of-Ok all id position part quantity days text v made).0 (added-Ok MOST_VARIANTS Variants n.variants id l is).is in
     let start : AreNamed (record n { variants = l }) (record r { variants = variants }) = record {
       supplements = named.supplements;
       constructs = named.constructs;

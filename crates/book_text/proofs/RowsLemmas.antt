@@ -2,7 +2,7 @@
 use Rattle.std.proofs.Common.{◌≡◌, ◌≤◌, ◌<◌, ◌+◌, ℕ, drop, get_or, length-drop, length-append, zero, suc, List, [], ◌∷◌, ◌++◌, length, Option, Some, None, true, false, not, refl, sym, ap, ◌∙◌, inl, arith, Bool, subst, if◌then◌else◌}
 use Rattle.std.specs.Borrow.{Bor}
 use Rattle.csv.specs.Machine.{Read, ends_at_end, field_after, fields_after, is_end, next_record, step}
-use Rattle.csv.specs.Reading.{ReadRecord, Reached, default_config, reader_state, records_from, records_next, is_bom, strip_bom, took_first}
+use Rattle.csv.specs.Reading.{ReadRecord, Reached, default_config, is_flexible, reader_state, records_from, records_next, is_bom, strip_bom, took_first}
 use Rattle.csv.specs.declared.parser.State.{State}
 use Rattle.csv.specs.declared.parser.State.TheVariants as st
 use Rattle.csv.specs.declared.parser.Action.{Action}
@@ -148,9 +148,9 @@ pub record ReadGives (found : Bool) (a b : Reader (Bor (List ℕ))) (row : Row) 
   pub reading : not found ≡ false → IsReading b
   pub short : found ≡ true → IsShort row
 
-pub read-gives : (found : Bool) (a b : Reader (Bor (List ℕ))) (row : Row) → IsReading a → ReadRecord slice_bytes a b found row → took_first b ≡ true → ReadGives found a b row
+pub read-gives : (found : Bool) (a b : Reader (Bor (List ℕ))) (row : Row) → IsReading a → ReadRecord slice_bytes a b found row → took_first b ≡ true → is_flexible b ≡ is_flexible a → ReadGives found a b row
 unfolding Reached
-read-gives true a b row is read first =
+read-gives true a b row is read first flexible =
     let (left, known, within) = is.text in
     let (rest, rest_known, reached) = rows-more slice_bytes a b row default_config (reader_state a) left left [] is.config known (refl, refl) read in
     let taken = row-taken (reader_state a) (reader_state b) left rest row is.between reached in
@@ -158,6 +158,7 @@ read-gives true a b row is read first =
       next = ap (rows_from (reader_state a)) known ∙ taken.next ∙ ap (λ text. row ∷ rows_from (reader_state b) text) (sym rest_known);
       reading = λ _. record {
         untrimmed = read.3 ∙ is.untrimmed;
+        flexible = flexible ∙ is.flexible;
         ready = inl first;
         config = read.2 ∙ is.config;
         between = taken.between;
@@ -165,7 +166,7 @@ read-gives true a b row is read first =
       };
       short = λ _ place. omega (arith, taken.short place, within);
     }
-read-gives false a b row is read first =
+read-gives false a b row is read first flexible =
     let (left, known, within) = is.text in
     let none = rows-end slice_bytes a b row default_config left is.config known read in
     record {

@@ -1,6 +1,8 @@
 -- The definition on small texts.
-use Rattle.std.specs.Prelude.{◌≡◌, Err, [], refl, codes}
+use Rattle.std.specs.Prelude.{◌≡◌, Ok, Err, [], refl, codes}
 use Rattle.csv.proofs.OnLiterals.{csv_on_literals}
+use Rattle.book_model.specs.WorkedBook.{book_t}
+use Rattle.rule_text.specs.Reading.{rule_of}
 use Rattle.book_text.specs.Rows.{rows_of}
 use Rattle.book_text.specs.Pass.{pass}
 use Rattle.book_text.specs.BookText.{book_of_rows}
@@ -13,3 +15,8 @@ empty = refl
 second_code : book_of_rows (rows_of (codes "book,T,1,9\ncode,A,\ncode,A,")) ≡ Err (record { row = 3; kind = Duplicate })
 unfolding csv_on_literals pass
 second_code = refl
+
+-- the text of a whole book
+whole_book : book_of_rows (rows_of (codes "book,T,1,1000\ncode,M1,engine one\ncode,M2,engine two\ncode,G5,five gears\ncode,G7,seven gears\ncode,AC,air\nconstruct,C1,*,M1/M2,,\nconstruct,C2,M1,-M2,,\nconstruct,C3,*,G5/G7,,\nconstruct,C4,G5,-G7,,\nsupplement,S1,10,G5,M1+-G7,,\nmodule,MOT,motor\nposition,P1,MOT,mandatory,,\nvariant,V1,P1,A100,1,M1,,\nvariant,V2,P1,A200,1,M2,,")) ≡ Ok book_t
+unfolding csv_on_literals pass rule_of
+whole_book = refl

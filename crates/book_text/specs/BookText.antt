@@ -7,7 +7,9 @@ use Rattle.std.specs.Prelude.{ℕ, List, [], ◌∷◌, length, Result, Ok, Err,
 use Rattle.std.specs.Str.{is_utf8}
 use Rattle.book_model.specs.Contents.{Contents}
 use Rattle.book_text.specs.Rows.{Row, rows_of}
-use Rattle.book_text.specs.Fault.{and_then, at_row}
+use Rattle.pb_base.specs.Results.{and_then}
+use Rattle.pb_base.specs.declared.limits.TheConstants.{MOST_TEXT_BYTES}
+use Rattle.book_text.specs.Fault.{at_row}
 use Rattle.book_text.specs.Entry.{heading_of}
 use Rattle.book_text.specs.FirstPass.{first_pass}
 use Rattle.book_text.specs.SecondPass.{second_pass}
@@ -30,6 +32,6 @@ book_of_rows (row ∷ rows) = and_then (at_row 1 (heading_of row)) (λ heading. 
 -- a fault of the text as a whole is at row 0
 unfoldable pub book_of : List ℕ → Result Contents BookFault
 book_of text =
-    if nat_lt 1048576 (length text) then at_row 0 (Err TooLarge)
+    if nat_lt MOST_TEXT_BYTES (length text) then at_row 0 (Err TooLarge)
     else if not (is_utf8 text) then at_row 0 (Err NotUtf8)
     else book_of_rows (rows_of text)

@@ -10,7 +10,7 @@
 --     variant      ID, POSITION, PART, QUANTITY, RULE, FROM, UNTIL
 use Rattle.std.specs.Prelude.{ℕ, List, [], Option, Some, None, Result, Ok, Err, if◌then◌else◌}
 use Rattle.book_text.specs.Rows.{Row}
-use Rattle.book_text.specs.Fault.{and_then}
+use Rattle.pb_base.specs.Results.{and_then}
 use Rattle.book_text.specs.Fields.{field, is_width, name_in, code_name_in, code_or_star_in, part_in, module_in, is_mandatory_in, number_in, term_in, days_in}
 use Rattle.book_text.specs.Kind.{kind_of}
 use Rattle.book_text.specs.declared.kind.Kind.{Kind}

@@ -7,9 +7,10 @@
 use Rattle.std.specs.Prelude.{ℕ, Bool, true, false, not, ◌&&◌, ◌==◌, List, [], length, drop, Option, Some, None, Result, Ok, Err, nat_le, nat_lt, slice_index_or, if◌then◌else◌, codes}
 use Rattle.std.specs.List.{list_all}
 use Rattle.pb_base.specs.Names.{is_name, is_code_name, is_part, same_name}
-use Rattle.pb_base.specs.Digits.{is_number, value_of}
+use Rattle.pb_base.specs.Digits.{short_number}
 use Rattle.book_text.specs.Rows.{Row}
-use Rattle.book_text.specs.Fault.{and_then}
+use Rattle.pb_base.specs.Results.{and_then}
+use Rattle.pb_base.specs.declared.limits.TheConstants.{LAST_DAY}
 use Rattle.book_text.specs.declared.fields.Days.{Days}
 use Rattle.book_text.specs.declared.fault.BookKind.{BookKind}
 use Rattle.book_text.specs.declared.fault.BookKind.TheVariants.{BadName, BadNumber, BadDays}
@@ -48,12 +49,16 @@ is_mandatory_in text =
     else if same_name text (codes "optional") then Ok false
     else Err BadName
 
+-- a number from `low` to `high`
+abbrev pub in_range : ℕ → ℕ → Option ℕ → Result ℕ BookKind
+in_range low high (Some value) = if nat_le low value && nat_le value high then Ok value else Err BadNumber
+in_range low high None = Err BadNumber
+
 abbrev pub number_in : ℕ → ℕ → List ℕ → Result ℕ BookKind
-number_in low high text =
-    if is_number text && nat_le low (value_of text) && nat_le (value_of text) high then Ok (value_of text) else Err BadNumber
+number_in low high text = in_range low high (short_number text)
 
 abbrev pub day_in : List ℕ → Result ℕ BookKind
-day_in text = number_in 1 99999 text
+day_in text = number_in 1 LAST_DAY text
 
 -- a day, or the other one where the field is empty
 abbrev pub day_or : ℕ → List ℕ → Result ℕ BookKind

@@ -1,7 +1,7 @@
 -- The first pass: each row by itself, and its name beside the names before it.
 use Rattle.std.specs.Prelude.{List, Result}
 use Rattle.book_text.specs.Rows.{Row}
-use Rattle.book_text.specs.Fault.{and_then}
+use Rattle.pb_base.specs.Results.{and_then}
 use Rattle.book_text.specs.Entry.{entry_of}
 use Rattle.book_text.specs.Names.{no_names, entered}
 use Rattle.book_text.specs.Pass.{pass}

@@ -2,7 +2,8 @@
 -- modules, of positions and of variants; and each kind has a limit.
 use Rattle.std.specs.Prelude.{ℕ, List, [], ◌∷◌, ◌++◌, length, Result, Ok, Err, nat_le, is_some, if◌then◌else◌}
 use Rattle.pb_base.specs.Names.{place_in}
-use Rattle.book_text.specs.Fault.{and_then}
+use Rattle.pb_base.specs.Results.{and_then}
+use Rattle.pb_base.specs.declared.limits.TheConstants.{MOST_CODES, MOST_SUPPLEMENTS, MOST_CONSTRUCTS, MOST_MODULES, MOST_POSITIONS, MOST_VARIANTS}
 use Rattle.book_text.specs.declared.names.Names.{Names}
 use Rattle.book_text.specs.declared.entry.Entry.{Entry}
 use Rattle.book_text.specs.declared.entry.Entry.TheVariants.{Code, Supplement, Construct, Module, Position, Variant}
@@ -28,9 +29,9 @@ added_beside others limit which names name =
 
 -- the names with that of a record
 abbrev pub entered : Names → Entry → Result Names BookKind
-entered n (Code name) = and_then (added 2000 Codes n.codes name) (λ new. Ok (record n { codes = new }))
-entered n (Supplement id rank code days) = and_then (added_beside n.constructs 5000 Supplements n.supplements id) (λ new. Ok (record n { supplements = new }))
-entered n (Construct id on days) = and_then (added_beside n.supplements 10000 Constructs n.constructs id) (λ new. Ok (record n { constructs = new }))
-entered n (Module id) = and_then (added 1000 Modules n.modules id) (λ new. Ok (record n { modules = new }))
-entered n (Position id group mandatory days) = and_then (added 5000 Positions n.positions id) (λ new. Ok (record n { positions = new }))
-entered n (Variant id position part quantity days) = and_then (added 20000 Variants n.variants id) (λ new. Ok (record n { variants = new }))
+entered n (Code name) = and_then (added MOST_CODES Codes n.codes name) (λ new. Ok (record n { codes = new }))
+entered n (Supplement id rank code days) = and_then (added_beside n.constructs MOST_SUPPLEMENTS Supplements n.supplements id) (λ new. Ok (record n { supplements = new }))
+entered n (Construct id on days) = and_then (added_beside n.supplements MOST_CONSTRUCTS Constructs n.constructs id) (λ new. Ok (record n { constructs = new }))
+entered n (Module id) = and_then (added MOST_MODULES Modules n.modules id) (λ new. Ok (record n { modules = new }))
+entered n (Position id group mandatory days) = and_then (added MOST_POSITIONS Positions n.positions id) (λ new. Ok (record n { positions = new }))
+entered n (Variant id position part quantity days) = and_then (added MOST_VARIANTS Variants n.variants id) (λ new. Ok (record n { variants = new }))

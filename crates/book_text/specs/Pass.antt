@@ -1,6 +1,7 @@
 -- A pass over the rows, or over what they say: each changes what was made of those before it, and the first fault ends it.
 use Rattle.std.specs.Prelude.{ℕ, ◌+◌, List, [], ◌∷◌, Result, Ok}
-use Rattle.book_text.specs.Fault.{and_then, at_row}
+use Rattle.pb_base.specs.Results.{and_then}
+use Rattle.book_text.specs.Fault.{at_row}
 use Rattle.book_text.specs.declared.fault.BookFault.{BookFault}
 use Rattle.book_text.specs.declared.fault.BookKind.{BookKind}
 

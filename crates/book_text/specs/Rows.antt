@@ -1,6 +1,7 @@
 -- The rows of a book's text.
 use Rattle.std.specs.Prelude.{◌≡◌, ℕ, ◌≤◌, Bool, true, false, List, [], ◌∷◌, length, slice_index_or}
 use Rattle.csv.specs.Reading.{default_config, records, strip_bom}
+use Rattle.pb_base.specs.declared.limits.TheConstants.{MOST_TEXT_BYTES}
 
 -- a row: its fields, from the left
 abbrev pub Row : Type 0
@@ -17,4 +18,4 @@ IsNext false row left rest = left ≡ []
 
 -- no field is longer than the longest text
 abbrev pub IsShort : Row → Type 0
-IsShort row = (place : ℕ) → length (slice_index_or row place []) ≤ 1048576
+IsShort row = (place : ℕ) → length (slice_index_or row place []) ≤ MOST_TEXT_BYTES

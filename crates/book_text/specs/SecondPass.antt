@@ -1,5 +1,5 @@
 -- The second pass: names become places, and rules are read. A name may stand before its record.
-use Rattle.std.specs.Prelude.{ℕ, Bool, List, [], ◌∷◌, ◌++◌, length, Option, Some, None, Result, Ok, Err, nat_le, if◌then◌else◌}
+use Rattle.std.specs.Prelude.{ℕ, Bool, List, [], ◌∷◌, ◌++◌, length, Option, Some, None, Result, Ok, Err, nat_le, ok_or, if◌then◌else◌}
 use Rattle.pb_base.specs.Names.{place_in}
 use Rattle.pb_base.specs.Rule.{Rule}
 use Rattle.rule_text.specs.Reading.{rule_of}
@@ -10,7 +10,8 @@ use Rattle.book_model.specs.declared.record.Construct.{Construct}
 use Rattle.book_model.specs.declared.record.Position.{Position}
 use Rattle.book_model.specs.declared.record.Variant.{Variant}
 use Rattle.book_text.specs.Rows.{Row}
-use Rattle.book_text.specs.Fault.{and_then}
+use Rattle.pb_base.specs.Results.{and_then}
+use Rattle.pb_base.specs.declared.limits.TheConstants.{MOST_CHOICES}
 use Rattle.book_text.specs.Entry.{entry_of, rule_text_of}
 use Rattle.book_text.specs.Pass.{pass}
 use Rattle.book_text.specs.Records.{Records, no_records}
@@ -23,13 +24,9 @@ use Rattle.book_text.specs.declared.fault.BookKind.{BookKind}
 use Rattle.book_text.specs.declared.fault.BookKind.TheVariants.{UnknownName, BadRule, Limit}
 use Rattle.book_text.specs.declared.fault.Which.TheVariants.{Choices}
 
-abbrev pub known : Option ℕ → Result ℕ BookKind
-known (Some place) = Ok place
-known None = Err UnknownName
-
 -- the place of the record with this name
 abbrev pub place_of : List (List ℕ) → List ℕ → Result ℕ BookKind
-place_of names name = known (place_in names name)
+place_of names name = ok_or (place_in names name) UnknownName
 
 -- the same of a name that may be left out
 abbrev pub place_if_named : List (List ℕ) → Option (List ℕ) → Result (Option ℕ) BookKind
@@ -71,10 +68,10 @@ variant_of names id position part quantity days text =
     and_then (rule_in names.codes text) (λ rule.
     Ok (record { id = id; position = place; part = part; quantity = quantity; rule = rule; from = days.from; until = days.until })))
 
--- the variants with one more, of which its position has at most 200
+-- the variants with one more, of which its position has no more than it may
 abbrev pub with_variant : List Variant → Variant → Result (List Variant) BookKind
 with_variant variants v =
-    if nat_le 200 (length (variants_of v.position variants)) then Err (Limit Choices) else Ok (variants ++ v ∷ [])
+    if nat_le MOST_CHOICES (length (variants_of v.position variants)) then Err (Limit Choices) else Ok (variants ++ v ∷ [])
 
 -- the records with that of a row, whose rule has this text; the codes stand among the names already
 abbrev pub resolved : Names → Records → Entry → List ℕ → Result Records BookKind

@@ -1,11 +1,12 @@
 -- What a reader of a text has left.
-use Rattle.std.specs.Prelude.{◌≡◌, ℕ, ◌+◌, ◌≤◌, false, List, [], length, Option, Some, None}
+use Rattle.std.specs.Prelude.{◌≡◌, ℕ, ◌+◌, ◌≤◌, true, false, List, [], length, Option, Some, None}
 use Rattle.std.specs.Borrow.{Bor}
 use Rattle.csv.specs.Machine.{ends_at_end}
-use Rattle.csv.specs.Reading.{Ready, default_config, reader_config, reader_state, reader_trim, records_from, source_of}
+use Rattle.csv.specs.Reading.{Ready, default_config, is_flexible, reader_config, reader_state, reader_trim, records_from, source_of}
 use Rattle.csv.specs.declared.parser.State.{State}
 use Rattle.csv.specs.declared.reader.Reader.{Reader}
 use Rattle.csv.specs.declared.reader.Trim.TheVariants as trim
+use Rattle.pb_base.specs.declared.limits.TheConstants.{MOST_TEXT_BYTES}
 use Rattle.book_text.specs.Rows.{Row}
 
 -- the bytes that a reader of a slice has left
@@ -20,10 +21,11 @@ rows_from state None = []
 abbrev pub unread_rows : Reader (Bor (List ℕ)) → List Row
 unread_rows reader = rows_from (reader_state reader) (unread_text reader)
 
--- a reader that stands between two rows of a text, and takes each record for a row as it is
+-- a reader that stands between two rows of a text, and takes each record for a row as it is, however long
 pub record IsReading (reader : Reader (Bor (List ℕ))) : Type 0 where
   pub untrimmed : reader_trim reader ≡ trim.None
+  pub flexible : is_flexible reader ≡ true
   pub ready : Ready reader
   pub config : reader_config reader ≡ default_config
   pub between : ends_at_end (reader_state reader) ≡ false
-  pub text : (left : List ℕ) × (unread_text reader ≡ Some left) × (length left ≤ 1048576)
+  pub text : (left : List ℕ) × (unread_text reader ≡ Some left) × (length left ≤ MOST_TEXT_BYTES)

@@ -1,6 +1,6 @@
 //! Why a text is no book.
 ghost use Rattle.std.specs.Prelude.{◌≡◌};
-ghost use Rattle.book_text.specs.Fault.{number_of};
+ghost use Rattle.book_text.specs.Fault.{kind_number};
 
 use rule_text::RuleFault;
 
@@ -59,7 +59,7 @@ pub enum Which {
 impl BookKind {
     /// The number by which a program's output names the kind, from 1 to 13.
     pub fn number(&self) -> u32
-        ensures { result ≡ number_of self.now }
+        ensures { result ≡ kind_number self.now }
     {
         match self {
             BookKind::TooLarge => 1,

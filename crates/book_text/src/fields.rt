@@ -5,7 +5,8 @@ ghost use Rattle.book_text.specs.Fields.{name_in, code_name_in, code_or_star_in,
 
 use crate::fault::BookKind;
 use csv::ByteRecord;
-use pb_base::{CodeName, Id, Part, number_of};
+use pb_base::limits::LAST_DAY;
+use pb_base::{CodeName, Id, Part, short_number};
 
 /// A span of days: the term of a book, or the days on which a record is active. Both ends belong to it.
 #[derive(Clone, Copy)]
@@ -13,8 +14,6 @@ pub struct Days {
     pub from: u32,
     pub until: u32,
 }
-
-const LAST_DAY: u32 = 99_999;
 
 /// The field at a place, counted from 0; an empty one where the row ends before it.
 pub fn field(row: &ByteRecord, place: usize) -> &[u8]
@@ -106,7 +105,7 @@ pub fn is_mandatory_in(text: &[u8]) -> Result<bool, BookKind>
 pub fn number_in(low: u32, high: u32, text: &[u8]) -> Result<u32, BookKind>
     ensures { result ≡ number_in low high text.now }
 {
-    match number_of(text) {
+    match short_number(text) {
         Some(value) if low <= value && value <= high => Ok(value),
         _ => Err(BookKind::BadNumber),
     }

@@ -1,19 +1,16 @@
 //! Reads the text of a book: the whole book, or its first fault.
 #![tactic(auto)]
 
-mod draft;
 mod entry;
 mod fault;
 mod fields;
-mod id_table;
 mod kind;
 mod names;
+mod partial_book;
 mod read;
-mod rows;
+mod row_reader;
+mod second_pass;
 mod survey;
 
 pub use fault::{BookFault, BookKind, Which};
 pub use read::read_book;
-
-#[cfg(test)]
-mod tests;

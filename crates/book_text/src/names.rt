@@ -1,23 +1,27 @@
 //! The names that the rows of a text give, each told apart from those before it.
-ghost use Rattle.std.specs.Prelude.{◌≡◌, ◌+◌, ◌<◌, ◌^◌, if◌then◌else◌};
-ghost use Rattle.book_text.specs.Fault.{Becomes};
+ghost use Rattle.std.specs.Prelude.{◌≡◌, ◌+◌, ◌<◌, ◌^◌, is_some, if◌then◌else◌};
+ghost use Rattle.pb_base.specs.Answers.{Leaves};
+ghost use Rattle.pb_base.specs.Names.{place_in};
+ghost use Rattle.pb_base.specs.declared.limits.TheConstants.{MOST_CODES};
 ghost use Rattle.book_text.specs.Names.{no_names, added, entered};
 
 use crate::entry::Entry;
 use crate::fault::{BookKind, Which};
-use crate::id_table::IdTable;
-use pb_base::{CodeName, CodeTable, Fail, Id};
+use pb_base::limits::{
+    MOST_CODES, MOST_CONSTRUCTS, MOST_MODULES, MOST_POSITIONS, MOST_SUPPLEMENTS, MOST_VARIANTS,
+};
+use pb_base::{CodeName, CodeTable, Fail, Id, Table};
 use std::alloc::Global;
 
 /// The names of each kind of record, in record order.
 #[derive(Drop)]
 pub struct Names {
     pub codes: CodeTable,
-    pub supplements: IdTable,
-    pub constructs: IdTable,
-    pub modules: IdTable,
-    pub positions: IdTable,
-    pub variants: IdTable,
+    pub supplements: Table<Id>,
+    pub constructs: Table<Id>,
+    pub modules: Table<Id>,
+    pub positions: Table<Id>,
+    pub variants: Table<Id>,
 }
 
 impl Names {
@@ -26,68 +30,86 @@ impl Names {
     {
         Names {
             codes: CodeTable::new(alloc),
-            supplements: IdTable::new(alloc),
-            constructs: IdTable::new(alloc),
-            modules: IdTable::new(alloc),
-            positions: IdTable::new(alloc),
-            variants: IdTable::new(alloc),
+            supplements: Table::new(alloc),
+            constructs: Table::new(alloc),
+            modules: Table::new(alloc),
+            positions: Table::new(alloc),
+            variants: Table::new(alloc),
         }
     }
 
     /// Adds the name of a record. It is refused where its kind has it already, or has as many as it may.
     pub fn enter(&mut self, entry: &Entry) -> Result<(), Fail<BookKind>>
-        ensures { Becomes result self.new (entered self.old entry.now) }
+        ensures { Leaves result self.new (entered self.old entry.now) }
     {
         match entry {
             Entry::Code { name } => add_code(&mut self.codes, *name),
             Entry::Supplement { id, .. } => {
-                if self.constructs.place_of(id).is_some() {
+                if is_taken(&self.constructs, id) {
                     return Err(Fail::Refused(BookKind::Duplicate));
                 }
-                add_id(&mut self.supplements, *id, 5_000, Which::Supplements)
+                add_id(
+                    &mut self.supplements,
+                    *id,
+                    MOST_SUPPLEMENTS,
+                    Which::Supplements,
+                )
             }
             Entry::Construct { id, .. } => {
-                if self.supplements.place_of(id).is_some() {
+                if is_taken(&self.supplements, id) {
                     return Err(Fail::Refused(BookKind::Duplicate));
                 }
-                add_id(&mut self.constructs, *id, 10_000, Which::Constructs)
+                add_id(
+                    &mut self.constructs,
+                    *id,
+                    MOST_CONSTRUCTS,
+                    Which::Constructs,
+                )
             }
-            Entry::Module { id } => add_id(&mut self.modules, *id, 1_000, Which::Modules),
+            Entry::Module { id } => add_id(&mut self.modules, *id, MOST_MODULES, Which::Modules),
             Entry::Position { id, .. } => {
-                add_id(&mut self.positions, *id, 5_000, Which::Positions)
+                add_id(&mut self.positions, *id, MOST_POSITIONS, Which::Positions)
             }
-            Entry::Variant { id, .. } => add_id(&mut self.variants, *id, 20_000, Which::Variants),
+            Entry::Variant { id, .. } => add_id(
+                &mut self.variants,
+                *id,
+                MOST_VARIANTS,
+                Which::Variants,
+            ),
         }
     }
 }
 
 // A name that is there already is refused as such, even where there is no room for another.
 fn add_code(codes: &mut CodeTable, name: CodeName) -> Result<(), Fail<BookKind>>
-    ensures { Becomes result codes.new (added 2000 Which.Codes codes.old name) }
+    ensures { Leaves result codes.new (added MOST_CODES Which.Codes codes.old name) }
 {
-    if codes.len() >= 2_000 {
-        let has = codes.place_of(&name).is_some();
-        return Err(Fail::Refused(full(has, Which::Codes)));
+    if codes.len() as usize >= MOST_CODES {
+        return Err(Fail::Refused(full(codes.place_of(&name).is_some(), Which::Codes)));
     }
     match codes.add(name) {
         Ok(_) => Ok(()),
-        Err(Fail::Refused(_)) => Err(Fail::Refused(BookKind::Duplicate)),
-        Err(Fail::Memory) => Err(Fail::Memory),
+        Err(fault) => Err(fault.map(|_| BookKind::Duplicate)),
     }
 }
 
-fn add_id(ids: &mut IdTable, id: Id, limit: u32, which: Which) -> Result<(), Fail<BookKind>>
+fn add_id(ids: &mut Table<Id>, id: Id, limit: usize, which: Which) -> Result<(), Fail<BookKind>>
     requires { limit + 1 < 2 ^ 32 }
-    ensures { Becomes result ids.new (added limit which ids.old id) }
+    ensures { Leaves result ids.new (added limit which ids.old id) }
 {
-    if ids.len() >= limit {
-        let has = ids.place_of(&id).is_some();
-        return Err(Fail::Refused(full(has, which)));
+    if ids.len() as usize >= limit {
+        return Err(Fail::Refused(full(is_taken(ids, &id), which)));
     }
-    if !ids.push(id)? {
-        return Err(Fail::Refused(BookKind::Duplicate));
+    match ids.add(id) {
+        Ok(_) => Ok(()),
+        Err(fault) => Err(fault.map(|_| BookKind::Duplicate)),
     }
-    Ok(())
+}
+
+fn is_taken(ids: &Table<Id>, id: &Id) -> bool
+    ensures { result ≡ is_some (place_in ids.now id.now) }
+{
+    ids.place_of(id).is_some()
 }
 
 // The fault of a name where there is no room for another, by whether it is there already.

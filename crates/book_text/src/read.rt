@@ -1,42 +1,42 @@
 //! The book of a text.
-ghost use Rattle.std.specs.Prelude.{◌≡◌, ◌≤◌, IfOk, length};
+ghost use Rattle.std.specs.Prelude.{◌≡◌, ◌≤◌, length};
 ghost use Rattle.std.specs.Str.{is_utf8};
 ghost use Rattle.pb_base.specs.Answers.{Answers};
 ghost use Rattle.csv.specs.Records.{fields_of};
 ghost use Rattle.book_model.specs.Book.{IsBook};
 ghost use Rattle.book_text.specs.BookText.{book_of, book_of_rows, book_behind};
-ghost use Rattle.book_text.specs.Draft.{records_of};
-ghost use Rattle.book_text.specs.Fault.{Gives};
+ghost use Rattle.book_text.specs.PartialBook.{records_of, IsGrouped};
+ghost use Rattle.pb_base.specs.Answers.{Gives};
 ghost use Rattle.pb_base.specs.declared.answer.Fail.{Fail};
+ghost use Rattle.pb_base.specs.declared.limits.TheConstants.{MOST_TEXT_BYTES};
 ghost use Rattle.book_text.specs.Records.{book_with, no_records};
 ghost use Rattle.book_text.specs.Rows.{IsShort};
 ghost use Rattle.book_text.specs.Said.{said_pass};
 
-use crate::draft::{Draft, resolve_all};
 use crate::entry::{Heading, heading_of};
 use crate::fault::{BookFault, BookKind};
 use crate::names::Names;
-use crate::rows::Rows;
-use crate::survey::{Survey, first_pass};
-use book_model::{Book, BookParts, VariantGroups};
+use crate::partial_book::PartialBook;
+use crate::row_reader::RowReader;
+use crate::second_pass::second_pass;
+use crate::survey::first_pass;
+use book_model::{Book, BookParts};
 use csv::ByteRecord;
-use pb_base::{Fail, Memory};
+use pb_base::Fail;
+use pb_base::limits::MOST_TEXT_BYTES;
 use std::alloc::Global;
-
-/// The most bytes that a text may have.
-const LONGEST_TEXT: usize = 1_048_576;
 
 /// The book of a text, in the format that docs/BOOK-FORMAT.md describes, or its first fault in the order that is given there.
 pub fn read_book(alloc: Global, text: &[u8]) -> Result<Book, Fail<BookFault>>
     ensures { Answers result (book_of text.now) }
 {
-    if text.len() > LONGEST_TEXT {
+    if text.len() > MOST_TEXT_BYTES {
         return Err(fault(0, BookKind::TooLarge));
     }
     if !is_text(text) {
         return Err(fault(0, BookKind::NotUtf8));
     }
-    let mut rows = Rows::of(alloc, text);
+    let mut rows = RowReader::of(alloc, text);
     book_of_rows(alloc, &mut rows)
 }
 
@@ -57,8 +57,8 @@ fn fault(row: u32, kind: BookKind) -> Fail<BookFault>
 }
 
 // The book of its rows: the heading, and the two passes over the rows behind it.
-fn book_of_rows(alloc: Global, rows: &mut Rows<'_>) -> Result<Book, Fail<BookFault>>
-    requires { length rows.old ≤ 1048576 }
+fn book_of_rows(alloc: Global, rows: &mut RowReader<'_>) -> Result<Book, Fail<BookFault>>
+    requires { length rows.old ≤ MOST_TEXT_BYTES }
     ensures { Answers result (book_of_rows rows.old) }
 {
     let mut row = ByteRecord::new(alloc);
@@ -75,51 +75,33 @@ fn book_of_rows(alloc: Global, rows: &mut Rows<'_>) -> Result<Book, Fail<BookFau
 fn book_behind(
     alloc: Global,
     heading: Heading,
-    rows: &mut Rows<'_>,
+    rows: &mut RowReader<'_>,
     row: &mut ByteRecord,
 ) -> Result<Book, Fail<BookFault>>
-    requires count { length rows.old ≤ 1048576 }
+    requires count { length rows.old ≤ MOST_TEXT_BYTES }
     requires term { heading.term.from ≤ heading.term.until }
     ensures { Answers result (book_behind heading rows.old) }
 {
     let survey = first_pass(alloc, heading.term, rows, row)?;
-    let draft = second_pass(alloc, &survey)?;
-    let book = whole_book(alloc, heading, survey.names, draft)?;
-    Ok(book)
+    let partial = second_pass(alloc, &survey)?;
+    Ok(whole_book(heading, survey.names, partial))
 }
 
-fn second_pass(alloc: Global, survey: &Survey) -> Result<Draft, Fail<BookFault>>
-    requires count { length survey.now.entries.items ≡ length (fields_of survey.now.texts) }
-    requires few { length survey.now.entries.items ≤ 1048576 }
-    requires short { IsShort (fields_of survey.now.texts) }
-    ensures { Gives result records_of (said_pass survey.now.names 2 no_records survey.now.entries.items (fields_of survey.now.texts)) }
+fn whole_book(heading: Heading, names: Names, partial: PartialBook) -> Book
+    requires book { IsBook (book_with heading names (records_of partial)) }
+    requires grouped { IsGrouped (length partial.positions.items) partial }
+    ensures { result ≡ book_with heading names (records_of partial) }
 {
-    let mut draft = Draft::new(alloc, &survey.names)?;
-    resolve_all(
-        alloc,
-        &mut draft,
-        &survey.names,
-        &survey.entries,
-        &survey.texts,
-    )?;
-    Ok(draft)
-}
-
-fn whole_book(alloc: Global, heading: Heading, names: Names, draft: Draft) -> Result<Book, Memory>
-    requires { IsBook (book_with heading names (records_of draft)) }
-    ensures { IfOk result (λ book. book ≡ book_with heading names (records_of draft)) }
-{
-    let groups = VariantGroups::of(alloc, draft.positions.len(), &draft.variants)?;
-    Ok(Book::of(BookParts {
+    Book::of(BookParts {
         name: heading.name,
         first: heading.term.from,
         last: heading.term.until,
         codes: names.codes,
-        supplements: draft.supplements,
-        constructs: draft.constructs,
-        modules: draft.modules,
-        positions: draft.positions,
-        variants: draft.variants,
-        groups,
-    }))
+        supplements: partial.supplements,
+        constructs: partial.constructs,
+        modules: partial.modules,
+        positions: partial.positions,
+        variants: partial.variants,
+        groups: partial.groups,
+    })
 }

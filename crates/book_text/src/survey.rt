@@ -1,8 +1,9 @@
 //! The first pass over the rows: what each says by itself, and its name beside those before it.
 ghost use Rattle.std.specs.Prelude.{◌≡◌, ◌≤◌, [], Ok, IfOk, OnOk, length};
 ghost use Rattle.csv.specs.Records.{fields_of, partial_of};
+ghost use Rattle.pb_base.specs.declared.limits.TheConstants.{MOST_TEXT_BYTES};
 ghost use Rattle.book_text.specs.Entry.{entry_of};
-ghost use Rattle.book_text.specs.Fault.{Gives};
+ghost use Rattle.pb_base.specs.Answers.{Gives, Leaves};
 ghost use Rattle.book_text.specs.FirstPass.{entered_row, first_pass};
 ghost use Rattle.book_text.specs.Pass.{pass};
 ghost use Rattle.book_text.specs.Rows.{IsShort};
@@ -12,7 +13,7 @@ use crate::entry::{Entry, entry_of, rule_text_of};
 use crate::fault::{BookFault, BookKind};
 use crate::fields::Days;
 use crate::names::Names;
-use crate::rows::Rows;
+use crate::row_reader::RowReader;
 use csv::ByteRecord;
 use pb_base::Fail;
 use std::alloc::Global;
@@ -31,10 +32,10 @@ pub struct Survey {
 pub fn first_pass(
     alloc: Global,
     term: Days,
-    rows: &mut Rows<'_>,
+    rows: &mut RowReader<'_>,
     row: &mut ByteRecord,
 ) -> Result<Survey, Fail<BookFault>>
-    requires { length rows.old ≤ 1048576 }
+    requires { length rows.old ≤ MOST_TEXT_BYTES }
     ensures names { Gives result (λ s. s.names) (first_pass term rows.old) }
     ensures said { IfOk result (λ s. AreSaid term rows.old s.entries.items (fields_of s.texts)) }
     ensures short { IfOk result (λ s. IsShort (fields_of s.texts)) }
@@ -55,12 +56,12 @@ fn enter_rows(
     entries: &mut Vec<Entry>,
     texts: &mut ByteRecord,
     term: Days,
-    rows: &mut Rows<'_>,
+    rows: &mut RowReader<'_>,
     row: &mut ByteRecord,
 ) -> Result<(), Fail<BookFault>>
-    requires count { length rows.old ≤ 1048576 }
+    requires count { length rows.old ≤ MOST_TEXT_BYTES }
     requires none { (entries.old.items ≡ []) × (fields_of texts.old ≡ []) × (partial_of texts.old ≡ []) }
-    ensures names { Gives result (λ _. names.new) (pass (entered_row term) 2 names.old rows.old) }
+    ensures names { Leaves result names.new (pass (entered_row term) 2 names.old rows.old) }
     ensures said { OnOk result (AreSaid term rows.old entries.new.items (fields_of texts.new)) }
     ensures short { OnOk result (IsShort (fields_of texts.new)) }
 {
@@ -82,7 +83,7 @@ fn enter_rows(
 
 // The record of a row, whose name joins the others.
 fn enter_row(names: &mut Names, term: Days, row: &ByteRecord) -> Result<Entry, Fail<BookKind>>
-    ensures names { Gives result (λ _. names.new) (entered_row term names.old (fields_of row.now)) }
+    ensures names { Leaves result names.new (entered_row term names.old (fields_of row.now)) }
     ensures entry { IfOk result (λ entry. entry_of term (fields_of row.now) ≡ Ok entry) }
 {
     match entry_of(term, row) {
@@ -90,6 +91,6 @@ fn enter_row(names: &mut Names, term: Days, row: &ByteRecord) -> Result<Entry, F
             names.enter(&entry)?;
             Ok(entry)
         }
-        Err(kind) => Err(Fail::Refused(kind)),
+        Err(fault) => Err(Fail::Refused(fault)),
     }
 }

@@ -72,7 +72,8 @@ impl Kernel {
     pub fn start_of(&self, at: Ref) -> Option<Ref>
         requires { at < length self.now.clauses }
         ensures given { at < self.now.given → result ≡ None }
-        ensures derived { self.now.given ≤ at → result ≡ Some (slice_index self.now.starts (at - self.now.given)) }
+        ensures derived { self.now.given ≤ at
+            → result ≡ Some (slice_index self.now.starts (at - self.now.given)) }
     {
         if at < self.given {
             return None;
@@ -84,10 +85,13 @@ impl Kernel {
     pub fn pairs_of(&self, at: Ref) -> &[Pair]
         requires { at < length self.now.clauses }
         ensures given { at < self.now.given → result.now ≡ [] }
-        ensures derived { self.now.given ≤ at → result.now ≡ slice_index_or self.now.pairs (at - self.now.given) [] }
+        ensures derived { self.now.given ≤ at
+            → result.now ≡ slice_index_or self.now.pairs (at - self.now.given) [] }
         ensures some { self.now.given ≤ at → 0 < length result.now }
         // The chain is over the clauses before this one, and this one is its resolvent.
-        ensures resolvent { self.now.given ≤ at → chain (take at self.now.clauses) (slice_index self.now.starts (at - self.now.given)) result.now ≡ Ok (slice_index_or self.now.clauses at []) }
+        ensures resolvent { self.now.given ≤ at
+            → chain (take at self.now.clauses) (slice_index self.now.starts (at - self.now.given)) result.now
+            ≡ Ok (slice_index_or self.now.clauses at []) }
     {
         if at < self.given {
             return &[];
@@ -98,8 +102,10 @@ impl Kernel {
     /// Appends the resolvent of a chain, which begins with the clause at `start` and goes through the pairs in order.
     pub fn resolve(&mut self, start: Ref, pairs: &[Pair]) -> Result<Ref, Fail<StepFault>>
         requires { 0 < length pairs.now }
-        ensures answer { Answers result (placed (chain self.old.clauses start pairs.now) (length self.old.clauses)) }
-        ensures ok { OnOk result (IfOk (chain self.old.clauses start pairs.now) (λ c. self.new ≡ grown self.old start pairs.now c)) }
+        ensures answer { Answers result
+            (placed (chain self.old.clauses start pairs.now) (length self.old.clauses)) }
+        ensures ok { OnOk result (IfOk (chain self.old.clauses start pairs.now)
+            (λ c. self.new ≡ grown self.old start pairs.now c)) }
         ensures bounds { KeepsBounds self.old.clauses self.new.clauses }
         ensures unchanged { OnErr result (self.new ≡ self.old) }
     {

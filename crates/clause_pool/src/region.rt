@@ -23,7 +23,8 @@ pub(crate) fn append<T: Copy>(items: &mut Vec<T>, starts: &mut Vec<usize>, list:
     requires room_for_start { vec_len starts.old < vec_capacity starts.old }
     requires room_for_items { vec_len items.old + length list.now ≤ vec_capacity items.old }
 
-    ensures lists { region starts.new.items items.new.items ≡ region starts.old.items items.old.items ++ list.now ∷ [] }
+    ensures lists { region starts.new.items items.new.items
+        ≡ region starts.old.items items.old.items ++ list.now ∷ [] }
     ensures region { IsRegion starts.new.items (length items.new.items) }
 
     ensures starts_len { vec_len starts.new ≡ vec_len starts.old + 1 }

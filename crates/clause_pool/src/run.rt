@@ -19,7 +19,8 @@ fn step(
     next: &mut Vec<Lit>,
 ) -> Result<(), Fail<StepFault>>
     requires { IsRising running.now }
-    ensures leaves { Leaves result next.new.items (step_on running.now place pair.lit (slice_get pool.now.clauses pair.with)) }
+    ensures leaves { Leaves result next.new.items
+        (step_on running.now place pair.lit (slice_get pool.now.clauses pair.with)) }
     ensures rising { OnOk result (IsRising next.new.items) }
 {
     if pair.with >= pool.len() {

@@ -1,17 +1,31 @@
 -- What the encoder has made so far, and what a node of a formula or a whole step adds to it.
 --     Encodes old new more taken     so many clauses more at the end, and so many variables taken
+--     EncodesItems old new is        the clauses and the variables of these items
 --     with_node n node m             the node joins the literals of the parts before it
-use Rattle.std.specs.Prelude.{◌≡◌, ℕ, ◌+◌, true, false, List, [], ◌∷◌, ◌++◌}
+use Rattle.std.specs.Prelude.{◌≡◌, ℕ, ◌+◌, true, false, List, [], ◌∷◌, ◌++◌, length}
 use Rattle.pb_base.specs.declared.node.Node.{Node}
 use Rattle.pb_base.specs.declared.node.Node.TheVariants.{Code, Not, WhenTrue, WhenFalse, And, Or, Yes, No}
 use Rattle.clause_pool.specs.Literal.{literal, complement}
-use Rattle.clausify.specs.Formulas.{both_clauses, either_clauses}
+use Rattle.clausify.specs.Formulas.{connectives, both_clauses, either_clauses}
+use Rattle.clausify.specs.Items.{Item, own_clauses, item_clauses, variables_of}
+use Rattle.clausify.specs.Goals.{pair_clauses}
+use Rattle.clausify.specs.declared.usage.Usage.{Usage}
 use Rattle.clausify.specs.declared.encoder.Encoder.{Encoder}
 
 pub record Encodes (old new : Encoder) (more : List (List ℕ)) (taken : ℕ) : Type 0 where
   pub clauses : new.pool.clauses ≡ old.pool.clauses ++ more
   pub next : new.next ≡ old.next + taken
   pub truth : new.truth ≡ old.truth
+
+-- the items, one of them, and pairs of variants are encoded
+abbrev pub EncodesItems : Encoder → Encoder → List Item → Type 0
+EncodesItems old new is = Encodes old new (item_clauses old.truth old.next is) (variables_of is)
+
+abbrev pub EncodesItem : Encoder → Encoder → Item → Type 0
+EncodesItem old new i = Encodes old new (own_clauses old.truth old.next i) (connectives i.rule)
+
+abbrev pub EncodesPairs : Encoder → Encoder → List (Usage × Usage) → Type 0
+EncodesPairs old new ps = Encodes old new (pair_clauses old.next ps) (length ps)
 
 -- the clauses, the variable that is taken next, and the literals of the parts of a formula that are still to be joined, the last first
 pub record Making : Type 0 where

@@ -1,10 +1,10 @@
 //! The choices of a day: the active positions, each with its active variants.
 ghost use Rattle.std.specs.Prelude.{◌≡◌, ◌+◌, ◌^◌, ◌<◌, ◌≤◌, ◌++◌, IfOk, OnOk, map, length};
 ghost use Rattle.pb_base.specs.declared.limits.TheConstants.{MOST_CHOICES};
-ghost use Rattle.clausify.specs.Items.{item_clauses, variables_of, usage_item, usage_items};
+ghost use Rattle.clausify.specs.Items.{variables_of, usage_item, usage_items};
 ghost use Rattle.clausify.specs.Choices.{active_variants, is_active_variant, choices, usage};
 ghost use Rattle.clausify.specs.Goals.{usages_from, all_usages};
-ghost use Rattle.clausify.specs.Encoding.{Encodes};
+ghost use Rattle.clausify.specs.Encoding.{EncodesItems};
 
 use crate::encoder::Encoder;
 use crate::usage::Usage;
@@ -53,9 +53,10 @@ pub(crate) fn add_usages(
     position: u32,
 ) -> Result<(), Memory>
     requires within { position < length book.now.positions }
-    requires room { encoder.old.next + variables_of (map (usage_item book.now) (active_variants book.now day position)) < 2 ^ 32 }
+    requires room { let items = map (usage_item book.now) (active_variants book.now day position) in
+        encoder.old.next + variables_of items < 2 ^ 32 }
     ensures made { let items = map (usage_item book.now) (active_variants book.now day position) in
-        OnOk result (Encodes encoder.old encoder.new (item_clauses encoder.old.truth encoder.old.next items) (variables_of items)) }
+        OnOk result (EncodesItems encoder.old encoder.new items) }
     ensures usages { OnOk result (usages.new.items ≡ usages.old.items
         ++ usages_from book.now encoder.old.truth encoder.old.next (active_variants book.now day position)) }
 {
@@ -80,8 +81,9 @@ pub(crate) fn usages_of(
 ) -> Result<Vec<Usage>, Memory>
     requires { encoder.old.next + variables_of (usage_items book.now (choices book.now day)) < 2 ^ 32 }
     ensures made { let items = usage_items book.now (choices book.now day) in
-        OnOk result (Encodes encoder.old encoder.new (item_clauses encoder.old.truth encoder.old.next items) (variables_of items)) }
-    ensures usages { IfOk result (λ us. us.items ≡ all_usages book.now encoder.old.truth encoder.old.next (choices book.now day)) }
+        OnOk result (EncodesItems encoder.old encoder.new items) }
+    ensures usages { IfOk result (λ us. us.items
+        ≡ all_usages book.now encoder.old.truth encoder.old.next (choices book.now day)) }
 {
     let mut usages = Vec::new(alloc);
     for (place, position) in book.positions().iter().enumerate() {

@@ -22,10 +22,12 @@ use std::alloc::Global;
 /// The clauses of a slice of the book, with its questions, however many these are.
 pub fn coded_slice(alloc: Global, book: &Book, slice: &Slice) -> Result<Coded, Memory>
     ensures coded { IfOk result (λ c. IsCoded book.now slice.now.first c) }
-    ensures questions { IfOk result (λ c. map (λ q. q.question) c.questions.items ≡ questions book.now slice.now.first) }
+    ensures questions { IfOk result (λ c. map (λ q. q.question) c.questions.items
+        ≡ questions book.now slice.now.first) }
     ensures ranges { IfOk result (λ c. IsInRange book.now c) }
     ensures sets { IfOk result (λ c. IsSteady book.now slice.now → CodesSlice book.now slice.now c) }
-    ensures decides { IfOk result (λ c. IsSteady book.now slice.now → IsOrdered slice.now → DecidesEach book.now slice.now c) }
+    ensures decides { IfOk result (λ c. IsSteady book.now slice.now → IsOrdered slice.now
+        → DecidesEach book.now slice.now c) }
 {
     let codes = book.codes();
     let mut encoder = Encoder::new(alloc, codes.len())?;
@@ -49,10 +51,12 @@ pub fn coded_slice(alloc: Global, book: &Book, slice: &Slice) -> Result<Coded, M
 /// are more than 200,000.
 pub fn clauses_of(alloc: Global, book: &Book, slice: &Slice) -> Result<Coded, Fail<u64>>
     ensures coded { CodesWithin book.now slice.now.first result }
-    ensures questions { IfOk result (λ c. map (λ q. q.question) c.questions.items ≡ questions book.now slice.now.first) }
+    ensures questions { IfOk result (λ c. map (λ q. q.question) c.questions.items
+        ≡ questions book.now slice.now.first) }
     ensures ranges { IfOk result (λ c. IsInRange book.now c) }
     ensures sets { IfOk result (λ c. IsSteady book.now slice.now → CodesSlice book.now slice.now c) }
-    ensures decides { IfOk result (λ c. IsSteady book.now slice.now → IsOrdered slice.now → DecidesEach book.now slice.now c) }
+    ensures decides { IfOk result (λ c. IsSteady book.now slice.now → IsOrdered slice.now
+        → DecidesEach book.now slice.now c) }
 {
     let count = question_count(book, slice);
     if count > MOST_QUESTIONS as u64 {

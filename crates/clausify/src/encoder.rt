@@ -106,7 +106,8 @@ impl Encoder {
     /// The literal of a formula, with its clauses made.
     pub(crate) fn literal(&mut self, rule: &Formula) -> Result<Lit, Memory>
         requires { self.old.next + connectives rule.now < 2 ^ 32 }
-        ensures made { OnOk result (Encodes self.old self.new (formula_clauses self.old.truth self.old.next rule.now) (connectives rule.now)) }
+        ensures made { OnOk result (Encodes self.old self.new
+            (formula_clauses self.old.truth self.old.next rule.now) (connectives rule.now)) }
         ensures literal { IfOk result (λ l. l ≡ formula_literal self.old.truth self.old.next rule.now) }
     {
         for node in rule.nodes() {

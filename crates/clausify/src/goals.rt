@@ -4,7 +4,7 @@ ghost use Rattle.clausify.specs.Choices.{choices};
 ghost use Rattle.clausify.specs.Questions.{pairs};
 ghost use Rattle.clausify.specs.Goals.{pair_clauses, pairs_asked, none_clauses, none_literal, uncovered_clauses, uncovered_literal, choice_variables, choice_clauses, superfluous_asked, choice_asked, all_usages, goals_variables, goals_clauses, goals_asked, codes_asked_from};
 ghost use Rattle.clausify.specs.Coded.{usages_start, numbered_at};
-ghost use Rattle.clausify.specs.Encoding.{Encodes};
+ghost use Rattle.clausify.specs.Encoding.{Encodes, EncodesPairs};
 
 use crate::choices::active_count;
 use crate::encoder::Encoder;
@@ -18,7 +18,8 @@ impl Encoder {
     /// What has this literal, and none of the usages.
     fn and_none(&mut self, literal: Lit, usages: &[Usage]) -> Result<Lit, Memory>
         requires { self.old.next + length usages.now < 2 ^ 32 }
-        ensures made { OnOk result (Encodes self.old self.new (none_clauses self.old.next literal usages.now) (length usages.now)) }
+        ensures made { OnOk result (Encodes self.old self.new
+            (none_clauses self.old.next literal usages.now) (length usages.now)) }
         ensures literal { IfOk result (λ l. l ≡ none_literal self.old.next literal usages.now) }
     {
         let mut none = literal;
@@ -31,7 +32,8 @@ impl Encoder {
     /// None of the usages.
     fn none_of(&mut self, usages: &[Usage]) -> Result<Lit, Memory>
         requires { self.old.next + (length usages.now - 1) < 2 ^ 32 }
-        ensures made { OnOk result (Encodes self.old self.new (uncovered_clauses self.old.next usages.now) (length usages.now - 1)) }
+        ensures made { OnOk result (Encodes self.old self.new
+            (uncovered_clauses self.old.next usages.now) (length usages.now - 1)) }
         ensures literal { IfOk result (λ l. l ≡ uncovered_literal self.old.truth self.old.next usages.now) }
     {
         if usages.is_empty() {
@@ -80,8 +82,9 @@ fn ask_pair(
     second: &Usage,
 ) -> Result<(), Memory>
     requires { encoder.old.next + 1 < 2 ^ 32 }
-    ensures made { OnOk result (Encodes encoder.old encoder.new (pair_clauses encoder.old.next ((first.now, second.now) ∷ [])) 1) }
-    ensures asked { OnOk result (asked.new.items ≡ asked.old.items ++ pairs_asked position encoder.old.next ((first.now, second.now) ∷ [])) }
+    ensures made { OnOk result (EncodesPairs encoder.old encoder.new ((first.now, second.now) ∷ [])) }
+    ensures asked { OnOk result (asked.new.items ≡ asked.old.items
+        ++ pairs_asked position encoder.old.next ((first.now, second.now) ∷ [])) }
 {
     let goal = encoder.both(first.literal, second.literal)?;
     let question = Question::Ambiguous {
@@ -102,8 +105,10 @@ fn ask_with(
     later: &[Usage],
 ) -> Result<(), Memory>
     requires { encoder.old.next + length later.now < 2 ^ 32 }
-    ensures made { OnOk result (Encodes encoder.old encoder.new (pair_clauses encoder.old.next (map (λ u. (first.now, u)) later.now)) (length later.now)) }
-    ensures asked { OnOk result (asked.new.items ≡ asked.old.items ++ pairs_asked position encoder.old.next (map (λ u. (first.now, u)) later.now)) }
+    ensures made { OnOk result (Encodes encoder.old encoder.new
+        (pair_clauses encoder.old.next (map (λ u. (first.now, u)) later.now)) (length later.now)) }
+    ensures asked { OnOk result (asked.new.items ≡ asked.old.items
+        ++ pairs_asked position encoder.old.next (map (λ u. (first.now, u)) later.now)) }
 {
     for second in later {
         ask_pair(encoder, asked, position, first, second)?;
@@ -119,8 +124,9 @@ fn ask_pairs(
     usages: &[Usage],
 ) -> Result<(), Memory>
     requires { encoder.old.next + length (pairs usages.now) < 2 ^ 32 }
-    ensures made { OnOk result (Encodes encoder.old encoder.new (pair_clauses encoder.old.next (pairs usages.now)) (length (pairs usages.now))) }
-    ensures asked { OnOk result (asked.new.items ≡ asked.old.items ++ pairs_asked position encoder.old.next (pairs usages.now)) }
+    ensures made { OnOk result (EncodesPairs encoder.old encoder.new (pairs usages.now)) }
+    ensures asked { OnOk result (asked.new.items ≡ asked.old.items
+        ++ pairs_asked position encoder.old.next (pairs usages.now)) }
 {
     for (place, first) in usages.iter().enumerate() {
         ask_with(encoder, asked, position, first, &usages[place + 1..])?;
@@ -128,7 +134,8 @@ fn ask_pairs(
     Ok(())
 }
 
-/// The questions of one choice: each variant, each pair of variants, and where the position is mandatory, whether it is uncovered.
+/// The questions of one choice: each variant, each pair of variants, and where the position is mandatory, whether it is
+/// uncovered.
 fn ask_choice(
     encoder: &mut Encoder,
     asked: &mut Vec<Asked>,
@@ -137,7 +144,8 @@ fn ask_choice(
     usages: &[Usage],
 ) -> Result<(), Memory>
     requires { encoder.old.next + choice_variables mandatory usages.now < 2 ^ 32 }
-    ensures made { OnOk result (Encodes encoder.old encoder.new (choice_clauses encoder.old.next mandatory usages.now) (choice_variables mandatory usages.now)) }
+    ensures made { OnOk result (Encodes encoder.old encoder.new
+        (choice_clauses encoder.old.next mandatory usages.now) (choice_variables mandatory usages.now)) }
     ensures asked { OnOk result (asked.new.items ≡ asked.old.items
         ++ choice_asked encoder.old.truth encoder.old.next position mandatory usages.now) }
 {
@@ -160,7 +168,8 @@ pub(crate) fn ask_choices(
     usages: &[Usage],
 ) -> Result<(), Memory>
     requires truth { encoder.old.truth ≡ length book.now.codes }
-    requires usages { usages.now ≡ all_usages book.now (length book.now.codes) (usages_start book.now day) (choices book.now day) }
+    requires usages { usages.now
+        ≡ all_usages book.now (length book.now.codes) (usages_start book.now day) (choices book.now day) }
     requires room { encoder.old.next + goals_variables (numbered_at book.now day encoder.old.next) < 2 ^ 32 }
     ensures made { let cs = numbered_at book.now day encoder.old.next in
         OnOk result (Encodes encoder.old encoder.new (goals_clauses cs) (goals_variables cs)) }

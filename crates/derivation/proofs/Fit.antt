@@ -1,55 +1,39 @@
 -- Where a set refutes the questions of a day that have to be closed, its parts list has no gap and no choice.
-use Rattle.std.proofs.Common.{subst, ◌≡◌, ℕ, suc, ◌+◌, ◌≤◌, Bool, true, false, not, ◌&&◌, ◌||◌, cond, eqb, leb, List, [], ◌∷◌, ◌++◌, Option, None, Some, length, map, inl, inr, refl, sym, ap, ◌∙◌, ◌⊎◌, arith}
-use Rattle.std.specs.List.{filter, slice_get, AllByRecursion}
+use Rattle.std.proofs.Common.{subst, ◌≡◌, ℕ, suc, ◌≤◌, Bool, true, false, not, ◌&&◌, ◌||◌, cond, eqb, leb, List, [], ◌∷◌, ◌++◌, Option, None, Some, length, map, inl, inr, refl, sym, ap, ◌∙◌, ◌⊎◌, arith}
+use Rattle.std.specs.List.{filter, flat_map, slice_get, AllByRecursion}
 use Rattle.std.specs.Option.{option_map_or}
 use Rattle.std.proofs.lemmas.Bool.{false≢true, true≢false, cases_Bool, and_from, and_cases, not-false, le-leb, eq-eqb, cond-true, cond-false}
 use Rattle.pb_base.specs.Rule.{Rule, negation, both, never, holds}
 use Rattle.book_model.specs.Activity.{is_within}
 use Rattle.book_model.specs.Contents.{Contents}
-use Rattle.book_model.specs.Parts.{variants_of, is_used, is_chosen, is_active_position, selected}
+use Rattle.book_model.specs.Parts.{variants_of, is_selected, is_selected_at, is_active_position, selected}
 use Rattle.book_model.specs.Sound.{permits, is_fit, are_fit_from, is_sound}
 use Rattle.book_model.specs.declared.record.Position.{Position}
 use Rattle.book_model.specs.declared.record.Variant.{Variant}
-use Rattle.clausify.specs.Choices.{Choice, usage, is_active_variant, active_variants, choices_from}
-use Rattle.clausify.specs.Questions.{pairs, and_none, none_rule}
-use Rattle.clausify.specs.Goals.{usages_from, pairs_asked, choice_asked, choice_variables, choices_asked, superfluous_asked, uncovered_asked, uncovered_literal, codes_asked_from}
-use Rattle.clausify.specs.Items.{variables_of, usage_item}
-use Rattle.clausify.specs.Coded.{slice_asked, usages_start, goals_start}
-use Rattle.clausify.specs.declared.question.Question.TheVariants.{Uncovered}
-use Rattle.clausify.specs.Choices.{choices}
-use Rattle.clausify.specs.Formulas.{connectives, literal_of}
-use Rattle.clausify.proofs.Truth.{all_first, all_last}
+use Rattle.clausify.specs.Choices.{Choice, usage, is_active_variant, active_variants, choices_from, choices}
+use Rattle.clausify.specs.Questions.{pairs, and_none, none_rule, uncovered_question, choice_questions, code_questions_from, questions}
+use Rattle.clausify.specs.declared.question.Question.{Question}
+use Rattle.clausify.specs.declared.question.Question.TheVariants.{Superfluous, Ambiguous, Uncovered}
+use Rattle.clausify.proofs.ListLaws.{all_first, all_last}
 use Rattle.derivation.proofs.Refuted.{IsRefuted, AllRefuted, first_if}
-
--- a variant with the literal of its usage, which the list of them is over
-abbrev items_of : {A B C D X : Type 0} → (A → B → C → D → List X) → Type 0
-items_of {A} {B} {C} {D} {X} f = X
-
-abbrev Usage : Type 0
-Usage = items_of usages_from
 
 -- whether the set meets the usage of a variant
 abbrev meets : Contents → List Bool → ℕ → Bool
 meets b x variant = holds (usage b variant) x
 
-abbrev NotBoth : Contents → List Bool → Usage × Usage → Type 0
-NotBoth b x p = (meets b x p.0.variant && meets b x p.1.variant) ≡ false
+abbrev NotBoth : Contents → List Bool → ℕ × ℕ → Type 0
+NotBoth b x p = (meets b x p.0 && meets b x p.1) ≡ false
 
-not_both_asked : (b : Contents) (day : ℕ) (x : List Bool) (position v : ℕ) (ps : List (Usage × Usage)) → AllRefuted b day x (pairs_asked position v ps) → AllByRecursion (NotBoth b x) ps
-not_both_asked b day x position v [] h = tt
-not_both_asked b day x position v (p ∷ ps) h = (h.0 refl, not_both_asked b day x position (v + 1) ps h.1)
+not_both_asked : (b : Contents) (day : ℕ) (x : List Bool) (position : ℕ) (ps : List (ℕ × ℕ)) → AllRefuted b day x (map (λ p. Ambiguous position p.0 p.1) ps) → AllByRecursion (NotBoth b x) ps
+not_both_asked b day x position [] h = tt
+not_both_asked b day x position (p ∷ ps) h = (h.0 refl, not_both_asked b day x position ps h.1)
 
 -- beside a variant that is met no other is
-none_beside : (b : Contents) (x : List Bool) (u : Usage) (n v : ℕ) (vs : List ℕ) → meets b x u.variant ≡ true
-    → AllByRecursion (NotBoth b x) (map (λ y. (u, y)) (usages_from b n v vs)) → filter (meets b x) vs ≡ []
-none_beside b x u n v [] met h = refl
-none_beside b x u n v (y ∷ ys) met h =
-    let unmet : meets b x y ≡ false = elim (and_cases (meets b x u.variant) (meets b x y) h.0) [ inl e ↦ absurd (true≢false (sym met ∙ e)) | inr e ↦ e ] in
-    cond-false (meets b x y) (y ∷ filter (meets b x) ys) (filter (meets b x) ys) unmet ∙ none_beside b x u n (v + connectives (usage b y)) ys met h.1
-
-split_pairs : (b : Contents) (x : List Bool) (u : Usage) (us : List Usage) → AllByRecursion (NotBoth b x) (pairs (u ∷ us))
-    → AllByRecursion (NotBoth b x) (map (λ y. (u, y)) us) × AllByRecursion (NotBoth b x) (pairs us)
-split_pairs b x u us h = (all_first (NotBoth b x) (map (λ y. (u, y)) us) (pairs us) h, all_last (NotBoth b x) (map (λ y. (u, y)) us) (pairs us) h)
+none_beside : (b : Contents) (x : List Bool) (u : ℕ) (vs : List ℕ) → meets b x u ≡ true → AllByRecursion (NotBoth b x) (map (λ y. (u, y)) vs) → filter (meets b x) vs ≡ []
+none_beside b x u [] met h = refl
+none_beside b x u (y ∷ ys) met h =
+    let unmet : meets b x y ≡ false = elim (and_cases (meets b x u) (meets b x y) h.0) [ inl e ↦ absurd (true≢false (sym met ∙ e)) | inr e ↦ e ] in
+    cond-false (meets b x y) (y ∷ filter (meets b x) ys) (filter (meets b x) ys) unmet ∙ none_beside b x u ys met h.1
 
 met_first : (p : ℕ → Bool) (y : ℕ) (ys : List ℕ) → p y ≡ true → filter p (y ∷ ys) ≡ y ∷ filter p ys
 met_first p y ys met = cond-true (p y) (y ∷ filter p ys) (filter p ys) met
@@ -58,18 +42,18 @@ unmet_first : (p : ℕ → Bool) (y : ℕ) (ys : List ℕ) → p y ≡ false →
 unmet_first p y ys unmet = cond-false (p y) (y ∷ filter p ys) (filter p ys) unmet
 
 -- where no two variants are met together, at most one is
-at_most_one : (b : Contents) (x : List Bool) (n v : ℕ) (vs : List ℕ) → AllByRecursion (NotBoth b x) (pairs (usages_from b n v vs)) → length (filter (meets b x) vs) ≤ 1
-at_most_one b x n v [] h = omega arith
-at_most_one b x n v (y ∷ ys) h =
-    let parts = split_pairs b x (record { variant = y; literal = literal_of n v (usage b y) }) (usages_from b n (v + connectives (usage b y)) ys) h in
+at_most_one : (b : Contents) (x : List Bool) (vs : List ℕ) → AllByRecursion (NotBoth b x) (pairs vs) → length (filter (meets b x) vs) ≤ 1
+at_most_one b x [] h = omega arith
+at_most_one b x (y ∷ ys) h =
+    let beside : List (ℕ × ℕ) = map (λ z. (y, z)) ys in
     elim (cases_Bool (meets b x y)) [
       | inl met ↦
-          let none : filter (meets b x) ys ≡ [] = none_beside b x (record { variant = y; literal = literal_of n v (usage b y) }) n (v + connectives (usage b y)) ys met parts.0 in
+          let none : filter (meets b x) ys ≡ [] = none_beside b x y ys met (all_first (NotBoth b x) beside (pairs ys) h) in
           let one : length (filter (meets b x) (y ∷ ys)) ≡ 1 = ap length (met_first (meets b x) y ys met ∙ ap (λ l. y ∷ l) none) in
           omega arith
       | inr unmet ↦
           let same : length (filter (meets b x) (y ∷ ys)) ≡ length (filter (meets b x) ys) = ap length (unmet_first (meets b x) y ys unmet) in
-          omega (arith, at_most_one b x n (v + connectives (usage b y)) ys parts.1)
+          omega (arith, at_most_one b x ys (all_last (NotBoth b x) beside (pairs ys) h))
     ]
 
 keeps_more : (p : ℕ → Bool) (y : ℕ) (ys : List ℕ) → length (filter p ys) ≤ length (filter p (y ∷ ys))
@@ -104,7 +88,7 @@ at_least_one b x (y ∷ ys) h =
 
 -- the chosen variants are the active ones whose usage is met
 chosen_of : (day : ℕ) (x : List Bool) (o : Option Variant)
-    → option_map_or (is_used day x) o false ≡ (option_map_or (λ v. is_within v.from v.until day) o false && holds (option_map_or (λ v. v.rule) o never) x)
+    → option_map_or (is_selected day x) o false ≡ (option_map_or (λ v. is_within v.from v.until day) o false && holds (option_map_or (λ v. v.rule) o never) x)
 chosen_of day x None = refl
 chosen_of day x (Some v) = refl
 
@@ -130,47 +114,42 @@ permits_from p count most some =
 abbrev choice_at : Contents → ℕ → ℕ → Position → Choice
 choice_at b day i p = record { position = i; mandatory = p.mandatory; variants = active_variants b day i }
 
-active_fits : (b : Contents) (day : ℕ) (x : List Bool) (n v w i : ℕ) (p : Position) → is_active_position day p ≡ true
-    → AllRefuted b day x (choice_asked n w i p.mandatory (usages_from b n v (active_variants b day i))) → is_fit b day x i p ≡ true
-active_fits b day x n v w i p active h =
-    let us = usages_from b n v (active_variants b day i) in
-    let front : AllRefuted b day x (map superfluous_asked us ++ pairs_asked i w (pairs us)) =
-    all_first (IsRefuted b day x) (map superfluous_asked us ++ pairs_asked i w (pairs us)) (uncovered_asked n (w + length (pairs us)) i p.mandatory us) h in
-    let back : AllRefuted b day x (uncovered_asked n (w + length (pairs us)) i p.mandatory us) =
-    all_last (IsRefuted b day x) (map superfluous_asked us ++ pairs_asked i w (pairs us)) (uncovered_asked n (w + length (pairs us)) i p.mandatory us) h in
-    let paired : AllRefuted b day x (pairs_asked i w (pairs us)) = all_last (IsRefuted b day x) (map superfluous_asked us) (pairs_asked i w (pairs us)) front in
-    let uncovered = first_if (IsRefuted b day x) p.mandatory (record { question = Uncovered i; goal = uncovered_literal n (w + length (pairs us)) us }) [] back in
-    let same : selected b day x i p ≡ filter (meets b x) (active_variants b day i) =
-    cond-true (is_active_position day p) (filter (is_chosen b day x) (variants_of i b.variants)) [] active
-    ∙ filtered (is_chosen b day x) (is_active_variant b day) (meets b x) (λ k. chosen_of day x (slice_get b.variants k)) (variants_of i b.variants) in
-    ap (λ t. not t || permits p (length (selected b day x i p))) active ∙ ap (λ l. permits p (length l)) same
-    ∙ permits_from p (length (filter (meets b x) (active_variants b day i)))
-    (at_most_one b x n v (active_variants b day i) (not_both_asked b day x i w (pairs us) paired))
-    (λ must. at_least_one b x (active_variants b day i) (uncovered.0 must refl))
+active_fits : (b : Contents) (day : ℕ) (x : List Bool) (i : ℕ) (p : Position) → is_active_position day p ≡ true
+    → AllRefuted b day x (choice_questions (choice_at b day i p)) → is_fit b day x i p ≡ true
+active_fits b day x i p active h =
+    let vs = active_variants b day i in
+    let each : List Question = map Superfluous vs in
+    let two : List Question = map (λ (z : ℕ × ℕ). Ambiguous i z.0 z.1) (pairs vs) in
+    let front : AllRefuted b day x (each ++ two) = all_first (IsRefuted b day x) (each ++ two) (uncovered_question p.mandatory i) h in
+    let back : AllRefuted b day x (uncovered_question p.mandatory i) = all_last (IsRefuted b day x) (each ++ two) (uncovered_question p.mandatory i) h in
+    let paired = not_both_asked b day x i (pairs vs) (all_last (IsRefuted b day x) each two front) in
+    let uncovered = first_if (IsRefuted b day x) p.mandatory (Uncovered i) [] back in
+    let same : selected b day x i p ≡ filter (meets b x) vs =
+    cond-true (is_active_position day p) (filter (is_selected_at b day x) (variants_of i b.variants)) [] active
+    ∙ filtered (is_selected_at b day x) (is_active_variant b day) (meets b x) (λ v. chosen_of day x (slice_get b.variants v)) (variants_of i b.variants) in
+    let fits : permits p (length (filter (meets b x) vs)) ≡ true =
+    permits_from p (length (filter (meets b x) vs)) (at_most_one b x vs paired) (λ must. at_least_one b x vs (uncovered.0 must refl)) in
+    ap (λ t. not t || permits p (length (selected b day x i p))) active ∙ ap (λ l. permits p (length l)) same ∙ fits
 
-fit_from : (b : Contents) (day : ℕ) (x : List Bool) (n v w i : ℕ) (ps : List Position) → AllRefuted b day x (choices_asked b n v w (choices_from i b day ps)) → are_fit_from i b day x ps ≡ true
-fit_from b day x n v w i [] h = refl
-fit_from b day x n v w i (p ∷ ps) h =
-    let rest = choices_from (suc i) b day ps in
+fit_from : (b : Contents) (day : ℕ) (x : List Bool) (i : ℕ) (ps : List Position) → AllRefuted b day x (flat_map choice_questions (choices_from i b day ps)) → are_fit_from i b day x ps ≡ true
+fit_from b day x i [] h = refl
+fit_from b day x i (p ∷ ps) h =
     let c = choice_at b day i p in
-    let us = usages_from b n v (active_variants b day i) in
-    let v' = v + variables_of (map (usage_item b) (active_variants b day i)) in
-    let w' = w + choice_variables p.mandatory us in
+    let rest = choices_from (suc i) b day ps in
     elim (cases_Bool (is_active_position day p)) [
       | inl active ↦
-          let k : AllRefuted b day x (choices_asked b n v w (c ∷ rest)) =
-          subst (λ cs. AllRefuted b day x (choices_asked b n v w cs)) (cond-true (is_active_position day p) (c ∷ rest) rest active) h in
+          let k : AllRefuted b day x (flat_map choice_questions (c ∷ rest)) =
+          subst (λ cs. AllRefuted b day x (flat_map choice_questions cs)) (cond-true (is_active_position day p) (c ∷ rest) rest active) h in
           and_from (is_fit b day x i p) (are_fit_from (suc i) b day x ps)
-          (active_fits b day x n v w i p active (all_first (IsRefuted b day x) (choice_asked n w i p.mandatory us) (choices_asked b n v' w' rest) k))
-          (fit_from b day x n v' w' (suc i) ps (all_last (IsRefuted b day x) (choice_asked n w i p.mandatory us) (choices_asked b n v' w' rest) k))
+          (active_fits b day x i p active (all_first (IsRefuted b day x) (choice_questions c) (flat_map choice_questions rest) k))
+          (fit_from b day x (suc i) ps (all_last (IsRefuted b day x) (choice_questions c) (flat_map choice_questions rest) k))
       | inr idle ↦
           and_from (is_fit b day x i p) (are_fit_from (suc i) b day x ps)
           (ap (λ t. not t || permits p (length (selected b day x i p))) idle)
-          (fit_from b day x n v w (suc i) ps
-          (subst (λ cs. AllRefuted b day x (choices_asked b n v w cs)) (cond-false (is_active_position day p) (c ∷ rest) rest idle) h))
+          (fit_from b day x (suc i) ps
+          (subst (λ cs. AllRefuted b day x (flat_map choice_questions cs)) (cond-false (is_active_position day p) (c ∷ rest) rest idle) h))
     ]
 
-pub sound_from_refuted : (b : Contents) (day : ℕ) (x : List Bool) → AllRefuted b day x (slice_asked b day) → is_sound b day x ≡ true
+pub sound_from_refuted : (b : Contents) (day : ℕ) (x : List Bool) → AllRefuted b day x (questions b day) → is_sound b day x ≡ true
 sound_from_refuted b day x h =
-    fit_from b day x (length b.codes) (usages_start b day) (goals_start b day) 0 b.positions
-    (all_last (IsRefuted b day x) (codes_asked_from 0 b.codes) (choices_asked b (length b.codes) (usages_start b day) (goals_start b day) (choices b day)) h.1)
+    fit_from b day x 0 b.positions (all_last (IsRefuted b day x) (code_questions_from 0 b.codes) (flat_map choice_questions (choices b day)) h.1)

@@ -1,17 +1,18 @@
 pub mod PieceLaws
+pub mod ReadLaws
 pub mod CloseLaws
-pub mod StepLaws
+pub mod LimitLaws
+pub mod KeptLaws
 pub mod Refuted
 pub mod Fit
-pub mod DaysAlike
 pub mod Walk
-pub mod LimitLaws
 pub mod Released
+pub mod NamedLaws
 pub mod WordLaws
 pub mod LineLaws
 pub mod MemberLaws
 pub mod PairLaws
-pub mod LeadLaws
-pub mod TellLaws
-pub mod EngineBook
-pub mod HandMade
+pub mod LineBack
+pub mod Leading
+pub mod TextLaws
+mod WorkedCert

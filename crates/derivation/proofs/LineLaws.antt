@@ -5,10 +5,8 @@ use Rattle.std.proofs.lemmas.Bool.{and_parts, and_from, ltb-true, ne_eqb, not-tr
 use Rattle.std.proofs.lemmas.Grind.{flat_map-append}
 use Rattle.std.proofs.lemmas.List.Folds.{list_all-append}
 use Rattle.std.proofs.lemmas.List.Splits.{slice_split-cons_yes, slice_split-cons_no}
-use Rattle.derivation.specs.Lines.{words_of}
 use Rattle.derivation.specs.Pieces.{pieces}
 use Rattle.derivation.specs.Written.{spaced, line_of}
-use Rattle.derivation.specs.Leading.{ended, is_one_line}
 use Rattle.derivation.proofs.WordLaws.{is_plain}
 
 -- no byte of the piece is the separator
@@ -34,32 +32,27 @@ plain_is_whole separator (x ∷ xs) low plain =
     let above : 32 < x = ltb-true 32 x parts.0 in
     and_from (not (eqb x separator)) (is_whole separator xs) (not_from_false (eqb x separator) (ne_eqb x separator (λ same. omega arith))) (plain_is_whole separator xs low parts.1)
 
-pub words_back : (first : List ℕ) (rest : List (List ℕ)) → is_plain first ≡ true → list_all is_plain rest ≡ true → words_of (first ++ spaced rest) ≡ first ∷ rest
+pub words_back : (first : List ℕ) (rest : List (List ℕ)) → is_plain first ≡ true → list_all is_plain rest ≡ true → pieces 32 (first ++ spaced rest) ≡ first ∷ rest
 words_back first [] plain all = ap (pieces 32) (append-nil first) ∙ uncut 32 first (plain_is_whole 32 first (omega arith) plain)
 words_back first (w ∷ ws) plain all =
     let parts = and_parts (is_plain w) (list_all is_plain ws) all in
     cut_at 32 first (w ++ spaced ws) (plain_is_whole 32 first (omega arith) plain) ∙ ap (λ words. first ∷ words) (words_back w ws parts.0 parts.1)
 
-one_line_append : (xs ys : List ℕ) → is_one_line xs ≡ true → is_one_line ys ≡ true → is_one_line (xs ++ ys) ≡ true
-one_line_append xs ys p q = list_all-append (λ b. not (eqb b 10)) xs ys ∙ and_from (is_one_line xs) (is_one_line ys) p q
+whole_append : (separator : ℕ) (xs ys : List ℕ) → is_whole separator xs ≡ true → is_whole separator ys ≡ true → is_whole separator (xs ++ ys) ≡ true
+whole_append separator xs ys p q = list_all-append (λ b. not (eqb b separator)) xs ys ∙ and_from (is_whole separator xs) (is_whole separator ys) p q
 
-spaced_is_one_line : (words : List (List ℕ)) → list_all is_plain words ≡ true → is_one_line (spaced words) ≡ true
-spaced_is_one_line [] all = refl
-spaced_is_one_line (w ∷ ws) all =
+spaced_is_whole : (words : List (List ℕ)) → list_all is_plain words ≡ true → is_whole 10 (spaced words) ≡ true
+spaced_is_whole [] all = refl
+spaced_is_whole (w ∷ ws) all =
     let parts = and_parts (is_plain w) (list_all is_plain ws) all in
-    one_line_append w (spaced ws) (plain_is_whole 10 w (omega arith) parts.0) (spaced_is_one_line ws parts.1)
+    whole_append 10 w (spaced ws) (plain_is_whole 10 w (omega arith) parts.0) (spaced_is_whole ws parts.1)
 
-pub is_one_line_of : (first : List ℕ) (rest : List (List ℕ)) → is_plain first ≡ true → list_all is_plain rest ≡ true → is_one_line (first ++ spaced rest) ≡ true
-is_one_line_of first rest plain all = one_line_append first (spaced rest) (plain_is_whole 10 first (omega arith) plain) (spaced_is_one_line rest all)
-
-pub lines_back : (lines : List (List ℕ)) → list_all is_one_line lines ≡ true → pieces 10 (ended lines) ≡ lines ++ [] ∷ []
-lines_back [] whole = refl
-lines_back (line ∷ lines) whole =
-    let parts = and_parts (is_one_line line) (list_all is_one_line lines) whole in
-    ap (pieces 10) (append_assoc line (10 ∷ []) (ended lines)) ∙ cut_at 10 line (ended lines) parts.0 ∙ ap (λ ls. line ∷ ls) (lines_back lines parts.1)
-
-pub ended_more : (lines : List (List ℕ)) (line : List ℕ) → ended (lines ++ line ∷ []) ≡ ended lines ++ (line ++ 10 ∷ [])
-ended_more lines line = flat_map-append (λ l. l ++ 10 ∷ []) lines (line ∷ []) ∙ ap (λ l. ended lines ++ l) (append-nil (line ++ 10 ∷ []))
+-- the first line of a text, and the text behind it
+pub line_cut : (keyword : List ℕ) (words : List (List ℕ)) (rest : List ℕ) → is_plain keyword ≡ true → list_all is_plain words ≡ true
+    → pieces 10 (line_of keyword words ++ rest) ≡ (keyword ++ spaced words) ∷ pieces 10 rest
+line_cut keyword words rest plain all =
+    ap (pieces 10) (append_assoc (keyword ++ spaced words) (10 ∷ []) rest)
+    ∙ cut_at 10 (keyword ++ spaced words) rest (whole_append 10 keyword (spaced words) (plain_is_whole 10 keyword (omega arith) plain) (spaced_is_whole words all))
 
 -- a line that is put together from its keyword, its words and its end
 pub some_words : (t₀ t₁ t₂ t₃ keyword : List ℕ) (words : List (List ℕ)) → t₁ ≡ t₀ ++ keyword → t₂ ≡ t₁ ++ spaced words → t₃ ≡ t₂ ++ 10 ∷ [] → t₃ ≡ t₀ ++ line_of keyword words

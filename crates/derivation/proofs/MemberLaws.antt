@@ -1,17 +1,16 @@
 -- The names of a set's codes make that set.
-use Rattle.std.proofs.Common.{◌≡◌, ℕ, ◌+◌, ◌<◌, ◌≤◌, Bool, true, false, not, cond, ltb, leb, ◌&&◌, List, [], ◌∷◌, ◌++◌, None, Some, length, get_or, set, drop, inl, inr, refl, sym, ap, ◌∙◌, arith, append_assoc}
-use Rattle.std.specs.List.{list_all, slice_get, IsDistinct, prefix_len}
-use Rattle.std.specs.Option.{option_and_then}
+use Rattle.std.proofs.Common.{◌≡◌, ℕ, ◌+◌, ◌<◌, ◌≤◌, Bool, true, false, not, cond, ltb, leb, ◌&&◌, List, [], ◌∷◌, ◌++◌, None, Some, Ok, length, map, ◌||◌, drop, inl, inr, refl, sym, ap, ◌∙◌, arith}
+use Rattle.std.specs.List.{list_all, list_any, slice_get, IsDistinct, AllByRecursion, position, prefix_len}
+use Rattle.std.specs.Option.{option_or, is_none}
 use Rattle.std.specs.Cmp.Lexicographic.{nat_list_eq_equiv}
-use Rattle.std.proofs.lemmas.Bool.{and_parts, and_from, or_cases, leb-true, lt-ltb, cond-false}
-use Rattle.std.proofs.lemmas.Bool.Decides.{nat_tests}
-use Rattle.std.proofs.lemmas.List.{drop_more, get_or_at, set_at, length-append}
-use Rattle.std.proofs.lemmas.List.Sums.{prefix_len_is}
-use Rattle.std.proofs.lemmas.Map.Keys.{apart_from_distinct}
+use Rattle.std.proofs.lemmas.Bool.{cases_Bool, false≢true, true≢false, and_parts, and_from, or_cases, or_left, or_right, leb-true, lt-ltb}
+use Rattle.std.proofs.lemmas.List.{drop_more}
 use Rattle.std.proofs.lemmas.Option.{get_or_from_slice_get}
 use Rattle.pb_base.specs.Names.{same_name, is_name, is_name_byte, is_code_name, place_in, true_word, false_word}
-use Rattle.pb_base.specs.Sets.{has, none_of}
-use Rattle.derivation.specs.Lines.{with_code, set_of}
+use Rattle.pb_base.specs.NamedSet.{named, name_fault, first_fault, set_of_names}
+use Rattle.pb_base.specs.Results.{unless}
+use Rattle.pb_base.specs.Sets.{has}
+use Rattle.pb_base.specs.declared.named_set.NameFault.TheVariants.{Unknown, Repeated}
 use Rattle.derivation.specs.Written.{members}
 use Rattle.derivation.proofs.WordLaws.{is_plain}
 
@@ -27,50 +26,114 @@ left_out names x i len below here =
     let within : i < length x = omega arith in
     rw (drop_more names i [] below, drop_more x i false within, here) refl
 
-name_place : (names : List (List ℕ)) (place : ℕ) → IsDistinct same_name names → place < length names → place_in names (get_or names place []) ≡ Some place
-name_place names place apart inside =
-    let name = get_or names place [] in
-    let len : prefix_len (λ x. not (same_name name x)) names ≡ place =
-    prefix_len_is (λ x. not (same_name name x)) names place [] (omega arith)
-    (λ k before. ap not (nat_list_eq_equiv.symm name (get_or names k []) ∙ apart_from_distinct same_name names k place [] apart before inside))
-    (λ _. ap not (nat_list_eq_equiv.refl name)) in
-    let test : ltb place (length names) ≡ true = grind (arith, nat_tests) in
-    rw (len, test) refl
+-- the names are those of the set's codes
+same_self : (name : List ℕ) → same_name name name ≡ true
+same_self name = nat_list_eq_equiv.refl name
 
--- the name behind some others has their number as its place
-place_behind : (names before rest : List (List ℕ)) (name : List ℕ) → names ≡ before ++ name ∷ rest → IsDistinct same_name names → place_in names name ≡ Some (length before)
-place_behind names before rest name is apart =
-    let at : get_or names (length before) [] ≡ name = ap (λ ns. get_or ns (length before) []) is ∙ get_or_at before name rest [] (length before) refl in
-    let inside : length before < length names = omega (arith, ap length is, length-append before (name ∷ rest)) in
-    ap (place_in names) (sym at) ∙ name_place names (length before) apart inside
+absent : (n : List ℕ) (names : List (List ℕ)) (x : List Bool) → AllByRecursion (λ m. same_name n m ≡ false) names → list_any (same_name n) (members names x) ≡ false
+absent n [] x apart = refl
+absent n (m ∷ names) [] apart = refl
+absent n (m ∷ names) (true ∷ x) apart = ap (λ t. t || list_any (same_name n) (members names x)) apart.0 ∙ absent n names x apart.1
+absent n (m ∷ names) (false ∷ x) apart = absent n names x apart.1
 
-code_put : (names : List (List ℕ)) (y : List Bool) (name : List ℕ) (place : ℕ) → place_in names name ≡ Some place → has y place ≡ false → with_code names y name ≡ Some (set y place true)
-code_put names y name place is out = ap (option_and_then (λ k. cond (has y k) None (Some (set y k true)))) is ∙ cond-false (has y place) None (Some (set y place true)) out
+besides : (n : List ℕ) (ms codes : List (List ℕ)) → AllByRecursion (λ m. same_name n m ≡ false) codes
+    → map (λ code. list_any (same_name code) (n ∷ ms)) codes ≡ map (λ code. list_any (same_name code) ms) codes
+besides n ms [] apart = refl
+besides n ms (c ∷ codes) apart =
+    ap (λ t. (t || list_any (same_name c) ms) ∷ map (λ code. list_any (same_name code) (n ∷ ms)) codes) (nat_list_eq_equiv.symm c n ∙ apart.0)
+    ∙ ap (λ l. list_any (same_name c) ms ∷ l) (besides n ms codes apart.1)
 
--- the names that are left, put into the set of those before them
-set_from : (names : List (List ℕ)) (y : List Bool) (before rest : List (List ℕ)) (done x : List Bool) → names ≡ before ++ rest → y ≡ done ++ none_of (length rest) → IsDistinct same_name names
-    → length done ≡ length before → length x ≡ length rest → set_of names y (members rest x) ≡ Some (done ++ x)
-set_from names y before [] done [] is so_far apart same len = ap Some so_far
-set_from names y before [] done (b ∷ x) is so_far apart same len = absurd (omega arith)
-set_from names y before (n ∷ rest) done [] is so_far apart same len = absurd (omega arith)
-set_from names y before (n ∷ rest) done (false ∷ x) is so_far apart same len =
-    set_from names y (before ++ n ∷ []) rest (done ++ false ∷ []) x
-    (is ∙ sym (append_assoc before (n ∷ []) rest)) (so_far ∙ sym (append_assoc done (false ∷ []) (none_of (length rest)))) apart
-    (omega (arith, length-append done (false ∷ []), length-append before (n ∷ []))) (omega arith)
-    ∙ ap Some (append_assoc done (false ∷ []) x)
-set_from names y before (n ∷ rest) done (true ∷ x) is so_far apart same len =
-    let placed : place_in names n ≡ Some (length before) = place_behind names before rest n is apart in
-    let out : has y (length before) ≡ false = ap (λ z. has z (length before)) so_far ∙ get_or_at done false (none_of (length rest)) false (length before) same in
-    let put : set y (length before) true ≡ done ++ true ∷ none_of (length rest) =
-    ap (λ z. set z (length before) true) so_far ∙ set_at done false (none_of (length rest)) true (length before) same in
-    ap (option_and_then (λ z. set_of names z (members rest x))) (code_put names y n (length before) placed out)
-    ∙ set_from names (set y (length before) true) (before ++ n ∷ []) rest (done ++ true ∷ []) x
-    (is ∙ sym (append_assoc before (n ∷ []) rest)) (put ∙ sym (append_assoc done (true ∷ []) (none_of (length rest)))) apart
-    (omega (arith, length-append done (true ∷ []), length-append before (n ∷ []))) (omega arith)
-    ∙ ap Some (append_assoc done (true ∷ []) x)
+named_back : (names : List (List ℕ)) (x : List Bool) → IsDistinct same_name names → length x ≡ length names → named names (members names x) ≡ x
+unfolding IsDistinct
+named_back [] [] apart len = refl
+named_back [] (b ∷ x) apart len = absurd (omega arith)
+named_back (n ∷ names) [] apart len = absurd (omega arith)
+named_back (n ∷ names) (true ∷ x) apart len =
+    let ms = members names x in
+    ap (λ t. (t || list_any (same_name n) ms) ∷ map (λ code. list_any (same_name code) (n ∷ ms)) names) (same_self n)
+    ∙ ap (λ l. true ∷ l) (besides n ms names apart.0 ∙ named_back names x apart.1 (omega arith))
+named_back (n ∷ names) (false ∷ x) apart len =
+    ap (λ t. t ∷ map (λ code. list_any (same_name code) (members names x)) names) (absent n names x apart.0) ∙ ap (λ l. false ∷ l) (named_back names x apart.1 (omega arith))
 
-pub set_back : (names : List (List ℕ)) (x : List Bool) → IsDistinct same_name names → length x ≡ length names → set_of names (none_of (length names)) (members names x) ≡ Some x
-set_back names x apart len = set_from names (none_of (length names)) [] names [] x refl refl apart refl len
+-- none of them is at fault
+found_below : (p : List ℕ → Bool) (xs : List (List ℕ)) → list_any p xs ≡ true → prefix_len (λ x. not (p x)) xs < length xs
+found_below p [] h = absurd (false≢true h)
+found_below p (x ∷ xs) h =
+    elim (cases_Bool (p x)) [
+      | inl met ↦ let is : prefix_len (λ y. not (p y)) (x ∷ xs) ≡ 0 = rw met refl in omega arith
+      | inr unmet ↦
+          let rest : list_any p xs ≡ true = sym (ap (λ t. t || list_any p xs) unmet) ∙ h in
+          let is : prefix_len (λ y. not (p y)) (x ∷ xs) ≡ 1 + prefix_len (λ y. not (p y)) xs = rw unmet refl in
+          omega (arith, found_below p xs rest)
+    ]
+
+position_found : (p : List ℕ → Bool) (xs : List (List ℕ)) → list_any p xs ≡ true → is_none (position p xs) ≡ false
+position_found p xs h =
+    let test : ltb (prefix_len (λ x. not (p x)) xs) (length xs) ≡ true = lt-ltb (prefix_len (λ x. not (p x)) xs) (length xs) (found_below p xs h) in
+    rw test refl
+
+or_false : (t u : Bool) → (t || u) ≡ false → (t ≡ false) × (u ≡ false)
+or_false true u h = absurd (true≢false h)
+or_false false u h = (refl, h)
+
+found : (codes : List (List ℕ)) (n : List ℕ) → list_any (same_name n) codes ≡ true → is_none (place_in codes n) ≡ false
+found codes n there = position_found (same_name n) codes there
+
+any_more : (n m : List ℕ) (left : List (List ℕ)) → list_any (same_name n) left ≡ false → same_name n m ≡ false → list_any (same_name n) (left ++ m ∷ []) ≡ false
+any_more n m [] out other = ap (λ t. t || false) other
+any_more n m (l ∷ left) out other =
+    let parts = or_false (same_name n l) (list_any (same_name n) left) out in
+    ap (λ t. t || list_any (same_name n) (left ++ m ∷ [])) parts.0 ∙ any_more n m left parts.1 other
+
+all_more : (m : List ℕ) (left ns : List (List ℕ)) → AllByRecursion (λ n. list_any (same_name n) left ≡ false) ns → AllByRecursion (λ n. same_name m n ≡ false) ns
+    → AllByRecursion (λ n. list_any (same_name n) (left ++ m ∷ []) ≡ false) ns
+all_more m left [] out apart = tt
+all_more m left (n ∷ ns) out apart = (any_more n m left out.0 (nat_list_eq_equiv.symm n m ∙ apart.0), all_more m left ns out.1 apart.1)
+
+no_fault : (codes left ns : List (List ℕ)) → AllByRecursion (λ n. list_any (same_name n) codes ≡ true) ns → IsDistinct same_name ns → AllByRecursion (λ n. list_any (same_name n) left ≡ false) ns
+    → first_fault codes left ns ≡ None
+unfolding IsDistinct
+no_fault codes left [] there apart out = refl
+no_fault codes left (n ∷ ns) there apart out =
+    let here : name_fault codes left n ≡ None =
+    ap (λ t. cond t (Some (Unknown (length left))) (cond (list_any (same_name n) left) (Some (Repeated (length left))) None)) (found codes n there.0)
+    ∙ ap (λ t. cond t (Some (Repeated (length left))) None) out.0 in
+    ap (λ o. option_or o (first_fault codes (left ++ n ∷ []) ns)) here ∙ no_fault codes (left ++ n ∷ []) ns there.1 apart.1 (all_more n left ns out.1 apart.0)
+
+all_members : (P : List ℕ → Type 0) (names : List (List ℕ)) (x : List Bool) → AllByRecursion P names → AllByRecursion P (members names x)
+all_members P [] x all = tt
+all_members P (n ∷ names) [] all = tt
+all_members P (n ∷ names) (true ∷ x) all = (all.0, all_members P names x all.1)
+all_members P (n ∷ names) (false ∷ x) all = all_members P names x all.1
+
+members_apart : (names : List (List ℕ)) (x : List Bool) → IsDistinct same_name names → IsDistinct same_name (members names x)
+unfolding IsDistinct
+members_apart [] x apart = tt
+members_apart (n ∷ names) [] apart = tt
+members_apart (n ∷ names) (true ∷ x) apart = (all_members (λ m. same_name n m ≡ false) names x apart.0, members_apart names x apart.1)
+members_apart (n ∷ names) (false ∷ x) apart = members_apart names x apart.1
+
+any_of_more : (n c : List ℕ) (codes : List (List ℕ)) → list_any (same_name n) codes ≡ true → list_any (same_name n) (c ∷ codes) ≡ true
+any_of_more n c codes there = or_right (same_name n c) (list_any (same_name n) codes) there
+
+all_there_more : (c : List ℕ) (codes ns : List (List ℕ)) → AllByRecursion (λ n. list_any (same_name n) codes ≡ true) ns → AllByRecursion (λ n. list_any (same_name n) (c ∷ codes) ≡ true) ns
+all_there_more c codes [] all = tt
+all_there_more c codes (n ∷ ns) all = (any_of_more n c codes all.0, all_there_more c codes ns all.1)
+
+all_there : (codes : List (List ℕ)) → AllByRecursion (λ n. list_any (same_name n) codes ≡ true) codes
+all_there [] = tt
+all_there (c ∷ codes) = (or_left (same_name c c) (list_any (same_name c) codes) (same_self c), all_there_more c codes codes (all_there codes))
+
+none_out : (ns : List (List ℕ)) → AllByRecursion (λ n. list_any (same_name n) [] ≡ false) ns
+none_out [] = tt
+none_out (n ∷ ns) = (refl, none_out ns)
+
+pub set_back : (names : List (List ℕ)) (x : List Bool) → IsDistinct same_name names → length x ≡ length names → set_of_names names (members names x) ≡ Ok x
+set_back names x apart len =
+    let ms = members names x in
+    ap (λ o. unless o (Ok (named names ms)))
+    (no_fault names [] ms (all_members (λ n. list_any (same_name n) names ≡ true) names x (all_there names)) (members_apart names x apart) (none_out ms))
+    ∙ ap (λ y. Ok y) (named_back names x apart len)
 
 pub members_are_codes : (names : List (List ℕ)) (x : List Bool) → list_all is_code_name names ≡ true → list_all is_code_name (members names x) ≡ true
 members_are_codes [] x all = refl

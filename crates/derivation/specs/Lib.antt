@@ -1,11 +1,11 @@
 pub mod Pieces
 pub mod Words
+pub mod CertLine
 pub mod Stage
-pub mod Lines
+pub mod After
 pub mod Limits
 pub mod Certificate
+pub mod Kept
 pub mod Reading
-pub mod Sets
-pub mod Written
 pub mod Showing
-pub mod Leading
+pub mod Written

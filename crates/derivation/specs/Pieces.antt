@@ -7,6 +7,6 @@ use Rattle.std.specs.List.{slice_split}
 abbrev pub pieces : ℕ → List ℕ → List (List ℕ)
 pieces separator text = slice_split (λ b. b == separator) text
 
--- the pieces that a reader has not given yet
+-- the pieces that are still to be given
 abbrev pub pieces_left : Bool → ℕ → List ℕ → List (List ℕ)
 pieces_left done separator rest = if done then [] else pieces separator rest

@@ -1,46 +1,48 @@
--- The stage that the reader of a certificate stands at.
-use Rattle.std.specs.Prelude.{◌≡◌, Result, Ok, Err, drop}
+-- What the reader of a certificate holds: the line that it read, and the stage that it stands at.
+use Rattle.std.specs.Prelude.{ℕ, ◌<◌, Bool, List, length, drop}
 use Rattle.pb_base.specs.declared.answer.Fail.{Fail}
 use Rattle.pb_base.specs.declared.answer.Fail.TheVariants.{Refused, Memory}
+use Rattle.clause_pool.specs.declared.chain.Pair.{Pair}
+use Rattle.derivation.specs.declared.check.Taken.{Taken}
+use Rattle.derivation.specs.declared.fault.CertFault.{CertFault}
 use Rattle.derivation.specs.declared.fault.CertKind.{CertKind}
-use Rattle.derivation.specs.declared.work.Work as code
-use Rattle.derivation.specs.declared.reading.Reading.{Reading}
-use Rattle.derivation.specs.declared.reading.Reading.TheVariants.{Head, Book, Slices, Set, Within, End}
-use Rattle.derivation.specs.Stage.{Work, Stage, at_head, at_book, at_slices, at_set, within, at_end}
+use Rattle.derivation.specs.declared.line.Line.{Line}
+use Rattle.derivation.specs.declared.line.Line.TheVariants.{Head, Book, Slice, Set, Step, Close, End}
+use Rattle.derivation.specs.declared.stage.OpenSlice.{OpenSlice}
+use Rattle.derivation.specs.declared.stage.Stage as code
+use Rattle.derivation.specs.declared.stage.Stage.TheVariants.{Head as Top, Book as Named, Slices, Set as OfSet, Within, End as Done}
+use Rattle.derivation.specs.Stage.{SliceSoFar, Stage, at_head, at_book, at_slices, at_set, within, at_end}
+use Rattle.derivation.specs.CertLine.{CertLine, head_line, book_line, slice_line, set_line, step_line, close_line, end_line}
 
-abbrev pub work_of : code.Work → Work
-work_of w = record { slice = w.slice; clauses = w.kernel.clauses; waiting = drop w.closed w.waiting.items }
+-- the pairs of a step stand beside it
+abbrev pub line_of : Line → List Pair → CertLine
+line_of Head pairs = head_line
+line_of (Book name count) pairs = book_line name count
+line_of (Slice number) pairs = slice_line number
+line_of (Set names) pairs = set_line names
+line_of (Step start) pairs = step_line start pairs
+line_of (Close question clause) pairs = close_line question clause
+line_of End pairs = end_line
 
-abbrev pub stage_of : Reading → Stage
-stage_of Head = at_head
-stage_of Book = at_book
+abbrev pub so_far_of : OpenSlice → SliceSoFar
+so_far_of s = record { slice = s.slice; clauses = s.kernel.clauses; left = drop s.closed s.to_close.items }
+
+abbrev pub stage_of : code.Stage → Stage
+stage_of Top = at_head
+stage_of Named = at_book
 stage_of Slices = at_slices
-stage_of (Set slice) = at_set slice
-stage_of (Within w) = within (work_of w)
-stage_of End = at_end
+stage_of (OfSet number) = at_set number
+stage_of (Within s) = within (so_far_of s)
+stage_of Done = at_end
 
--- a call that goes on at this stage, or refuses, as a definition says; want of memory is free
-abbrev pub Leads : {A : Type 0} → Result A (Fail CertKind) → Stage → Result Stage CertKind → Type 0
-Leads (Ok done) stage answer = answer ≡ Ok stage
-Leads (Err (Refused kind)) stage answer = answer ≡ Err kind
-Leads (Err Memory) stage answer = Unit {0}
+-- a step has at least one pair
+abbrev pub HasPairs : Line → List Pair → Type 0
+HasPairs (Step start) pairs = 0 < length pairs
+HasPairs line pairs = Unit {0}
 
--- the same of a call that gives what it goes on with
-abbrev pub LeadsOn : Result Reading (Fail CertKind) → Result Stage CertKind → Type 0
-LeadsOn (Ok reading) answer = answer ≡ Ok (stage_of reading)
-LeadsOn (Err (Refused kind)) answer = answer ≡ Err kind
-LeadsOn (Err Memory) answer = Unit {0}
+abbrev pub seen : Taken → Stage × Bool
+seen taken = (stage_of taken.stage, taken.is_step)
 
--- a line that needs no memory: it leads on to this stage, or to what is read
-abbrev pub Goes : {A : Type 0} → Result A CertKind → Stage → Result Stage CertKind → Type 0
-Goes (Ok done) stage answer = answer ≡ Ok stage
-Goes (Err kind) stage answer = answer ≡ Err kind
-
-abbrev pub GoesOn : Result Reading CertKind → Result Stage CertKind → Type 0
-GoesOn (Ok reading) answer = answer ≡ Ok (stage_of reading)
-GoesOn (Err kind) answer = answer ≡ Err kind
-
--- an answer without want of memory, as one that may want it
-abbrev pub answer_of : {A : Type 0} → Result A CertKind → Result A (Fail CertKind)
-answer_of (Ok value) = Ok value
-answer_of (Err kind) = Err (Refused kind)
+abbrev pub fault_at : ℕ → Fail CertKind → Fail CertFault
+fault_at line (Refused kind) = Refused (record { line = line; kind = kind })
+fault_at line Memory = Memory

@@ -1,79 +1,47 @@
 //! The check of a certificate.
-ghost use Rattle.std.specs.Prelude.{◌≡◌, ◌+◌, ◌<◌, ◌≤◌, ◌^◌, IfOk, IfSome, OnOk, length};
-ghost use Rattle.pb_base.specs.Answers.{Answers};
+ghost use Rattle.std.specs.Prelude.{◌≡◌, ◌+◌, ◌<◌, ◌≤◌, ◌^◌, List, IfOk, IfSome, OnOk, is_some, length};
+ghost use Rattle.std.specs.Option.{option_map};
+ghost use Rattle.pb_base.specs.Results.{and_then};
+ghost use Rattle.pb_base.specs.Answers.{Answers, Gives};
 ghost use Rattle.book_model.specs.Sound.{IsReleasable};
-ghost use Rattle.derivation.specs.Certificate.{cert_answer, read_cert, with_line, after_last};
-ghost use Rattle.derivation.specs.Limits.{AreWithin, first_over, slices_within};
-ghost use Rattle.derivation.specs.Lines.{after_line};
-ghost use Rattle.derivation.specs.Reading.{LeadsOn, stage_of};
+ghost use Rattle.clause_pool.specs.declared.chain.Pair.{Pair};
+ghost use Rattle.derivation.specs.After.{after};
+ghost use Rattle.derivation.specs.CertLine.{cert_line};
+ghost use Rattle.derivation.specs.Certificate.{after_last, cert_answer, is_step, past_end, read_cert, taken_as, taken_line, with_line};
+ghost use Rattle.derivation.specs.Kept.{AllNamed};
+ghost use Rattle.derivation.specs.Limits.{AreWithin};
+ghost use Rattle.derivation.specs.Reading.{HasPairs, fault_at, line_of, seen, stage_of};
 
-use crate::book_line::{book_line, head_line};
+use crate::after::after;
 use crate::fault::{CertFault, CertKind, Certified};
+use crate::laws::book_laws;
+use crate::limits::slices_within;
+use crate::line::{Line, read_line};
 use crate::pieces::Pieces;
-use crate::reading::Reading;
-use crate::set_line::set_line;
-use crate::slice_line::first_slice_line;
-use crate::work_line::{refused, work_line};
-use book_model::{Book, LimitFault, Slice, SliceList, slices};
-use clausify::question_count;
+use crate::stage::Stage;
+use book_model::{Book, LimitFault, Slice};
+use clause_pool::Pair;
 use pb_base::Fail;
 use std::alloc::Global;
 
-/// The most questions of a slice.
-const MOST_QUESTIONS: u64 = 200_000;
-
 /// Checks a certificate against a book, without any search: whether the book can be released. It reads the text once,
-/// keeps no copy of it, and holds the clauses of one slice at a time.
+/// keeps no copy of it, and holds one line and the clauses of one slice at a time.
 pub fn check_cert(alloc: Global, book: &Book, cert: &[u8]) -> Result<Certified, Fail<CertFault>>
     ensures answer { Answers result (cert_answer book.now cert.now) }
     ensures releasable { OnOk result (IsReleasable book.now) }
 {
-    let _conditions = book.codes();
-    let slices = match slices_within(alloc, book) {
-        Ok(slices) => slices,
-        Err(Fail::Refused(fault)) => {
-            return Err(Fail::Refused(CertFault {
-                line: 0,
-                kind: CertKind::Limit(fault),
-            }));
-        }
-        Err(Fail::Memory) => return Err(Fail::Memory),
-    };
-    read_cert(alloc, book, slices.as_slice(), cert)
-}
-
-// The slices of a book, where it keeps the limits of certificates.
-#[tactic(auto, using(crate::proofs::LimitLaws::few_slices, crate::proofs::LimitLaws::within_from_none))]
-pub(crate) fn slices_within(alloc: Global, book: &Book) -> Result<SliceList, Fail<LimitFault>>
-    ensures answer { Answers result (slices_within book.now) }
-    ensures within { IfOk result (AreWithin book.now) }
-    ensures few { IfOk result (λ slices. length slices ≤ 64) }
-{
-    let slices = slices(alloc, book)?;
-    if let Some(fault) = first_over(book, slices.as_slice()) {
-        return Err(Fail::Refused(fault));
+    book_laws(book);
+    match slices_within(alloc, book) {
+        Ok(slices) => read_cert(alloc, book, slices.as_slice(), cert),
+        Err(Fail::Refused(fault)) => Err(Fail::Refused(CertFault {
+            line: 0,
+            kind: CertKind::Limit(fault),
+        })),
+        Err(Fail::Memory) => Err(Fail::Memory),
     }
-    Ok(slices)
 }
 
-// The first slice with too many questions.
-fn first_over(book: &Book, slices: &[Slice]) -> Option<LimitFault>
-    requires { length slices.now < 2 ^ 32 }
-    ensures { result ≡ first_over 0 book.now slices.now }
-{
-    for (place, slice) in slices.iter().enumerate() {
-        let count = question_count(book, *slice);
-        if count > MOST_QUESTIONS {
-            return Some(LimitFault::Questions {
-                slice: place as u32,
-                count,
-            });
-        }
-    }
-    None
-}
-
-// Reads the lines one after another.
+/// Reads the lines one after another.
 fn read_cert(
     alloc: Global,
     book: &Book,
@@ -82,66 +50,67 @@ fn read_cert(
 ) -> Result<Certified, Fail<CertFault>>
     requires few { length slices.now < 2 ^ 32 }
     requires within { AreWithin book.now slices.now }
-    ensures { Answers result (read_cert book.now slices.now cert.now) }
+    ensures { Answers result (read_cert book.now cert.now slices.now) }
 {
-    let mut lines = Pieces::of(cert, b'\n');
-    let _countable = lines.is_done();
-    let mut reading = Reading::Head;
+    let mut texts = Pieces::of(cert, b'\n');
+    let _countable = texts.is_done();
+    let mut pairs = Vec::new(alloc);
+    let mut stage = Stage::Head;
     let mut so_far = Certified {
         slices: slices.len() as u32,
         steps: 0,
     };
-    let mut line: u64 = 1;
-    while let Some(text) = lines.next() {
-        if lines.is_done() {
-            return after_last(so_far, &reading, line, text);
+    let mut number: u64 = 1;
+    while let Some(text) = texts.next() {
+        if texts.is_done() {
+            return match after_last(so_far, &stage, text) {
+                Ok(certified) => Ok(certified),
+                Err(kind) => Err(fault_at(number, Fail::Refused(kind))),
+            };
         }
-        reading = match after_line(alloc, book, slices, reading, text) {
-            Ok(after) => after,
-            Err(Fail::Refused(kind)) => return Err(Fail::Refused(CertFault { line, kind })),
-            Err(Fail::Memory) => return Err(Fail::Memory),
+        let taken = match take_line(alloc, book, slices, stage, text, &mut pairs) {
+            Ok(taken) => taken,
+            Err(fail) => return Err(fault_at(number, fail)),
         };
-        so_far = with_line(so_far, text);
-        line += 1;
+        stage = taken.stage;
+        so_far = with_line(so_far, taken.is_step);
+        number += 1;
     }
-    Err(Fail::Refused(CertFault {
-        line,
-        kind: CertKind::Syntax,
-    }))
+    Err(fault_at(number, Fail::Refused(CertKind::Syntax)))
 }
 
-// What comes behind the last line feed: nothing, and only behind the end line.
-fn after_last(
-    so_far: Certified,
-    reading: &Reading,
-    line: u64,
-    rest: &[u8],
-) -> Result<Certified, Fail<CertFault>>
-    ensures { Answers result (after_last so_far (stage_of reading.now) line rest.now) }
+/// What is wrong with the line of this number.
+fn fault_at(line: u64, fail: Fail<CertKind>) -> Fail<CertFault>
+    ensures { result ≡ fault_at line fail }
 {
-    let kind = match reading {
-        Reading::End => {
+    match fail {
+        Fail::Refused(kind) => Fail::Refused(CertFault { line, kind }),
+        Fail::Memory => Fail::Memory,
+    }
+}
+
+/// What comes behind the last line feed: nothing, and only behind the end line.
+fn after_last(so_far: Certified, stage: &Stage, rest: &[u8]) -> Result<Certified, CertKind>
+    ensures { result ≡ after_last so_far (stage_of stage.now) rest.now }
+{
+    match stage {
+        Stage::End => {
             if rest.is_empty() {
                 return Ok(so_far);
             }
-            CertKind::Trailing
+            Err(CertKind::Trailing)
         }
-        _ => CertKind::Syntax,
-    };
-    Err(Fail::Refused(CertFault { line, kind }))
+        _ => Err(CertKind::Syntax),
+    }
 }
 
-// Counts a `step` line.
-fn with_line(so_far: Certified, text: &[u8]) -> Certified
+/// Counts a step.
+fn with_line(so_far: Certified, is_step: bool) -> Certified
     requires { so_far.steps + 1 < 2 ^ 64 }
-    ensures value { result ≡ with_line so_far text.now }
+    ensures value { result ≡ with_line so_far is_step }
     ensures limit { result.steps ≤ so_far.steps + 1 }
 {
-    let mut words = Pieces::of(text, b' ');
-    let Some(word) = words.next() else {
-        return so_far;
-    };
-    if word != b"step".as_slice() {
+    if !is_step {
         return so_far;
     }
     Certified {
@@ -150,25 +119,98 @@ fn with_line(so_far: Certified, text: &[u8]) -> Certified
     }
 }
 
-// Reads one line.
-fn after_line(
+fn is_past_end(stage: &Stage) -> bool
+    ensures { result ≡ is_some (past_end (stage_of stage.now)) }
+{
+    match stage {
+        Stage::End => true,
+        _ => false,
+    }
+}
+
+fn is_step(line: &Line) -> bool
+    ensures { (pairs : List Pair) → result ≡ is_step (line_of line.now pairs) }
+{
+    match line {
+        Line::Step { .. } => true,
+        _ => false,
+    }
+}
+
+/// The stage behind a line, and whether the line is a step.
+#[derive(Drop)]
+struct Taken {
+    stage: Stage,
+    is_step: bool,
+}
+
+/// Takes one text. The room for pairs serves every line.
+fn take_line(
     alloc: Global,
     book: &Book,
     slices: &[Slice],
-    reading: Reading,
-    line: &[u8],
-) -> Result<Reading, Fail<CertKind>>
+    stage: Stage,
+    text: &[u8],
+    pairs: &mut Vec<Pair>,
+) -> Result<Taken, Fail<CertKind>>
     requires few { length slices.now < 2 ^ 32 }
     requires within { AreWithin book.now slices.now }
-    ensures { LeadsOn result (after_line book.now slices.now (stage_of reading) line.now) }
+    requires named { AllNamed (stage_of stage) }
+    ensures answer { Gives result seen (taken_line book.now slices.now (stage_of stage)
+        (cert_line text.now)) }
+    ensures named { IfOk result (λ taken. AllNamed (stage_of taken.stage)) }
 {
-    let count = slices.len() as u32;
-    match reading {
-        Reading::Head => refused(head_line(line)),
-        Reading::Book => refused(book_line(book.name(), count, line)),
-        Reading::Slices => refused(first_slice_line(count, line)),
-        Reading::Set(place) => set_line(alloc, book, slices, place, line),
-        Reading::Within(work) => work_line(work, count, Pieces::of(line, b' ')),
-        Reading::End => Err(Fail::Refused(CertKind::Trailing)),
+    let line = read_line(alloc, text, pairs)?;
+    take_read(alloc, book, slices, stage, line, pairs)
+}
+
+/// Takes a line that was read, or nothing where the text has the form of none.
+fn take_read(
+    alloc: Global,
+    book: &Book,
+    slices: &[Slice],
+    stage: Stage,
+    line: Option<Line>,
+    pairs: &[Pair],
+) -> Result<Taken, Fail<CertKind>>
+    requires few { length slices.now < 2 ^ 32 }
+    requires within { AreWithin book.now slices.now }
+    requires named { AllNamed (stage_of stage) }
+    requires pairs { IfSome line (λ l. HasPairs l pairs.now) }
+    ensures answer { Gives result seen (taken_line book.now slices.now (stage_of stage) (option_map
+        (λ l. line_of l pairs.now) line)) }
+    ensures named { IfOk result (λ taken. AllNamed (stage_of taken.stage)) }
+{
+    if is_past_end(&stage) {
+        return Err(Fail::Refused(CertKind::Trailing));
+    }
+    match line {
+        None => Err(Fail::Refused(CertKind::Syntax)),
+        Some(line) => take(alloc, book, slices, stage, &line, pairs),
+    }
+}
+
+fn take(
+    alloc: Global,
+    book: &Book,
+    slices: &[Slice],
+    stage: Stage,
+    line: &Line,
+    pairs: &[Pair],
+) -> Result<Taken, Fail<CertKind>>
+    requires few { length slices.now < 2 ^ 32 }
+    requires within { AreWithin book.now slices.now }
+    requires named { AllNamed (stage_of stage) }
+    requires pairs { HasPairs line.now pairs.now }
+    ensures answer { let l = line_of line.now pairs.now in
+        Gives result seen (and_then (after book.now slices.now (stage_of stage) l) (taken_as (is_step l))) }
+    ensures named { IfOk result (λ taken. AllNamed (stage_of taken.stage)) }
+{
+    match after(alloc, book, slices, stage, line, pairs) {
+        Ok(behind) => Ok(Taken {
+            stage: behind,
+            is_step: is_step(line),
+        }),
+        Err(fail) => Err(fail),
     }
 }

@@ -1,32 +1,22 @@
 //! Certificates: that a book can be released, in a form that a second reader checks without a search.
 #![tactic(auto)]
 
-mod book_line;
+mod after;
 mod check;
-mod close_line;
+mod closing;
 mod fault;
-mod number;
-mod open_slice;
+mod laws;
+mod limits;
+mod line;
 mod pieces;
-mod reading;
-mod set_line;
-mod slice_line;
 mod slice_proof;
-mod step_line;
-mod waiting;
-mod work;
-mod work_line;
+mod stage;
+mod word;
 mod write;
-mod written;
 
 pub use check::check_cert;
+pub use closing::{Closing, ToClose, to_close};
 pub use fault::{CertFault, CertKind, Certified};
-pub use slice_proof::{Closing, SliceProof};
+pub use limits::slices_within;
+pub use slice_proof::SliceProof;
 pub use write::write_cert;
-
-#[cfg(test)]
-mod engine;
-#[cfg(test)]
-mod hand_made;
-#[cfg(test)]
-mod tests;

@@ -1,6 +1,7 @@
 //! What shows that a slice has no fault.
 
-use clause_pool::{Kernel, Ref};
+use crate::closing::Closing;
+use clause_pool::Kernel;
 use pb_base::CodeSet;
 
 /// What shows that a slice has no fault: a good set, and the clauses that close its questions.
@@ -10,11 +11,4 @@ pub struct SliceProof {
     pub kernel: Kernel,
     /// The questions that have to be closed, in order.
     pub closed: Vec<Closing>,
-}
-
-/// A question, by its number among those of its slice, and the place of the clause that closes it.
-#[derive(Clone, Copy, Debug, PartialEq, Eq)]
-pub struct Closing {
-    pub question: u32,
-    pub at: Ref,
 }

@@ -1,75 +1,198 @@
 //! The writing of a certificate.
-ghost use Rattle.std.specs.Prelude.{◌≡◌, ◌<◌, ◌≤◌, None, IfOk, OnOk, length};
-ghost use Rattle.derivation.specs.Certificate.{cert_fault};
-ghost use Rattle.derivation.specs.Leading.{TellsClosings, TellsSlice, TellsStep, TellsSteps};
-ghost use Rattle.derivation.specs.Showing.{ShowsRelease};
+ghost use Rattle.std.specs.Prelude.{◌≡◌, ◌-◌, ◌<◌, ◌≤◌, ◌^◌, ◌++◌, [], ◌∷◌, All, Ok, IfOk, OnOk, codes, length, slice_index, slice_index_or};
+ghost use Rattle.std.specs.Fmt.{decimal};
+ghost use Rattle.std.specs.List.{AllByRecursion};
+ghost use Rattle.clause_pool.specs.Derivation.{IsDerived};
+ghost use Rattle.derivation.specs.Certificate.{cert_answer};
+ghost use Rattle.derivation.specs.CertLine.{book_line, slice_line, step_line};
+ghost use Rattle.derivation.specs.Showing.{ShowEach, shown_by};
+ghost use Rattle.derivation.specs.Written.{LineFits, PairFits, cert_lines, close_lines, line_of, literal_word, members, pair_words, slice_lines, spaced, step_lines, written};
 
-use crate::slice_proof::{Closing, SliceProof};
-use crate::written::{add_book_line, add_close_line, add_set_line, add_slice_line, add_step_line};
+use crate::closing::Closing;
+use crate::laws::book_laws;
+use crate::slice_proof::SliceProof;
 use book_model::Book;
-use clause_pool::{Kernel, Ref};
-use pb_base::{Body, Memory};
+use clause_pool::{Kernel, Lit, Pair, Ref};
+use pb_base::{Body, CodeSet, CodeTable, Id, Memory, Text};
 use std::alloc::Global;
 
-/// The certificate of a book, from one proof for each of its slices in order. What is written has no fault.
+/// The certificate of a book, from one proof for each of its slices in order: a step for each clause that was derived, and
+/// a closing for each question that has to be closed.
 pub fn write_cert(alloc: Global, book: &Book, proofs: &[SliceProof]) -> Result<Body, Memory>
-    requires { ShowsRelease book.now proofs.now }
-    ensures fault { IfOk result (λ text. cert_fault book.now text ≡ None) }
+    requires { ShowEach book.now proofs.now }
+    ensures text { IfOk result (λ text. text ≡ written (cert_lines book.now proofs.now)) }
+    ensures answer { IfOk result (λ text. cert_answer book.now text ≡ Ok (shown_by proofs.now)) }
 {
-    let _conditions = book.codes();
-    let mut text = Vec::new(alloc);
-    text.extend_from_slice(b"partsbook certificate 1\n")?;
-    add_book_line(&mut text, book.name().bytes(), proofs.len() as u64)?;
-    for (place, proof) in proofs.iter().enumerate() {
-        add_slice(&mut text, book, place, proof)?;
+    book_laws(book);
+    let mut text = Text::new(alloc);
+    text.put(b"partsbook certificate 1\n")?;
+    put_book(&mut text, book.name(), proofs.len() as u64)?;
+    for (number, proof) in proofs.iter().enumerate() {
+        put_slice(&mut text, book, number, proof)?;
     }
-    text.extend_from_slice(b"end\n")?;
-    Ok(Body::of(text))
+    text.put(b"end\n")?;
+    Ok(text.into_body())
 }
 
-fn add_slice(
-    text: &mut Vec<u8>,
-    book: &Book,
-    place: usize,
-    proof: &SliceProof,
-) -> Result<(), Memory>
+/// The line with the name of the book and the number of its slices.
+#[tactic(auto, using(crate::proofs::LineLaws::some_words, crate::proofs::LineLaws::more_words))]
+fn put_book(text: &mut Text, name: &Id, slices: u64) -> Result<(), Memory>
+    ensures text { OnOk result (text.new
+        ≡ text.old ++ line_of (codes "book") (name.now ∷ decimal slices ∷ [])) }
+    ensures fit { OnOk result (LineFits (book_line name.now slices)) }
+{
+    text.put(b"book")?;
+    put_word(text, name.bytes())?;
+    put_number(text, slices)?;
+    text.put(b"\n")
+}
+
+/// The lines of the slice of this number.
+fn put_slice(text: &mut Text, book: &Book, number: usize, proof: &SliceProof) -> Result<(), Memory>
     requires { length proof.now.set ≡ length book.now.codes }
-    ensures { OnOk result (TellsSlice book.now proof.now place text.old.items text.new.items) }
+    ensures text { OnOk result (text.new ≡ text.old ++ written (slice_lines book.now number proof.now)) }
+    ensures fit { OnOk result (AllByRecursion LineFits (slice_lines book.now number proof.now)) }
+    ensures derived { OnOk result (IsDerived proof.now.kernel) }
 {
-    let table = book.codes();
-    let _names = table.len();
-    add_slice_line(text, place as u64)?;
-    add_set_line(text, table, &proof.set)?;
-    add_steps(text, &proof.kernel)?;
-    add_closings(text, &proof.closed)
+    book_laws(book);
+    put_slice_line(text, number as u64)?;
+    put_set_line(text, book.codes(), &proof.set)?;
+    put_steps(text, &proof.kernel)?;
+    put_closings(text, &proof.closed)
 }
 
-// Appends the steps by which the further clauses were derived.
-fn add_steps(text: &mut Vec<u8>, kernel: &Kernel) -> Result<(), Memory>
-    ensures { OnOk result (TellsSteps kernel.now text.old.items text.new.items) }
+/// The line that a slice begins with.
+#[tactic(auto, using(crate::proofs::LineLaws::some_words, crate::proofs::LineLaws::more_words))]
+fn put_slice_line(text: &mut Text, number: u64) -> Result<(), Memory>
+    ensures text { OnOk result (text.new ≡ text.old ++ line_of (codes "slice") (decimal number ∷ [])) }
+    ensures fit { LineFits (slice_line number) }
 {
-    for at in kernel.given()..kernel.pool().len() {
-        add_step(text, kernel, at)?;
+    text.put(b"slice")?;
+    put_number(text, number)?;
+    text.put(b"\n")
+}
+
+/// The line of a set.
+#[tactic(auto, using(crate::proofs::LineLaws::some_words, crate::proofs::LineLaws::more_words))]
+fn put_set_line(text: &mut Text, table: &CodeTable, set: &CodeSet) -> Result<(), Memory>
+    requires { length set.now ≡ length table.now }
+    ensures { OnOk result (text.new ≡ text.old ++ line_of (codes "set") (members table.now set.now)) }
+{
+    text.put(b"set")?;
+    put_members(text, table, set)?;
+    text.put(b"\n")
+}
+
+fn put_members(text: &mut Text, table: &CodeTable, set: &CodeSet) -> Result<(), Memory>
+    requires { length set.now ≡ length table.now }
+    ensures { OnOk result (text.new ≡ text.old ++ spaced (members table.now set.now)) }
+{
+    for place in 0..table.len() {
+        if set.has(place) {
+            put_word(text, table.name_of(place).bytes())?;
+        }
     }
     Ok(())
 }
 
-fn add_step(text: &mut Vec<u8>, kernel: &Kernel, at: Ref) -> Result<(), Memory>
+/// The steps by which the further clauses were derived.
+fn put_steps(text: &mut Text, kernel: &Kernel) -> Result<(), Memory>
+    ensures text { OnOk result (text.new
+        ≡ text.old ++ written (step_lines kernel.now.starts kernel.now.pairs)) }
+    ensures fit { OnOk result (AllByRecursion LineFits (step_lines kernel.now.starts kernel.now.pairs)) }
+    ensures derived { IsDerived kernel.now }
+{
+    let pool = kernel.pool();
+    for at in kernel.given()..pool.len() {
+        put_step(text, kernel, at)?;
+    }
+    Ok(())
+}
+
+fn put_step(text: &mut Text, kernel: &Kernel, at: Ref) -> Result<(), Memory>
     requires derived { kernel.now.given ≤ at }
     requires there { at < length kernel.now.clauses }
-    ensures { OnOk result (TellsStep kernel.now at text.old.items text.new.items) }
+    ensures text { let n = at - kernel.now.given in
+        let start = slice_index kernel.now.starts n in
+        let pairs = slice_index_or kernel.now.pairs n [] in
+        OnOk result (text.new ≡ text.old ++ line_of (codes "step") (decimal start ∷ pair_words pairs)) }
+    ensures fit { let n = at - kernel.now.given in
+        OnOk result (LineFits (step_line (slice_index kernel.now.starts n)
+        (slice_index_or kernel.now.pairs n []))) }
 {
     match kernel.start_of(at) {
-        Some(start) => add_step_line(text, start, kernel.pairs_of(at)),
+        Some(start) => put_step_line(text, start, kernel.pairs_of(at)),
         None => Ok(()),
     }
 }
 
-fn add_closings(text: &mut Vec<u8>, closed: &[Closing]) -> Result<(), Memory>
-    ensures { OnOk result (TellsClosings closed.now text.old.items text.new.items) }
+#[tactic(auto, using(crate::proofs::LineLaws::some_words, crate::proofs::LineLaws::more_words))]
+fn put_step_line(text: &mut Text, start: Ref, pairs: &[Pair]) -> Result<(), Memory>
+    ensures text { OnOk result (text.new
+        ≡ text.old ++ line_of (codes "step") (decimal start ∷ pair_words pairs.now)) }
+    ensures fits { OnOk result ((start < 2 ^ 64) × All PairFits pairs.now) }
 {
-    for closing in closed {
-        add_close_line(text, *closing)?;
+    text.put(b"step")?;
+    put_number(text, start as u64)?;
+    put_pairs(text, pairs)?;
+    text.put(b"\n")
+}
+
+fn put_pairs(text: &mut Text, pairs: &[Pair]) -> Result<(), Memory>
+    ensures words { OnOk result (text.new ≡ text.old ++ spaced (pair_words pairs.now)) }
+    ensures fit { OnOk result (All PairFits pairs.now) }
+{
+    for pair in pairs {
+        put_literal(text, pair.lit)?;
+        put_number(text, pair.with as u64)?;
     }
     Ok(())
+}
+
+/// The closings, in order.
+fn put_closings(text: &mut Text, closings: &[Closing]) -> Result<(), Memory>
+    ensures text { OnOk result (text.new ≡ text.old ++ written (close_lines closings.now)) }
+    ensures fit { OnOk result (AllByRecursion LineFits (close_lines closings.now)) }
+{
+    for closing in closings {
+        put_close_line(text, *closing)?;
+    }
+    Ok(())
+}
+
+#[tactic(auto, using(crate::proofs::LineLaws::some_words, crate::proofs::LineLaws::more_words))]
+fn put_close_line(text: &mut Text, closing: Closing) -> Result<(), Memory>
+    ensures text { OnOk result (text.new
+        ≡ text.old ++ line_of (codes "close") (decimal closing.question ∷ decimal closing.at ∷ [])) }
+    ensures fits { (closing.question < 2 ^ 64) × (closing.at < 2 ^ 64) }
+{
+    text.put(b"close")?;
+    put_number(text, u64::from(closing.question))?;
+    put_number(text, closing.at as u64)?;
+    text.put(b"\n")
+}
+
+/// The words stand behind one space each.
+fn put_word(text: &mut Text, word: &[u8]) -> Result<(), Memory>
+    ensures { OnOk result (text.new ≡ text.old ++ spaced (word.now ∷ [])) }
+{
+    text.put(b" ")?;
+    text.put(word)
+}
+
+fn put_literal(text: &mut Text, lit: Lit) -> Result<(), Memory>
+    ensures word { OnOk result (text.new ≡ text.old ++ spaced (literal_word lit ∷ [])) }
+    ensures fits { OnOk result (lit < 2 ^ 33) }
+{
+    let sign: &[u8] = if lit.positive() { b" +" } else { b" -" };
+    text.put(sign)?;
+    text.put_number(u64::from(lit.var()))
+}
+
+fn put_number(text: &mut Text, number: u64) -> Result<(), Memory>
+    ensures word { OnOk result (text.new ≡ text.old ++ spaced (decimal number ∷ [])) }
+    ensures fits { number < 2 ^ 64 }
+{
+    text.put(b" ")?;
+    text.put_number(number)
 }

@@ -56,7 +56,7 @@ of_reply : (words : List (List ℕ)) (before after : Outside) → GivesReply wor
 of_reply words before after h = λ file asked.
     of_input before.reads.source.left after.reads.source.left h.input h.read.text
     (command-releasable h.command file h.input before.reads.files after.reads.files h.reply
-      (same_command (command_in words) h.command (Verify file) h.asked asked) h.replies h.told.ends)
+    (same_command (command_in words) h.command (Verify file) h.asked asked) h.replies h.told.ends)
 
 done_released : (words : List (List ℕ)) (before after : Outside) (status : ℕ) → 0 ≡ status → IsCaused words before after status
     → ShowsReleasable words before.reads.source.left

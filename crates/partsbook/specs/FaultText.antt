@@ -3,13 +3,13 @@ use Rattle.std.specs.Prelude.{ℕ, List, [], ◌++◌, Option, None, Some, codes
 use Rattle.rule_text.specs.Fault.{fault_number}
 use Rattle.rule_text.specs.declared.fault.RuleFault.{RuleFault}
 use Rattle.rule_text.specs.declared.fault.RuleFault.TheVariants.{Empty, BadByte, UnknownCode, Expected, TooDeep, TooLong}
-use Rattle.book_text.specs.Fault.{number_of as kind_number}
+use Rattle.book_text.specs.Fault.{kind_number}
 use Rattle.book_text.specs.declared.fault.BookFault.{BookFault}
 use Rattle.book_text.specs.declared.fault.BookKind.{BookKind}
 use Rattle.book_text.specs.declared.fault.BookKind.TheVariants.{TooLarge, NotUtf8, NoBookRecord, SecondBookRecord, UnknownKind, FieldCount, BadName, BadNumber, BadDays, Duplicate, UnknownName, BadRule, Limit}
 use Rattle.book_text.specs.declared.fault.Which.{Which}
 use Rattle.book_text.specs.declared.fault.Which.TheVariants.{Codes, Supplements, Constructs, Modules, Positions, Variants, Choices}
-use Rattle.parts_usage.specs.Fault.{number_of as order_number}
+use Rattle.parts_usage.specs.Fault.{fault_number as order_number}
 use Rattle.parts_usage.specs.declared.fault.OrderFault.{OrderFault}
 use Rattle.parts_usage.specs.declared.fault.OrderFault.TheVariants.{DayOutsideTerm, UnknownCode as UnknownOrdered, RepeatedCode}
 use Rattle.partsbook.specs.Lines.{line, number_behind, optional_number}

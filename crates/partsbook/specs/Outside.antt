@@ -1,5 +1,6 @@
 -- The outside of a run: what it reads from, and what it writes to.
-use Rattle.std.specs.Prelude.{◌≡◌, ℕ, List, Option}
+use Rattle.std.specs.Prelude.{◌≡◌, ℕ, ◌+◌, List, Option}
+use Rattle.pb_base.specs.declared.limits.TheConstants.{MOST_TEXT_BYTES}
 use Rattle.pb_outside.specs.Faults.{Fails}
 use Rattle.pb_outside.specs.Source.{SourceTold, ReadsUpTo, LosesFront}
 use Rattle.pb_outside.specs.Sink.{SinkTold}
@@ -27,9 +28,9 @@ outputs sink log = record { sink = sink; log = log }
 abbrev pub outside : SourceTold → FilesTold → SinkTold → List Note → Outside
 outside source files sink log = record { reads = inputs source files; writes = outputs sink log }
 
--- a book's text has at most 1,048,576 bytes, and one byte more shows that it is too large
+-- one byte more than a book's text may have shows that it is too large
 abbrev pub input_limit : ℕ
-input_limit = 1048577
+input_limit = MOST_TEXT_BYTES + 1
 
 -- this input was read: all of what was left, or so much of it
 pub record ReadsInput (before after : SourceTold) (input : List ℕ) : Type 0 where

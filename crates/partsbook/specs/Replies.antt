@@ -1,5 +1,6 @@
 -- What a command that reads a book is answered. A further command has a line in each of the four definitions at the end.
 use Rattle.std.specs.Prelude.{◌≡◌, ℕ, List, Option, None, Some, Result, Ok, Err, IsOk, IfOk, IsSomeAnd, IsTrue, nat_le, length}
+use Rattle.pb_base.specs.declared.limits.TheConstants.{MOST_CERT_BYTES}
 use Rattle.book_model.specs.Contents.{Contents}
 use Rattle.book_text.specs.BookText.{book_of}
 use Rattle.book_text.specs.declared.fault.BookFault.{BookFault}
@@ -11,15 +12,10 @@ use Rattle.partsbook.specs.RunReply.{RunReply, book_fault_reply, order_reply, co
 use Rattle.partsbook.specs.declared.command.BookCommand.{BookCommand}
 use Rattle.partsbook.specs.declared.command.BookCommand.TheVariants.{Order, Verify}
 
--- a certificate has at most this many bytes
-abbrev pub cert_limit : ℕ
-cert_limit = 67108864
-
-
 -- the certificate is the content of its file, of which a longer one than the limit has none
 pub record RepliesToFile (b : Contents) (file : List ℕ) (files files' : FilesTold) (reply : RunReply) : Type 0 where
   pub content : Option (List ℕ)
-  pub read : ReadsFile file cert_limit files.files content
+  pub read : ReadsFile file MOST_CERT_BYTES files.files content
   pub answer : reply ≡ content_reply b content
   pub count : files'.faults.count ≡ files.faults.count
 
@@ -54,7 +50,7 @@ pub record IsValidOrder (input : List ℕ) (day : ℕ) (ordered : List (List ℕ
 
 -- the text is no longer than the limit, and a certificate of the book
 pub record IsCertificate (b : Contents) (text : List ℕ) : Type 0 where
-  pub limit : IsTrue (nat_le (length text) cert_limit)
+  pub limit : IsTrue (nat_le (length text) MOST_CERT_BYTES)
   pub certificate : IsOk (cert_answer b text)
 
 -- the file is told and there, and has a certificate of the book

@@ -42,6 +42,11 @@ pub record AnswersUsage (before after : Outside) (status : ℕ) : Type 0 where
   pub told : Tells usage_reply before.writes after.writes status
   pub untouched : after.reads ≡ before.reads
 
+-- the words could not be had, for want of memory: nothing was read
+pub record AnswersMemory (before after : Outside) (status : ℕ) : Type 0 where
+  pub told : Tells memory_reply before.writes after.writes status
+  pub untouched : after.reads ≡ before.reads
+
 abbrev pub DoesAsked : Option BookCommand → Outside → Outside → ℕ → Type 0
 DoesAsked None = AnswersUsage
 DoesAsked (Some command) = AnswersBook command

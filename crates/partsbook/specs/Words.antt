@@ -6,7 +6,7 @@ use Rattle.std.specs.Option.{option_map, option_and_then}
 use Rattle.std.specs.List.{list_all}
 use Rattle.std.specs.declared.alloc.Global.{Global}
 use Rattle.pb_base.specs.Names.{same_name, is_code_name}
-use Rattle.pb_base.specs.Digits.{number_of}
+use Rattle.pb_base.specs.Digits.{short_number}
 use Rattle.partsbook.specs.declared.command.BookCommand.{BookCommand}
 use Rattle.partsbook.specs.declared.command.BookCommand.TheVariants.{Order, Verify}
 
@@ -20,7 +20,7 @@ codes_in texts = if list_all is_code_name texts then Some texts else None
 -- a day is 1 to 5 digits
 abbrev pub order_in : List (List ℕ) → Option BookCommand
 order_in [] = None
-order_in (day ∷ names) = option_and_then (λ on. option_map (λ ordered. Order on ordered) (codes_in names)) (number_of day)
+order_in (day ∷ names) = option_and_then (λ on. option_map (λ ordered. Order on ordered) (codes_in names)) (short_number day)
 
 -- a word that begins with `-` names no file
 abbrev pub is_file_name : List ℕ → Bool

@@ -2,10 +2,10 @@
 ghost use Rattle.std.specs.Prelude.{◌≡◌, ◌++◌, IfOk, OnOk};
 ghost use Rattle.partsbook.specs.CertText.{cert_number, limit_text, cert_detail, cert_fault_text, verified_text};
 
-use crate::text::Text;
+use crate::lines::put_number;
 use book_model::{Book, LimitFault};
 use derivation::{CertFault, CertKind, Certified};
-use pb_base::Memory;
+use pb_base::{Memory, Text};
 use std::alloc::Global;
 
 /// `verified NAME slices S steps N`.
@@ -16,9 +16,9 @@ pub fn verified_text(alloc: Global, book: &Book, certified: Certified) -> Result
     text.put(b"verified ")?;
     text.put(book.name().bytes())?;
     text.put(b" slices")?;
-    text.put_number(u64::from(certified.slices))?;
+    put_number(&mut text, u64::from(certified.slices))?;
     text.put(b" steps")?;
-    text.put_number(certified.steps)?;
+    put_number(&mut text, certified.steps)?;
     text.put(b"\n")?;
     Ok(text)
 }
@@ -29,8 +29,8 @@ pub fn cert_fault_text(alloc: Global, fault: &CertFault) -> Result<Text, Memory>
 {
     let mut text = Text::new(alloc);
     text.put(b"certificate fault")?;
-    text.put_number(fault.line)?;
-    text.put_number(cert_number(&fault.kind))?;
+    put_number(&mut text, fault.line)?;
+    put_number(&mut text, cert_number(&fault.kind))?;
     put_cert_detail(&mut text, &fault.kind)?;
     text.put(b"\n")?;
     Ok(text)
@@ -56,8 +56,8 @@ fn put_cert_detail(text: &mut Text, kind: &CertKind) -> Result<(), Memory>
     ensures { OnOk result (text.new ≡ text.old ++ cert_detail kind.now) }
 {
     match kind {
-        CertKind::NotClosed(question) => text.put_number(u64::from(*question)),
-        CertKind::BadSet(slice) => text.put_number(u64::from(*slice)),
+        CertKind::NotClosed(question) => put_number(text, u64::from(*question)),
+        CertKind::BadSet(slice) => put_number(text, u64::from(*slice)),
         CertKind::Limit(fault) => put_limit(text, fault),
         _ => Ok(()),
     }
@@ -76,7 +76,7 @@ fn put_slices(text: &mut Text, count: u32) -> Result<(), Memory>
     ensures { OnOk result (text.new ≡ text.old ++ limit_text (LimitFault.Slices count)) }
 {
     text.put(b" limit slices")?;
-    text.put_number(u64::from(count))?;
+    put_number(text, u64::from(count))?;
     Ok(())
 }
 
@@ -84,7 +84,7 @@ fn put_questions(text: &mut Text, slice: u32, count: u64) -> Result<(), Memory>
     ensures { OnOk result (text.new ≡ text.old ++ limit_text (LimitFault.Questions slice count)) }
 {
     text.put(b" limit questions")?;
-    text.put_number(u64::from(slice))?;
-    text.put_number(count)?;
+    put_number(text, u64::from(slice))?;
+    put_number(text, count)?;
     Ok(())
 }

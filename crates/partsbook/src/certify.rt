@@ -15,12 +15,10 @@ use crate::run_reply::RunReply;
 use book_model::Book;
 use book_text::read_book;
 use derivation::{CertFault, CertKind, check_cert};
+use pb_base::limits::MOST_CERT_BYTES;
 use pb_base::{Fail, Memory};
 use pb_outside::{Files, OutError};
 use std::alloc::Global;
-
-/// A certificate has at most so many bytes.
-const CERT_LIMIT: usize = 67_108_864;
 
 /// What the check of the certificate in this file is answered. The book's text is read first, and where it has a fault
 /// the file is left unread.
@@ -31,10 +29,8 @@ pub fn verify_reply<F: Files>(
     files: &mut F,
 ) -> Result<RunReply, OutError>
     ensures reply { IfOk result (RepliesToVerify (book_of text.now) file.now (F.told files.old) (F.told files.new)) }
-    ensures cause {
-        let fails = FailsAtCertificate file.now text.now (F.told files.old) (F.told files.new) in
-        result ≡ Err OutError.Failed → fails
-    }
+    ensures cause { let fails = FailsAtCertificate file.now text.now (F.told files.old) (F.told files.new) in
+        result ≡ Err OutError.Failed → fails }
     ensures kept { ReadsFiles (F.told files.old) (F.told files.new) }
 {
     match read_book(alloc, text) {
@@ -54,7 +50,7 @@ fn file_reply<F: Files>(
     ensures cause { result ≡ Err OutError.Failed → FailsToRead file.now (F.told files.old) (F.told files.new) }
     ensures kept { ReadsFiles (F.told files.old) (F.told files.new) }
 {
-    match files.read(alloc, file.as_str(), CERT_LIMIT) {
+    match files.read(alloc, file.as_str(), MOST_CERT_BYTES) {
         Ok(content) => Ok(content_reply(alloc, book, content)?),
         Err(error) => Err(error),
     }

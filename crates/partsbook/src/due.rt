@@ -11,11 +11,12 @@ use crate::command::BookCommand;
 use crate::judge::order_reply;
 use crate::run_reply::RunReply;
 use pb_base::Memory;
+use pb_base::limits::MOST_TEXT_BYTES;
 use pb_outside::{Files, OutError, Source, read_up_to};
 use std::alloc::Global;
 
-/// A book's text has at most one byte less.
-const INPUT_LIMIT: usize = 1_048_577;
+/// One byte more than a book's text may have shows that it is too large.
+const INPUT_LIMIT: usize = MOST_TEXT_BYTES + 1;
 
 /// The numbers of the source and the files in the log.
 const SOURCE: u8 = 1;
@@ -29,11 +30,9 @@ pub fn due_reply<S: Source, F: Files>(
     source: &mut S,
     files: &mut F,
 ) -> Result<RunReply, Memory>
-    ensures due {
-        let before = inputs (S.input source.old) (F.told files.old) in
+    ensures due { let before = inputs (S.input source.old) (F.told files.old) in
         let after = inputs (S.input source.new) (F.told files.new) in
-        Due command.now before after (due_of result)
-    }
+        Due command.now before after (due_of result) }
     ensures source_later { IsLater (S.input source.old).faults (S.input source.new).faults }
     ensures files_kept { KeepsFiles command.now (F.told files.old) (F.told files.new) }
 {
@@ -61,10 +60,8 @@ fn command_reply<F: Files>(
     files: &mut F,
 ) -> Result<RunReply, OutError>
     ensures reply { IfOk result (RepliesTo command.now input.now (F.told files.old) (F.told files.new)) }
-    ensures cause {
-        let fails = FailsAtFile command.now input.now (F.told files.old) (F.told files.new) in
-        result ≡ Err OutError.Failed → fails
-    }
+    ensures cause { let fails = FailsAtFile command.now input.now (F.told files.old) (F.told files.new) in
+        result ≡ Err OutError.Failed → fails }
     ensures kept { KeepsFiles command.now (F.told files.old) (F.told files.new) }
 {
     match command {

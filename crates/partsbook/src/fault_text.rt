@@ -2,10 +2,10 @@
 ghost use Rattle.std.specs.Prelude.{◌≡◌, ◌++◌, IfOk, OnOk};
 ghost use Rattle.partsbook.specs.FaultText.{rule_place, rule_fault_text, which_text, kind_detail, book_fault_text, order_place, order_fault_text};
 
-use crate::text::Text;
+use crate::lines::{put_number, put_optional};
 use book_text::{BookFault, BookKind, Which};
 use parts_usage::OrderFault;
-use pb_base::Memory;
+use pb_base::{Memory, Text};
 use rule_text::RuleFault;
 use std::alloc::Global;
 
@@ -15,8 +15,8 @@ pub fn book_fault_text(alloc: Global, fault: &BookFault) -> Result<Text, Memory>
 {
     let mut text = Text::new(alloc);
     text.put(b"book fault")?;
-    text.put_number(u64::from(fault.row))?;
-    text.put_number(u64::from(fault.kind.number()))?;
+    put_number(&mut text, u64::from(fault.row))?;
+    put_number(&mut text, u64::from(fault.kind.number()))?;
     put_kind_detail(&mut text, &fault.kind)?;
     text.put(b"\n")?;
     Ok(text)
@@ -35,8 +35,8 @@ fn put_kind_detail(text: &mut Text, kind: &BookKind) -> Result<(), Memory>
 fn put_rule_fault(text: &mut Text, fault: &RuleFault) -> Result<(), Memory>
     ensures { OnOk result (text.new ≡ text.old ++ rule_fault_text fault.now) }
 {
-    text.put_number(u64::from(fault.number()))?;
-    text.put_optional(rule_place(fault))
+    put_number(text, u64::from(fault.number()))?;
+    put_optional(text, rule_place(fault))
 }
 
 fn rule_place(fault: &RuleFault) -> Option<u64>
@@ -72,8 +72,8 @@ pub fn order_fault_text(alloc: Global, fault: &OrderFault) -> Result<Text, Memor
 {
     let mut text = Text::new(alloc);
     text.put(b"order fault")?;
-    text.put_number(u64::from(fault.number()))?;
-    text.put_optional(order_place(fault))?;
+    put_number(&mut text, u64::from(fault.number()))?;
+    put_optional(&mut text, order_place(fault))?;
     text.put(b"\n")?;
     Ok(text)
 }

@@ -17,17 +17,27 @@ use pb_base::{CodeList, CodeName, Day, Fail, Memory};
 use std::alloc::Global;
 
 /// What the order of these codes on this day comes to against the book of the text.
-pub fn order_reply(alloc: Global, text: &[u8], day: Day, codes: &CodeList) -> Result<RunReply, Memory>
+pub fn order_reply(
+    alloc: Global,
+    text: &[u8],
+    day: Day,
+    codes: &CodeList,
+) -> Result<RunReply, Memory>
     ensures { IfOk result (λ reply. reply ≡ order_reply (book_of text.now) day codes.now) }
 {
     match read_book(alloc, text) {
-        Ok(book) => judged_reply(alloc, &book, day, codes.names()),
+        Ok(book) => judged_reply(alloc, &book, day, codes.as_slice()),
         Err(Fail::Refused(fault)) => book_fault_reply(alloc, fault),
         Err(Fail::Memory) => Err(Memory),
     }
 }
 
-fn judged_reply(alloc: Global, book: &Book, day: Day, codes: &[CodeName]) -> Result<RunReply, Memory>
+fn judged_reply(
+    alloc: Global,
+    book: &Book,
+    day: Day,
+    codes: &[CodeName],
+) -> Result<RunReply, Memory>
     ensures { IfOk result (λ reply. reply ≡ judged_reply book.now (outcome_of book.now day codes.now)) }
 {
     match outcome(alloc, book, day, codes) {

@@ -7,20 +7,20 @@ mod command;
 mod due;
 mod fault_text;
 mod file_name;
+mod given;
 mod judge;
+mod lines;
 mod log;
 mod outcome_text;
 mod run;
 mod run_reply;
+mod tell;
 #[cfg(test)]
 mod tests;
-mod tell;
-mod text;
 mod words;
 
-use crate::tell::{tell_usage, tell_want_of_memory};
+use crate::given::run_given;
 use crate::log::RunLog;
-use crate::run::run;
 use pb_outside::{StreamSink, StreamSource, SystemFiles};
 use std::process::ExitCode;
 use std::{env, io};
@@ -31,14 +31,8 @@ fn main(rt: HostRuntime) -> ExitCode {
     let mut sink = StreamSink::new(io::writer(&rt));
     let mut files = SystemFiles::new(&rt);
     let mut log = RunLog::new(alloc);
-    ExitCode::from(match given_words(&rt) {
-        Ok(words) => run(alloc, &words, &mut source, &mut sink, &mut files, &mut log),
-        Err(error) if error.kind() == io::ErrorKind::OutOfMemory => {
-            tell_want_of_memory(&mut sink, &mut log)
-        }
-        // A word that is no UTF-8 is of no form.
-        Err(_) => tell_usage(&mut sink, &mut log),
-    })
+    let words = given_words(&rt);
+    ExitCode::from(run_given(alloc, words, &mut source, &mut sink, &mut files, &mut log))
 }
 
 /// The words after the program's name.

@@ -4,11 +4,10 @@ ghost use Rattle.std.specs.List.{flat_map};
 ghost use Rattle.pb_base.specs.Sets.{has};
 ghost use Rattle.partsbook.specs.OutcomeText.{construct_id, position_id, module_of, module_id, named, names_from, part_text, parts_line, outcome_text};
 
-use crate::text::Text;
+use crate::lines::put_number;
 use book_model::Book;
-use itoa::Buffer;
 use parts_usage::{Line, Outcome, PartsList};
-use pb_base::{CodeSet, CodeTable, Memory};
+use pb_base::{CodeSet, CodeTable, Memory, Text};
 use std::alloc::Global;
 
 /// `accepted` with the codes and the parts list, `refused RULE`, or `unfit POSITION COUNT`.
@@ -37,7 +36,7 @@ fn put_unfit(text: &mut Text, book: &Book, position: u32, count: u32) -> Result<
 {
     text.put(b"unfit ")?;
     text.put(position_id(book, position))?;
-    text.put_number(u64::from(count))?;
+    put_number(text, u64::from(count))?;
     text.put(b"\n")
 }
 
@@ -47,7 +46,7 @@ fn put_accepted(text: &mut Text, book: &Book, set: &CodeSet, list: &PartsList) -
     text.put(b"accepted\ncodes")?;
     put_names(text, book.codes(), set)?;
     text.put(b"\n")?;
-    put_parts(text, book, list.lines())?;
+    put_parts(text, book, list.as_slice())?;
     Ok(())
 }
 
@@ -103,12 +102,11 @@ fn put_parts_line(text: &mut Text, book: &Book, line: &Line) -> Result<(), Memor
 fn put_part(text: &mut Text, book: &Book, variant: u32) -> Result<(), Memory>
     ensures { OnOk result (text.new ≡ text.old ++ part_text book.now variant) }
 {
-    let mut buffer = Buffer::new();
     match book.variants().get(variant as usize) {
         Some(variant) => {
             text.put(variant.part.bytes())?;
             text.put(b",")?;
-            text.put(buffer.format(variant.quantity).as_bytes())
+            text.put_number(u64::from(variant.quantity))
         }
         None => Ok(()),
     }

@@ -23,30 +23,22 @@ pub fn run<S: Source, K: Sink, F: Files>(
     files: &mut F,
     log: &mut RunLog,
 ) -> u8
-    ensures does {
-        let before = outside (S.input source.old) (F.told files.old) (K.output sink.old) log.old in
+    ensures does { let before = outside (S.input source.old) (F.told files.old) (K.output sink.old) log.old in
         let after = outside (S.input source.new) (F.told files.new) (K.output sink.new) log.new in
-        Does (texts_of words.now) before after result
-    }
-    ensures causes {
-        let before = outside (S.input source.old) (F.told files.old) (K.output sink.old) log.old in
+        Does (texts_of words.now) before after result }
+    ensures causes { let before = outside (S.input source.old) (F.told files.old) (K.output sink.old) log.old in
         let after = outside (S.input source.new) (F.told files.new) (K.output sink.new) log.new in
-        IsCaused (texts_of words.now) before after result
-    }
+        IsCaused (texts_of words.now) before after result }
     ensures usage { IsNone (command_in (texts_of words.now)) → (result ≡ 2) ⊎ (result ≡ 5) ⊎ (result ≡ 9) }
     // What was verified can be released.
     ensures verified { result ≡ 0 → ShowsReleasable (texts_of words.now) (S.input source.old).left }
     // Where no call fails from here on, valid words, a valid input and a valid file have their answer, memory allowing.
-    ensures complete {
-        let before = outside (S.input source.old) (F.told files.old) (K.output sink.old) log.old in
-        IsSure (texts_of words.now) before → (result ≤ 1) ⊎ (result ≡ 9)
-    }
+    ensures complete { let before = outside (S.input source.old) (F.told files.old) (K.output sink.old) log.old in
+        IsSure (texts_of words.now) before → (result ≤ 1) ⊎ (result ≡ 9) }
     // The same where no count rose.
-    ensures unfailing {
-        let before = outside (S.input source.old) (F.told files.old) (K.output sink.old) log.old in
+    ensures unfailing { let before = outside (S.input source.old) (F.told files.old) (K.output sink.old) log.old in
         let after = outside (S.input source.new) (F.told files.new) (K.output sink.new) log.new in
-        IsValid (texts_of words.now) before.reads → IsUnfailing before after → (result ≤ 1) ⊎ (result ≡ 9)
-    }
+        IsValid (texts_of words.now) before.reads → IsUnfailing before after → (result ≤ 1) ⊎ (result ≡ 9) }
 {
     do_words(alloc, words, source, sink, files, log)
 }
@@ -59,11 +51,9 @@ fn do_words<S: Source, K: Sink, F: Files>(
     files: &mut F,
     log: &mut RunLog,
 ) -> u8
-    ensures {
-        let before = outside (S.input source.old) (F.told files.old) (K.output sink.old) log.old in
+    ensures { let before = outside (S.input source.old) (F.told files.old) (K.output sink.old) log.old in
         let after = outside (S.input source.new) (F.told files.new) (K.output sink.new) log.new in
-        Does (texts_of words.now) before after result
-    }
+        Does (texts_of words.now) before after result }
 {
     match command_in(alloc, words) {
         Ok(Some(command)) => answer(alloc, &command, source, sink, files, log),
@@ -80,11 +70,9 @@ fn answer<S: Source, K: Sink, F: Files>(
     files: &mut F,
     log: &mut RunLog,
 ) -> u8
-    ensures {
-        let before = outside (S.input source.old) (F.told files.old) (K.output sink.old) log.old in
+    ensures { let before = outside (S.input source.old) (F.told files.old) (K.output sink.old) log.old in
         let after = outside (S.input source.new) (F.told files.new) (K.output sink.new) log.new in
-        AnswersBook command.now before after result
-    }
+        AnswersBook command.now before after result }
 {
     match due_reply(alloc, command, source, files) {
         Ok(reply) => tell(reply, sink, log),

@@ -3,8 +3,7 @@ ghost use Rattle.std.specs.Prelude.{◌≡◌, [], ◌∷◌, IfOk};
 ghost use Rattle.partsbook.specs.RunReply.{read_fault_reply};
 
 use crate::log::Note;
-use crate::text::Text;
-use pb_base::Memory;
+use pb_base::{Memory, Text};
 use std::alloc::Global;
 use std::marker::Model;
 

@@ -19,11 +19,9 @@ const SINK: u8 = 3;
 
 /// Notes what the reply rests on, writes its text, and gives its status.
 pub fn tell<K: Sink>(reply: RunReply, sink: &mut K, log: &mut RunLog) -> u8
-    ensures {
-        let before = outputs (K.output sink.old) log.old in
+    ensures { let before = outputs (K.output sink.old) log.old in
         let after = outputs (K.output sink.new) log.new in
-        Tells reply before after result
-    }
+        Tells reply before after result }
 {
     let (text, status, notes) = reply.into_parts();
     match log.append(notes) {
@@ -34,11 +32,9 @@ pub fn tell<K: Sink>(reply: RunReply, sink: &mut K, log: &mut RunLog) -> u8
 
 /// Tells how the program is called. This takes no memory.
 pub fn tell_usage<K: Sink>(sink: &mut K, log: &mut RunLog) -> u8
-    ensures {
-        let before = outputs (K.output sink.old) log.old in
+    ensures { let before = outputs (K.output sink.old) log.old in
         let after = outputs (K.output sink.new) log.new in
-        IsWritten usage_reply before after result
-    }
+        IsWritten usage_reply before after result }
 {
     write(
         b"usage: order DAY CODE.. | verify CERTFILE\n",
@@ -50,11 +46,9 @@ pub fn tell_usage<K: Sink>(sink: &mut K, log: &mut RunLog) -> u8
 
 /// Tells that memory is wanting. This takes none.
 pub fn tell_want_of_memory<K: Sink>(sink: &mut K, log: &mut RunLog) -> u8
-    ensures {
-        let before = outputs (K.output sink.old) log.old in
+    ensures { let before = outputs (K.output sink.old) log.old in
         let after = outputs (K.output sink.new) log.new in
-        IsWritten memory_reply before after result
-    }
+        IsWritten memory_reply before after result }
 {
     write(b"want of memory\n", WANT_OF_MEMORY, sink, log)
 }
@@ -62,12 +56,10 @@ pub fn tell_want_of_memory<K: Sink>(sink: &mut K, log: &mut RunLog) -> u8
 /// Writes a text, and gives its status. Where the sink fails, its counts are noted, and the status is that of a write fault,
 /// or of want of memory for the note.
 fn write<K: Sink>(text: &[u8], status: u8, sink: &mut K, log: &mut RunLog) -> u8
-    ensures {
-        let before = outputs (K.output sink.old) log.old in
+    ensures { let before = outputs (K.output sink.old) log.old in
         let after = outputs (K.output sink.new) log.new in
         let reply : RunReply = record { text = text.now; status = status; notes = [] } in
-        IsWritten reply before after result
-    }
+        IsWritten reply before after result }
 {
     let before = sink.write_faults();
     if sink.write(text).is_ok() {

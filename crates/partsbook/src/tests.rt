@@ -1,12 +1,17 @@
-//! The answers of `run` to orders against small books, as a person would check them by hand.
+//! The answers of `run`, as a person would check them by hand, the texts of faults, and what the crates below answer at
+//! their limits.
 
+mod books;
 mod certificates;
-mod checks;
-mod unplaced;
+mod clauses;
+mod fault_texts;
+mod orders;
+mod outside;
 
-use crate::log::{Note, RunLog};
+use crate::log::RunLog;
 use crate::run::run;
-use parts_usage::OrderFault;
+use book_model::Book;
+use book_text::read_book;
 use pb_outside::{MemoryFiles, MemorySink, MemorySource, NamedFile};
 use std::alloc::Global;
 use std::process::Abort;
@@ -30,6 +35,10 @@ const ENGINE: [&str; 14] = [
     "variant,V1,P1,A100,1,M1,,\nvariant,V2,P1,A200,1,M2,,",
 ];
 
+const USAGE: &str = "usage: order DAY CODE.. | verify CERTFILE\n";
+
+const ACCEPTED: &str = "accepted\ncodes M1 G5\nMOT,P1,A100,1\n";
+
 /// The text of these lines, each ended by `end`.
 fn joined(alloc: Global, lines: &[&str], end: &str) -> Result<Vec<u8>, Fail> {
     let mut text = Vec::new(alloc);
@@ -40,19 +49,17 @@ fn joined(alloc: Global, lines: &[&str], end: &str) -> Result<Vec<u8>, Fail> {
     Ok(text)
 }
 
-/// Asserts what a run with these words, parted by spaces, writes for this input, and its status.
-fn answers(
-    rt: &impl Abort,
-    alloc: Global,
-    input: Vec<u8>,
-    words: &str,
-    want: (u8, &str),
-) -> Result<(), Fail> {
-    answers_with(rt, alloc, input, Vec::new(alloc), words, want)
+/// The words of a command line that are parted by spaces.
+fn words_of(alloc: Global, line: &str) -> Result<Vec<String>, Fail> {
+    let mut words = Vec::new(alloc);
+    for word in line.split(' ') {
+        words.push(String::from_str(alloc, word)?)?;
+    }
+    Ok(words)
 }
 
-/// The same, where these files are there.
-fn answers_with(
+/// Asserts what a run with these words writes for this input, where these files are there, and its status.
+fn answers(
     rt: &impl Abort,
     alloc: Global,
     input: Vec<u8>,
@@ -60,10 +67,7 @@ fn answers_with(
     words: &str,
     want: (u8, &str),
 ) -> Result<(), Fail> {
-    let mut all = Vec::new(alloc);
-    for word in words.split(' ') {
-        all.push(String::from_str(alloc, word)?)?;
-    }
+    let all = words_of(alloc, words)?;
     let pieces = [7, 0, 100].to_vec(alloc)?;
     let mut source = MemorySource::new(input, pieces, Vec::new(alloc));
     let mut sink = MemorySink::new(alloc, 1000, Vec::new(alloc))?;
@@ -75,74 +79,108 @@ fn answers_with(
     Ok(())
 }
 
-const USAGE: &str = "usage: order DAY CODE.. | verify CERTFILE\n";
-
-const ACCEPTED: &str = "accepted\ncodes M1 G5\nMOT,P1,A100,1\n";
-
-#[test]
-fn orders_against_the_engine_book(rt: HostRuntime) -> Result<(), Fail> {
-    for (words, status, text) in [
-        ("order 1 M1", 0, ACCEPTED),
-        ("order 1", 1, "refused C1\n"),
-        ("order 1 M1 M2", 1, "refused C2\n"),
-        ("order 1 M2", 1, "refused C3\n"),
-        ("order 1 M1 G7", 0, "accepted\ncodes M1 G7\nMOT,P1,A100,1\n"),
-        ("order 0 M1", 3, "order fault 1\n"),
-        ("order 01000 M1", 0, ACCEPTED),
-        ("order 1001 M1", 3, "order fault 1\n"),
-        ("order 1 M1 XX", 3, "order fault 2 2\n"),
-        ("order 1 M1 M1", 3, "order fault 3 2\n"),
-        ("order", 2, USAGE),
-        ("order x M1", 2, USAGE),
-        ("order 000001 M1", 2, USAGE),
-        ("order 1 TRUE", 2, USAGE),
-        ("order 1 -- M1", 2, USAGE),
-        ("offer 1 M1", 2, USAGE),
-        ("verify", 2, USAGE),
-        ("verify -C", 2, USAGE),
-        ("verify C D", 2, USAGE),
-    ] {
-        let input = joined(rt.alloc(), &ENGINE, "\n")?;
-        answers(&rt, rt.alloc(), input, words, (status, text))?;
+/// Asserts the answers to orders against the engine book, with one line changed.
+fn orders(
+    rt: &impl Abort,
+    alloc: Global,
+    end: &str,
+    cases: &[(usize, &str, &str, u8, &str)],
+) -> Result<(), Fail> {
+    for (place, line, words, status, text) in cases {
+        let mut lines = ENGINE;
+        if *place < lines.len() {
+            lines[*place] = line;
+        }
+        let input = joined(alloc, &lines, end)?;
+        answers(rt, alloc, input, Vec::new(alloc), words, (*status, text))?;
     }
     Ok(())
 }
 
+/// The book of a text, which is one.
+fn book_of(alloc: Global, text: &[u8]) -> Result<Book, Fail> {
+    let Ok(book) = read_book(alloc, text) else {
+        return Err(Fail::from("no book"));
+    };
+    Ok(book)
+}
+
 #[test]
-fn books_with_one_line_changed(rt: HostRuntime) -> Result<(), Fail> {
-    for (place, line, words, status, text) in [
-        (0, "\u{feff}book,T,1,1000", "order 1 M1", 0, ACCEPTED),
-        (0, "book,T,1,1000,,,,", "order 1 M1", 0, ACCEPTED),
-        (0, "", "order 1 M1", 3, "book fault 1 3\n"),
-        (2, "code,M1,x", "order 1 M1", 3, "book fault 3 10\n"),
-        (
-            6,
-            "construct,C1,*,M1+,,",
-            "order 1 M1",
-            3,
-            "book fault 7 12 4 3\n",
-        ),
-        (7, "", "order 1 M1 M2", 1, "unfit P1 2\n"),
-        (10, "", "order 1 M1", 1, "refused C3\n"),
-        (10, "", "order 1 M1 G5", 0, ACCEPTED),
-        (
-            12,
-            "position,P1,,mandatory,,",
-            "order 1 M1",
-            0,
-            "accepted\ncodes M1 G5\n-,P1,A100,1\n",
-        ),
-    ] {
-        let mut lines = ENGINE;
-        lines[place] = line;
-        let input = joined(rt.alloc(), &lines, "\r\n")?;
-        answers(&rt, rt.alloc(), input, words, (status, text))?;
-    }
+fn orders_against_the_engine_book(rt: HostRuntime) -> Result<(), Fail> {
+    let alloc = rt.alloc();
+    orders(
+        &rt,
+        alloc,
+        "\n",
+        &[
+            (99, "", "order 1 M1", 0, ACCEPTED),
+            (99, "", "order 1", 1, "refused C1\n"),
+            (99, "", "order 1 M1 M2", 1, "refused C2\n"),
+            (99, "", "order 1 M2", 1, "refused C3\n"),
+            (
+                99,
+                "",
+                "order 1 M1 G7",
+                0,
+                "accepted\ncodes M1 G7\nMOT,P1,A100,1\n",
+            ),
+            (99, "", "order 0 M1", 3, "order fault 1\n"),
+            (99, "", "order 01000 M1", 0, ACCEPTED),
+            (99, "", "order 1001 M1", 3, "order fault 1\n"),
+            (99, "", "order 1 M1 XX", 3, "order fault 2 2\n"),
+            (99, "", "order 1 M1 M1", 3, "order fault 3 2\n"),
+            (99, "", "order", 2, USAGE),
+            (99, "", "order x M1", 2, USAGE),
+            (99, "", "order 000001 M1", 2, USAGE),
+            (99, "", "order 1 TRUE", 2, USAGE),
+            (99, "", "order 1 -- M1", 2, USAGE),
+            (99, "", "offer 1 M1", 2, USAGE),
+            (99, "", "verify", 2, USAGE),
+            (99, "", "verify -C", 2, USAGE),
+            (99, "", "verify C D", 2, USAGE),
+            (7, "", "order 1 M1 M2", 1, "unfit P1 2\n"),
+            (10, "", "order 1 M1", 1, "refused C3\n"),
+            (
+                12,
+                "position,P1,,mandatory,,",
+                "order 1 M1",
+                0,
+                "accepted\ncodes M1 G5\n-,P1,A100,1\n",
+            ),
+            (
+                12,
+                "position,P1,MOT,optional,,\nvariant,V0,P1,A050,7,AC,,",
+                "order 1 M1 AC",
+                1,
+                "unfit P1 2\n",
+            ),
+        ],
+    )?;
+    // The form of the text: a byte order mark, other line ends, a padded row, and the first fault.
+    orders(
+        &rt,
+        alloc,
+        "\r\n",
+        &[
+            (0, "\u{feff}book,T,1,1000", "order 1 M1", 0, ACCEPTED),
+            (0, "book,T,1,1000,,,,", "order 1 M1", 0, ACCEPTED),
+            (0, "", "order 1 M1", 3, "book fault 1 3\n"),
+            (2, "code,M1,x", "order 1 M1", 3, "book fault 3 10\n"),
+            (
+                6,
+                "construct,C1,*,M1+,,",
+                "order 1 M1",
+                3,
+                "book fault 7 12 4 3\n",
+            ),
+        ],
+    )?;
     Ok(())
 }
 
 #[test]
 fn rules_that_supplement_by_rank(rt: HostRuntime) -> Result<(), Fail> {
+    let alloc = rt.alloc();
     for (first, second, rule, text) in [
         (
             "supplement,S1,1,C,B,,",
@@ -169,110 +207,10 @@ fn rules_that_supplement_by_rank(rt: HostRuntime) -> Result<(), Fail> {
             "accepted\ncodes A B\n",
         ),
     ] {
-        let lines = [
-            "book,U,1,10",
-            "code,A,",
-            "code,B,",
-            "code,C,",
-            first,
-            second,
-            rule,
-        ];
-        let input = joined(rt.alloc(), &lines, "\n")?;
-        answers(&rt, rt.alloc(), input, "order 1 A", (0, text))?;
-    }
-    Ok(())
-}
-
-#[test]
-fn inputs_at_their_limits(rt: HostRuntime) -> Result<(), Fail> {
-    let alloc = rt.alloc();
-    answers(
-        &rt,
-        alloc,
-        Vec::new(alloc),
-        "order 1 M1",
-        (3, "book fault 1 3\n"),
-    )?;
-    let long = vec![in alloc; b'x'; 1_048_577]?;
-    answers(&rt, alloc, long, "order 1 M1", (3, "book fault 0 1\n"))
-}
-
-#[test]
-fn faults_of_the_outside_and_the_log(rt: HostRuntime) -> Result<(), Fail> {
-    let alloc = rt.alloc();
-    for (words, read_fails, write_fails, status, text, notes) in [
-        (
-            "order 1 M1",
-            [0].as_slice(),
-            [].as_slice(),
-            4,
-            "read fault\n",
-            [Note::Count {
-                which: 1,
-                before: 0,
-                after: 1,
-            }]
-            .as_slice(),
-        ),
-        (
-            "order 1 M1",
-            [].as_slice(),
-            [0].as_slice(),
-            5,
-            "",
-            [Note::Count {
-                which: 3,
-                before: 0,
-                after: 1,
-            }]
-            .as_slice(),
-        ),
-        (
-            "verify C",
-            [].as_slice(),
-            [].as_slice(),
-            4,
-            "read fault\n",
-            [Note::Count {
-                which: 2,
-                before: 0,
-                after: 1,
-            }]
-            .as_slice(),
-        ),
-        (
-            "order 1",
-            [].as_slice(),
-            [].as_slice(),
-            1,
-            "refused C1\n",
-            [Note::Refused(0)].as_slice(),
-        ),
-        (
-            "order 0",
-            [].as_slice(),
-            [].as_slice(),
-            3,
-            "order fault 1\n",
-            [Note::Order(OrderFault::DayOutsideTerm)].as_slice(),
-        ),
-    ] {
-        let mut all = Vec::new(alloc);
-        for word in words.split(' ') {
-            all.push(String::from_str(alloc, word)?)?;
-        }
-        let input = joined(alloc, &ENGINE, "\n")?;
-        let mut source = MemorySource::new(input, Vec::new(alloc), read_fails.to_vec(alloc)?);
-        let mut sink = MemorySink::new(alloc, 1000, write_fails.to_vec(alloc)?)?;
-        let mut files = MemoryFiles::new(Vec::new(alloc), Vec::new(alloc));
-        let mut log = RunLog::new(alloc);
-        assert_eq!(rt;
-            run(alloc, &all, &mut source, &mut sink, &mut files, &mut log),
-            status
-        );
-        assert_eq!(rt; sink.taken(), text.as_bytes());
-        assert_eq!(rt; log.notes(), notes);
+        let front = ["book,U,1,10", "code,A,", "code,B,", "code,C,"];
+        let mut input = joined(alloc, &front, "\n")?;
+        input.append(&mut joined(alloc, &[first, second, rule], "\n")?)?;
+        answers(&rt, alloc, input, Vec::new(alloc), "order 1 A", (0, text))?;
     }
     Ok(())
 }

@@ -4,7 +4,7 @@ ghost use Rattle.partsbook.specs.Words.{texts_of, codes_in, order_in, is_file_na
 
 use crate::command::BookCommand;
 use crate::file_name::FileName;
-use pb_base::{CodeList, CodeName, Memory, number_of};
+use pb_base::{CodeList, CodeName, Memory, short_number};
 use std::alloc::Global;
 
 /// The command that the words ask for, or None where they are of no form.
@@ -30,7 +30,7 @@ fn order_in(alloc: Global, words: &[String]) -> Result<Option<BookCommand>, Memo
     let Some((day, names)) = words.split_first() else {
         return Ok(None);
     };
-    let Some(day) = number_of(day.as_bytes()) else {
+    let Some(day) = short_number(day.as_bytes()) else {
         return Ok(None);
     };
     match codes_in(alloc, names)? {

@@ -37,8 +37,8 @@ HasWritten-step piece rest (Some bytes) before after count h w = record {
   front = h.front ++ take count rest;
   joined = h.joined ∙ ap (λ (r : List ℕ). h.front ++ r) (sym (take-append-drop count rest)) ∙ sym (append_assoc h.front (take count rest) (drop count rest));
   taken =
-    appended (bytes ++ h.front) (take count rest) after (subst (λ (b : Option (List ℕ)). Appends b after (take count rest)) h.taken w)
-    ∙ ap (λ (b : List ℕ). Some b) (append_assoc bytes h.front (take count rest));
+      appended (bytes ++ h.front) (take count rest) after (subst (λ (b : Option (List ℕ)). Appends b after (take count rest)) h.taken w)
+      ∙ ap (λ (b : List ℕ). Some b) (append_assoc bytes h.front (take count rest));
 }
 
 -- it ends here, before the whole was taken
@@ -48,7 +48,7 @@ TakesFront-written piece rest None before after h w = tt
 TakesFront-written piece rest (Some bytes) before after h w = (
   length h.front,
   appended (bytes ++ h.front) [] after (subst (λ (b : Option (List ℕ)). Appends b after []) h.taken w)
-    ∙ ap (λ (b : List ℕ). Some b) (append-nil (bytes ++ h.front) ∙ ap (λ (f : List ℕ). bytes ++ f) (sym (take_at h.front rest (length h.front) refl) ∙ ap (λ (p : List ℕ). take (length h.front) p) (sym h.joined))),
+      ∙ ap (λ (b : List ℕ). Some b) (append-nil (bytes ++ h.front) ∙ ap (λ (f : List ℕ). bytes ++ f) (sym (take_at h.front rest (length h.front) refl) ∙ ap (λ (p : List ℕ). take (length h.front) p) (sym h.joined))),
 )
 
 -- and that is told as a fault

@@ -1,5 +1,5 @@
 -- Files by their names, as bytes.
-use Rattle.std.specs.Prelude.{◌≡◌, ℕ, true, List, [], ◌∷◌, Option, Some, None, IfSome, IsSomeAnd, nat_le, length, if◌then◌else◌}
+use Rattle.std.specs.Prelude.{◌≡◌, ◌<◌, ℕ, true, List, [], ◌∷◌, Option, Some, None, IfSome, IsSomeAnd, nat_le, length, if◌then◌else◌}
 use Rattle.std.specs.Str.{bytes_eq}
 use Rattle.pb_outside.specs.Faults.{Rose, Faults}
 
@@ -21,6 +21,10 @@ content_of (file ∷ files) name = if bytes_eq file.name name then Some file.con
 -- what a reader with room for so many bytes gets of a content: nothing where it is longer
 abbrev pub within_room : ℕ → List ℕ → Option (List ℕ)
 within_room max content = if nat_le (length content) max then Some content else None
+
+-- what was read of a content, where the room is less than the last number of 64 bits
+abbrev pub IsWithin : ℕ → List ℕ → Option (List ℕ) → Type 0
+IsWithin max content read = max < 18446744073709551615 → read ≡ within_room max content
 
 -- a file of this name is there and was read, where the files are told
 abbrev pub ReadsFile : List ℕ → ℕ → Option (List NamedBytes) → Option (List ℕ) → Type 0

@@ -46,10 +46,8 @@ impl Files for MemoryFiles {
     ghost told = { told_by };
 
     fn read(&mut self, alloc: Global, name: &str, max: usize) -> Result<Option<Vec<u8>>, OutError>
-        ensures content {
-            let content = option_map (λ bytes. bytes.items) in
-            IfOk result (λ found. ReadsFile name.now max (Some self.old.files) (content found))
-        }
+        ensures content { let content = option_map (λ bytes. bytes.items) in
+            IfOk result (λ found. ReadsFile name.now max (Some self.old.files) (content found)) }
         ensures stays { OnOk result (self.new.plan.faults ≡ self.old.plan.faults) }
         ensures cause { result ≡ Err OutError.Failed → FailsToRead name.now (told_by self.old) (told_by self.new) }
         ensures kept { self.new.files ≡ self.old.files }

@@ -73,11 +73,9 @@ impl Source for MemorySource {
         requires { 1 ≤ max }
         ensures at_most { IfOk result (λ count. count ≤ max) }
         ensures appends { IfOk result (λ count. Appends count into.old.items into.new.items) }
-        ensures told {
-            let left = Some self.old.left in
+        ensures told { let left = Some self.old.left in
             let left' = Some self.new.left in
-            IfOk result (λ count. ReadsPiece count left left' into.old.items into.new.items)
-        }
+            IfOk result (λ count. ReadsPiece count left left' into.old.items into.new.items) }
         ensures stays { OnOk result (self.new.plan.faults ≡ self.old.plan.faults) }
         ensures unchanged { OnErr result (into.new.items ≡ into.old.items) }
         ensures kept { OnErr result (self.new.left ≡ self.old.left) }

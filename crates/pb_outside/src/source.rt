@@ -13,11 +13,9 @@ pub trait Source: Ends {
         requires { 1 ≤ max }
         ensures at_most { IfOk result (λ count. count ≤ max) }
         ensures appends { IfOk result (λ count. Appends count into.old.items into.new.items) }
-        ensures told {
-            let left = (Self.input self.old).left in
+        ensures told { let left = (Self.input self.old).left in
             let left' = (Self.input self.new).left in
-            IfOk result (λ count. ReadsPiece count left left' into.old.items into.new.items)
-        }
+            IfOk result (λ count. ReadsPiece count left left' into.old.items into.new.items) }
         ensures stays { OnOk result ((Self.input self.new).faults.count ≡ (Self.input self.old).faults.count) }
         ensures unchanged { OnErr result (into.new.items ≡ into.old.items) }
         ensures kept { OnErr result (Keeps (Self.input self.old).left (Self.input self.new).left) }

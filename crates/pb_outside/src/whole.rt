@@ -13,11 +13,9 @@ pub fn read_up_to<S: Source>(
     limit: usize,
 ) -> Result<Vec<u8>, OutError>
     ensures at_most { IfOk result (λ bytes. length bytes.items ≤ limit) }
-    ensures told {
-        let left = (S.input source.old).left in
+    ensures told { let left = (S.input source.old).left in
         let left' = (S.input source.new).left in
-        IfOk result (λ bytes. ReadsUpTo limit left left' bytes.items)
-    }
+        IfOk result (λ bytes. ReadsUpTo limit left left' bytes.items) }
     ensures stays { OnOk result ((S.input source.new).faults.count ≡ (S.input source.old).faults.count) }
     ensures front { OnErr result (LosesFront limit (S.input source.old).left (S.input source.new).left) }
     ensures cause { result ≡ Err OutError.Failed → Fails (S.input source.old).faults (S.input source.new).faults }

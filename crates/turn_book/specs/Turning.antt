@@ -60,18 +60,26 @@ module _ {M C R : Type 0} where
       pub inside : All (λ x. x < length v.seen) v.own
       pub at_stage : AtStage v v.stage
 
+  -- The table and all seats: there is one good history, and each seat knows a beginning of it
   pub record Turning (good : M → List (Entry M C R) → Type 0) (start : M) (limit : ℕ) (s : State (Option M) (View M C R)) : Type 0 where
     pub log : List (Entry M C R)
     pub bounded : limit < 18446744073709551616
     pub three_words : length s.words ≡ 3
     pub one_slot : length s.homes ≡ 1
     pub is_good : good start log
+    -- word 2 is its length
     pub recorded : slice_index s.words 2 ≡ length log
+    -- each ticket is of a call that was made or waits
     pub drawn : slice_index s.words 0 ≡ sum_by made s.views + sum_by waiting s.views
+    -- no more tickets can be drawn than calls are allowed
     pub spare : slice_index s.words 0 + sum_by left_of s.views ≡ limit
+    -- the history has the calls that were made, and no others
     pub all_made : sum_by made s.views ≡ length log
+    -- each place of it is one seat's own, once
     pub places : (x : ℕ) → sum_by (owns x) s.views ≡ once_below x (length log)
     pub served : slice_index s.words 1 ≤ slice_index s.words 0
     pub each_seat : (i : ℕ) (v : View M C R) → get_elem? s.views i ≡ some v → Knows (slice_index s.words 0) (slice_index s.words 1) log v
+    -- no two seats have one ticket
     pub apart : (i j : ℕ) (v w : View M C R) → get_elem? s.views i ≡ some v → get_elem? s.views j ≡ some w → HasTicket v.stage → HasTicket w.stage → v.ticket ≡ w.ticket → i ≡ j
+    -- where nobody is in turn, the slot has the machine after the history
     pub at_home : ((i : ℕ) (v : View M C R) → get_elem? s.views i ≡ some v → InTurn v.stage → ⊥) → s.homes ≡ some (Some (end_of start log)) ∷ []

@@ -1,6 +1,6 @@
 //! The answers of `run` to certificates of the engine book.
 
-use super::{ENGINE, answers, answers_with, joined};
+use super::{ENGINE, answers, joined};
 use pb_outside::NamedFile;
 use std::alloc::Global;
 use std::test::Fail;
@@ -39,6 +39,37 @@ fn file_c(alloc: Global, content: Vec<u8>) -> Result<Vec<NamedFile>, Fail> {
     Ok(files)
 }
 
+/// The engine book with a rule more for each day from the second on: 65 slices.
+fn many_slices(alloc: Global) -> Result<Vec<u8>, Fail> {
+    let mut text = joined(alloc, &ENGINE, "\n")?;
+    for day in 2_u32..66 {
+        let number = day.to_string(alloc)?;
+        for piece in ["construct,D", &number, ",*,TRUE,", &number, ",\n"] {
+            text.extend_from_slice(piece.as_bytes())?;
+        }
+    }
+    Ok(text)
+}
+
+/// A book of one code and 11 mandatory positions, each of 200 variants.
+fn many_questions(alloc: Global) -> Result<Vec<u8>, Fail> {
+    let mut text = b"book,B,1,1\ncode,A,\n".to_vec(alloc)?;
+    for position in 0_u32..11 {
+        let number = position.to_string(alloc)?;
+        for piece in ["position,P", &number, ",,mandatory,,\n"] {
+            text.extend_from_slice(piece.as_bytes())?;
+        }
+    }
+    for variant in 0_u32..2200 {
+        let number = variant.to_string(alloc)?;
+        let position = (variant % 11).to_string(alloc)?;
+        for piece in ["variant,V", &number, ",P", &position, ",A1,1,A,,\n"] {
+            text.extend_from_slice(piece.as_bytes())?;
+        }
+    }
+    Ok(text)
+}
+
 #[test]
 fn certificates_near_to_the_right_one(rt: HostRuntime) -> Result<(), Fail> {
     let alloc = rt.alloc();
@@ -47,8 +78,18 @@ fn certificates_near_to_the_right_one(rt: HostRuntime) -> Result<(), Fail> {
         (9, "\n", 8, "certificate fault 10 7\n"),
         (1, "book T 2\n", 8, "certificate fault 2 2\n"),
         (3, "set M1\n", 8, "certificate fault 4 6 0\n"),
+        (3, "set M1 M1 G5\n", 8, "certificate fault 4 6 0\n"),
         (4, "step 21 -0 15\n", 8, "certificate fault 5 3\n"),
+        (
+            4,
+            "step 123456789012345678901 -0 15\n",
+            8,
+            "certificate fault 5 1\n",
+        ),
+        (4, "step 9 -00 15\n", 8, "certificate fault 5 1\n"),
         (4, "step 9 +0 15 -1 16\n", 8, "certificate fault 5 4\n"),
+        (5, "close 14 21\n", 8, "certificate fault 6 5 13\n"),
+        (5, "close 13 99\n", 8, "certificate fault 6 3\n"),
         (7, "end\n", 8, "certificate fault 8 5 14\n"),
         (0, "", 8, "certificate fault 1 1\n"),
         (1, "", 8, "certificate fault 2 1\n"),
@@ -62,19 +103,31 @@ fn certificates_near_to_the_right_one(rt: HostRuntime) -> Result<(), Fail> {
     ] {
         let input = joined(alloc, &ENGINE, "\n")?;
         let files = file_c(alloc, certificate_to(alloc, front, rest)?)?;
-        answers_with(&rt, alloc, input, files, "verify C", (status, text))?;
+        answers(&rt, alloc, input, files, "verify C", (status, text))?;
     }
     Ok(())
 }
 
 #[test]
-fn a_file_that_is_too_long_and_one_that_is_not_read(rt: HostRuntime) -> Result<(), Fail> {
+fn limits_of_certificates(rt: HostRuntime) -> Result<(), Fail> {
     let alloc = rt.alloc();
-    let input = joined(alloc, &ENGINE, "\n")?;
-    let long = file_c(alloc, vec![in alloc; b'x'; 67_108_865]?)?;
-    let want = (8, "certificate fault 0 8\n");
-    answers_with(&rt, alloc, input, long, "verify C", want)?;
-    // There is no file, but a fault of the book comes first.
-    let want = (3, "book fault 1 3\n");
-    answers(&rt, alloc, Vec::new(alloc), "verify C", want)
+    let book = joined(alloc, &ENGINE, "\n")?;
+    let long = vec![in alloc; b'x'; 67_108_865]?;
+    for (input, content, text) in [
+        (book, long, "certificate fault 0 8\n"),
+        (
+            many_slices(alloc)?,
+            Vec::new(alloc),
+            "certificate fault 0 9 limit slices 65\n",
+        ),
+        (
+            many_questions(alloc)?,
+            Vec::new(alloc),
+            "certificate fault 0 9 limit questions 0 221114\n",
+        ),
+    ] {
+        let files = file_c(alloc, content)?;
+        answers(&rt, alloc, input, files, "verify C", (8, text))?;
+    }
+    Ok(())
 }

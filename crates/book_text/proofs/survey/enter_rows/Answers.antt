@@ -1,6 +1,7 @@
 use Rattle.std.proofs.Common.{◌≡◌, ◌+◌, ◌<◌, ◌++◌, [], ◌∷◌, length, append_assoc, refl, sym, ap, ◌∙◌, arith}
 use Rattle.std.proofs.lemmas.List.{append-nil, length_push}
 use Rattle.csv.specs.Records.{fields_of}
+use Rattle.pb_base.specs.declared.limits.TheConstants.{MOST_TEXT_BYTES}
 use Rattle.book_text.specs.Entry.{rule_text_of}
 use Rattle.book_text.specs.FirstPass.{entered_row}
 use Rattle.book_text.specs.Pass.{pass}
@@ -44,7 +45,7 @@ rows-preserved c =
         said-push c.args.term read c.rows.entries.items (fields_of c.rows.texts) row c.in-Ok.entry said c.in-Ok.ensures.entry,
       );
       few = omega (arith, length_push c.rows.entries.items c.in-Ok.entry, ap length next, inv.few);
-      short = short-push 1048576 (fields_of c.rows.texts) (rule_text_of c.in-Ok.entry row) inv.short (rule_text-short c.in-Ok.entry row short);
+      short = short-push MOST_TEXT_BYTES (fields_of c.rows.texts) (rule_text_of c.in-Ok.entry row) inv.short (rule_text-short c.in-Ok.entry row short);
       whole = c.in_ok-push_field-in-Ok.ensures.partial;
     })
 

@@ -1,5 +1,6 @@
 use Rattle.std.proofs.Common.{◌≡◌, ◌≤◌, ◌+◌, ◌++◌, List, [], length}
 use Rattle.csv.specs.Records.{fields_of, partial_of}
+use Rattle.pb_base.specs.declared.limits.TheConstants.{MOST_TEXT_BYTES}
 use Rattle.book_text.specs.FirstPass.{entered_row}
 use Rattle.book_text.specs.Pass.{pass}
 use Rattle.book_text.specs.Rows.{Row, IsShort}
@@ -11,7 +12,7 @@ abbrev pub invariant-rows : goal.invariant-rows
 invariant-rows l = record {
   rest : pass (entered_row l.term) (length l.entries.items + 2) l.names l.rows ≡ pass (entered_row l.term) 2 l.fn.names l.fn.rows;
   said : (read : List Row) × (l.fn.rows ≡ read ++ l.rows) × AreSaid l.term read l.entries.items (fields_of l.texts);
-  few : length l.entries.items + length l.rows ≤ 1048576;
+  few : length l.entries.items + length l.rows ≤ MOST_TEXT_BYTES;
   short : IsShort (fields_of l.texts);
   whole : partial_of l.texts ≡ [];
 }

@@ -1,6 +1,6 @@
-use Rattle.derivation.specs.Leading.{LeadsPast}
-use Rattle.derivation.specs.Showing.{ShowsRelease}
+use Rattle.std.proofs.Common.{take}
+use Rattle.derivation.proofs.TextLaws.{SlicesPut}
 use Rattle.derivation.proofs.write.write_cert.Given as goal
 
-abbrev pub invariant-loop-place : goal.invariant-loop-place
-invariant-loop-place l = (shows : ShowsRelease l.book l.proofs) → LeadsPast l.book shows.slices l.text.items l.place
+abbrev pub invariant-loop-number : goal.invariant-loop-number
+invariant-loop-number l = SlicesPut l.book l.initial.text l.text (take l.number l.proofs)

@@ -8,7 +8,7 @@ use Rattle.pb_outside.proofs.fault_plan.FaultPlan.begin_call.Goals as goal
 pub returns-then-fails-clause-possible : goal.returns-then-fails-clause-possible
 returns-then-fails-clause-possible c = λ fails.
     let among : list_any (λ number. number == c.self.inside.next_call) c.self.inside.fails.items ≡ true =
-        ap (λ (numbers : List ℕ). list_any (λ number. number == c.self.inside.next_call) numbers) (sym c.deref.ensures.value) ∙ sym c.is_among-fails.ensures ∙ fails
+    ap (λ (numbers : List ℕ). list_any (λ number. number == c.self.inside.next_call) numbers) (sym c.deref.ensures.value) ∙ sym c.is_among-fails.ensures ∙ fails
     in
     rw (← c.self.view_is) (not_passed c.self.inside.fails.items c.self.inside.next_call among)
 

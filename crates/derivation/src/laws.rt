@@ -1,0 +1,33 @@
+//! What is known of every value of some types. These calls do nothing.
+ghost use Rattle.std.specs.Prelude.{◌≡◌, ◌<◌, ◌^◌, length, true};
+ghost use Rattle.std.specs.List.{IsDistinct, list_all};
+ghost use Rattle.pb_base.specs.Names.{is_code_name, same_name};
+ghost use Rattle.book_model.specs.Book.{IsBook};
+
+use book_model::Book;
+use clause_pool::Kernel;
+use clausify::Coded;
+
+/// A book meets the conditions on its records, and no two of its codes have one name.
+pub(crate) fn book_laws(book: &Book)
+    ensures book { IsBook book.now }
+    ensures apart { IsDistinct same_name book.now.codes }
+    ensures names { list_all is_code_name book.now.codes ≡ true }
+{
+    let codes = book.codes();
+    let _names = codes.len();
+}
+
+/// The clauses of a kernel can be counted.
+pub(crate) fn kernel_laws(kernel: &Kernel)
+    ensures { length kernel.now.clauses < 2 ^ 64 }
+{
+    let _count = kernel.pool().len();
+}
+
+/// The variables of the clauses of a slice are counted in 32 bits.
+pub(crate) fn coded_laws(coded: &Coded)
+    ensures { coded.now.vars < 2 ^ 32 }
+{
+    let _vars = coded.vars;
+}
