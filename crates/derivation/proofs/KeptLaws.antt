@@ -1,6 +1,6 @@
 -- A line as it is kept is the line with its numbers and literals kept, and does the same wherever all names are kept.
-use Rattle.std.proofs.Common.{◌≡◌, ℕ, zero, suc, ◌+◌, ◌-◌, ◌*◌, ◌/◌, ◌%◌, ◌<◌, ◌≤◌, min, Bool, true, false, cond, eqb, ltb, ◌&&◌, List, [], ◌∷◌, ◌++◌, Option, None, Some, Result, Ok, Err, map, length, codes, inl, inr, refl, sym, ap, subst, ◌∙◌, arith, eq-eqb}
-use Rattle.std.specs.List.{list_all, list_any, slice_get, AllByRecursion}
+use Rattle.std.proofs.Common.{◌≡◌, ℕ, ◌+◌, ◌-◌, ◌*◌, ◌/◌, ◌%◌, ◌<◌, ◌≤◌, min, Bool, true, false, cond, eqb, ltb, ◌&&◌, List, [], ◌∷◌, Option, None, Some, Result, Ok, Err, map, length, codes, inl, inr, refl, sym, ap, subst, ◌∙◌, arith, eq-eqb}
+use Rattle.std.specs.List.{list_all, slice_get, AllByRecursion}
 use Rattle.std.specs.Option.{option_and_then, option_map, option_zip}
 use Rattle.std.proofs.lemmas.Bool.{cases_Bool, cases_eq, cond-true, cond-false, eqb-true, eqb-false, ltb-true, ltb-false, ne_eqb}
 use Rattle.std.proofs.lemmas.Option.{slice_get_past}
@@ -24,7 +24,7 @@ use Rattle.derivation.specs.declared.fault.CertKind.{CertKind}
 use Rattle.derivation.specs.declared.fault.CertKind.TheVariants.{Syntax, WrongBook, NotClosed}
 use Rattle.derivation.specs.After.{after, after_head, after_name, after_slices, after_number, after_within, next_slice, with_clause, close_next, closed_by, first_left}
 use Rattle.derivation.specs.CertLine.{CertLine, head_line, book_line, slice_line, set_line, step_line, close_line, end_line, head_from, set_from, end_from, book_from, slice_from, pair_from, pairs_from, step_with, step_from, close_from, other_from, line_from, cert_line}
-use Rattle.derivation.specs.Certificate.{is_step, line_at, past_end, taken_as, taken_line}
+use Rattle.derivation.specs.Certificate.{is_step, past_end, taken_as, taken_line}
 use Rattle.derivation.specs.Kept.{highest, highest_variable, kept, kept_literal, kept_pair, kept_line, with_digit, digits_kept, number_kept, literal_at, literal_kept, line_kept, NamesKept, AllNamed}
 use Rattle.derivation.specs.Pieces.{pieces}
 use Rattle.derivation.specs.Reading.{line_of, seen}

@@ -1,5 +1,5 @@
 -- The lines of proofs that show that a book can be released lead from the first line to the end.
-use Rattle.std.proofs.Common.{◌≡◌, ℕ, zero, suc, ◌+◌, ◌<◌, ◌≤◌, Bool, true, false, cond, eqb, ltb, ◌&&◌, List, [], ◌∷◌, ◌++◌, Option, None, Some, Result, Ok, Err, length, get_or, take, drop, map, refl, sym, ap, subst, ◌∙◌, arith, append_assoc, eq-eqb}
+use Rattle.std.proofs.Common.{◌≡◌, ℕ, zero, suc, ◌+◌, ◌<◌, ◌≤◌, Bool, true, false, cond, eqb, ltb, ◌&&◌, List, [], ◌∷◌, ◌++◌, None, Some, Result, Ok, Err, length, get_or, take, drop, map, refl, sym, ap, subst, ◌∙◌, arith, append_assoc, eq-eqb}
 use Rattle.std.proofs.Math.Numerals.{add-one}
 use Rattle.std.specs.List.{slice_get, IsDistinct, AllByRecursion, AllZip}
 use Rattle.std.specs.Cmp.Lexicographic.{nat_list_eq_equiv}
@@ -14,23 +14,19 @@ use Rattle.book_model.specs.Contents.{Contents}
 use Rattle.book_model.specs.Good.{is_good}
 use Rattle.book_model.specs.declared.record.Slice.{Slice}
 use Rattle.clause_pool.specs.Chain.{chain}
-use Rattle.clause_pool.specs.Derivation.{Derivation, IsDerived}
+use Rattle.clause_pool.specs.Derivation.{IsDerived}
 use Rattle.clause_pool.specs.declared.chain.Pair.{Pair}
-use Rattle.clausify.specs.Coded.{slice_clauses, slice_asked}
 use Rattle.derivation.specs.declared.closing.Closing.{Closing}
 use Rattle.derivation.specs.declared.closing.ToClose.{ToClose}
 use Rattle.derivation.specs.declared.fault.CertKind.{CertKind}
 use Rattle.derivation.specs.declared.fault.CertKind.TheVariants.{Syntax, WrongBook, NotClosed, BadSet}
 use Rattle.derivation.specs.declared.fault.Certified.{Certified}
-use Rattle.derivation.specs.declared.fault.CertFault.{CertFault}
 use Rattle.derivation.specs.declared.slice_proof.SliceProof.{SliceProof}
-use Rattle.derivation.specs.After.{after, next_slice, is_good_set, opened, good_then, with_clause, closes, closed_by, close_next, end_behind, first_left}
+use Rattle.derivation.specs.After.{after, next_slice, is_good_set, opened, good_then, with_clause, closes, closed_by, close_next}
 use Rattle.derivation.specs.CertLine.{CertLine, head_line, book_line, slice_line, set_line, step_line, close_line, end_line, cert_line}
-use Rattle.derivation.specs.Certificate.{at_line, past_end, line_at, is_step, taken_as, taken_line, after_last, with_line, read_lines, read_cert, within_limits, cert_answer}
-use Rattle.derivation.specs.Limits.{slices_within}
-use Rattle.derivation.specs.Pieces.{pieces}
-use Rattle.derivation.specs.Showing.{Closes, AllClosed, ShowsSlice, ShowEach, derived_by, shown_by}
-use Rattle.derivation.specs.Stage.{SliceSoFar, Stage, at_head, at_book, at_slices, at_set, within, at_end, to_close}
+use Rattle.derivation.specs.Certificate.{at_line, past_end, is_step, taken_as, taken_line, after_last, with_line, read_lines, read_cert, within_limits, cert_answer}
+use Rattle.derivation.specs.Showing.{AllClosed, ShowsSlice, ShowEach, derived_by, shown_by}
+use Rattle.derivation.specs.Stage.{SliceSoFar, Stage, at_head, at_book, at_slices, at_set, within, at_end}
 use Rattle.derivation.specs.Written.{members, step_lines, close_lines, slice_lines, lines_from, cert_lines, written, LineFits}
 use Rattle.derivation.proofs.LimitLaws.{some_slices}
 use Rattle.derivation.proofs.LineBack.{line_text, line_back, texts_back}

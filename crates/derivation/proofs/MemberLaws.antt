@@ -1,5 +1,5 @@
 -- The names of a set's codes make that set.
-use Rattle.std.proofs.Common.{◌≡◌, ℕ, suc, ◌+◌, ◌<◌, ◌≤◌, Bool, true, false, not, cond, ltb, leb, ◌&&◌, List, [], ◌∷◌, ◌++◌, None, Some, Result, Ok, length, get_or, map, ◌||◌, drop, inl, inr, refl, sym, ap, ◌∙◌, arith}
+use Rattle.std.proofs.Common.{◌≡◌, ℕ, ◌+◌, ◌<◌, ◌≤◌, Bool, true, false, not, cond, ltb, leb, ◌&&◌, List, [], ◌∷◌, ◌++◌, None, Some, Ok, length, map, ◌||◌, drop, inl, inr, refl, sym, ap, ◌∙◌, arith}
 use Rattle.std.specs.List.{list_all, list_any, slice_get, IsDistinct, AllByRecursion, position, prefix_len}
 use Rattle.std.specs.Option.{option_or, is_none}
 use Rattle.std.specs.Cmp.Lexicographic.{nat_list_eq_equiv}

@@ -6,7 +6,7 @@ use Rattle.std.specs.Result.{IfOk}
 use Rattle.pb_base.specs.Names.{same_name, is_code_name}
 use Rattle.pb_base.specs.declared.answer.Memory.{Memory}
 use Rattle.clause_pool.specs.declared.chain.Pair.{Pair}
-use Rattle.derivation.specs.CertLine.{CertLine, set_line, set_from, pair_from, pairs_from, step_from, other_from, line_from}
+use Rattle.derivation.specs.CertLine.{CertLine, set_line, pair_from, pairs_from, step_from, other_from, line_from}
 use Rattle.derivation.specs.Kept.{number_kept, literal_kept, line_kept}
 use Rattle.derivation.specs.Pieces.{pieces}
 use Rattle.derivation.specs.Reading.{HasPairs, line_of}

@@ -1,5 +1,5 @@
 -- The text of some lines, where lines are put behind others.
-use Rattle.std.proofs.Common.{◌≡◌, ℕ, zero, suc, ◌+◌, ◌-◌, ◌<◌, ◌≤◌, ◌^◌, true, List, [], ◌∷◌, ◌++◌, Bool, Result, Ok, Err, length, get_or, take, map, codes, refl, sym, ap, subst, ◌∙◌, arith, append_assoc, append-nil}
+use Rattle.std.proofs.Common.{◌≡◌, ℕ, zero, suc, ◌+◌, ◌-◌, ◌<◌, ◌≤◌, ◌^◌, true, List, [], ◌∷◌, ◌++◌, Result, Ok, Err, length, get_or, take, codes, refl, sym, ap, subst, ◌∙◌, arith, append_assoc, append-nil}
 use Rattle.std.proofs.Math.Numerals.{add-one}
 use Rattle.std.specs.List.{list_all, All, AllByRecursion}
 use Rattle.std.specs.Result.{OnOk}

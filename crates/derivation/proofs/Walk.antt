@@ -1,5 +1,5 @@
 -- What is known at each stage of a certificate without fault, and what its end proves of the book.
-use Rattle.std.proofs.Common.{◌≡◌, ℕ, zero, suc, ◌+◌, ◌-◌, ◌<◌, Bool, true, false, cond, eqb, ltb, ◌&&◌, List, [], ◌∷◌, ◌++◌, Option, None, Some, Result, Ok, Err, length, map, inl, inr, refl, sym, ap, subst, ◌∙◌, arith, append_assoc, append-nil}
+use Rattle.std.proofs.Common.{◌≡◌, ℕ, suc, ◌+◌, ◌-◌, ◌<◌, Bool, true, false, cond, eqb, ltb, ◌&&◌, List, [], ◌∷◌, ◌++◌, Option, None, Some, Result, Ok, Err, length, inl, inr, refl, sym, ap, subst, ◌∙◌, arith, append_assoc, append-nil}
 use Rattle.std.specs.List.{slice_get, flat_map, AllByRecursion}
 use Rattle.std.proofs.lemmas.Bool.{false≢true, eqb-true, cases_eq}
 use Rattle.std.proofs.lemmas.Option.{slice_get_within}
@@ -21,7 +21,6 @@ use Rattle.clause_pool.specs.declared.chain.StepFault.{StepFault}
 use Rattle.clause_pool.proofs.ChainLaws.{Follows-chain, Follows-cut, Follows-given}
 use Rattle.clause_pool.proofs.ClauseLaws.{all_found}
 use Rattle.clausify.specs.Coded.{slice_clauses, slice_asked}
-use Rattle.clausify.specs.Questions.{questions}
 use Rattle.clausify.proofs.ListLaws.{all-append}
 use Rattle.clausify.proofs.QuestionLaws.{asked_in_order}
 use Rattle.clausify.proofs.SliceLaws.{codes_good_sets}
@@ -31,7 +30,7 @@ use Rattle.derivation.specs.declared.fault.CertKind.TheVariants.{Syntax, WrongBo
 use Rattle.derivation.specs.declared.fault.Certified.{Certified}
 use Rattle.derivation.specs.After.{after, after_head, after_name, after_slices, after_number, after_within, next_slice, is_good_set, opened, good_then, with_clause, closes, closed_by, close_next, first_left, end_behind}
 use Rattle.derivation.specs.CertLine.{CertLine, head_line, book_line, slice_line, set_line, step_line, close_line, end_line, cert_line}
-use Rattle.derivation.specs.Certificate.{at_line, past_end, line_at, is_step, taken_as, taken_line, after_last, with_line, read_lines, read_cert}
+use Rattle.derivation.specs.Certificate.{at_line, line_at, is_step, taken_as, taken_line, after_last, with_line, read_lines, read_cert}
 use Rattle.derivation.specs.Pieces.{pieces}
 use Rattle.derivation.specs.Stage.{SliceSoFar, Stage, at_head, at_book, at_slices, at_set, within, at_end, to_close}
 use Rattle.derivation.proofs.Refuted.{IsClosed, AllRefuted, all_refuted}

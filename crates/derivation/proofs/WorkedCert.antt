@@ -1,10 +1,9 @@
 -- The definitions on the certificate of the worked book, and on texts near to it.
-use Rattle.std.proofs.Common.{◌≡◌, ℕ, List, ◌++◌, Option, Some, Ok, codes, refl}
+use Rattle.std.proofs.Common.{◌≡◌, ℕ, List, ◌++◌, Some, Ok, codes, refl}
 use Rattle.book_model.specs.Slices.{slices_of}
 use Rattle.book_model.specs.WorkedBook.{book_t}
-use Rattle.derivation.specs.declared.fault.CertFault.{CertFault}
 use Rattle.derivation.specs.declared.fault.CertKind.{CertKind}
-use Rattle.derivation.specs.declared.fault.CertKind.TheVariants.{Syntax, NoSuchStep, NoPivot, NotClosed, BadSet, Trailing}
+use Rattle.derivation.specs.declared.fault.CertKind.TheVariants.{NoSuchStep, NoPivot, NotClosed, BadSet}
 use Rattle.derivation.specs.Certificate.{cert_answer, cert_fault}
 
 abbrev opened : List ℕ

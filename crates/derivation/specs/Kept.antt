@@ -12,7 +12,7 @@ use Rattle.clause_pool.specs.declared.chain.Pair.{Pair}
 use Rattle.derivation.specs.CertLine.{CertLine, line_from, head_line, book_line, slice_line, set_line, step_line, close_line, end_line}
 use Rattle.derivation.specs.Pieces.{pieces}
 use Rattle.derivation.specs.Words.{has_number_form}
-use Rattle.derivation.specs.Stage.{SliceSoFar, Stage, at_head, at_book, at_slices, at_set, within, at_end}
+use Rattle.derivation.specs.Stage.{SliceSoFar, Stage, within}
 
 abbrev pub highest : ℕ
 highest = 18446744073709551615

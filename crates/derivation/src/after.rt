@@ -35,7 +35,8 @@ pub(crate) fn after(
     requires within { AreWithin book.now slices.now }
     requires pairs { HasPairs line.now pairs.now }
     requires named { AllNamed (stage_of stage) }
-    ensures answer { Gives result stage_of (after book.now slices.now (stage_of stage) (line_of line.now pairs.now)) }
+    ensures answer { Gives result stage_of (after book.now slices.now (stage_of stage)
+        (line_of line.now pairs.now)) }
     ensures named { IfOk result (λ behind. AllNamed (stage_of behind)) }
 {
     let count = slices.len() as u32;
@@ -60,7 +61,8 @@ fn after_head(line: &Line) -> Result<Stage, Fail<CertKind>>
 }
 
 fn after_name(book: &Book, count: u32, line: &Line) -> Result<Stage, Fail<CertKind>>
-    ensures answer { (pairs : List Pair) → Gives result stage_of (after_name book.now count (line_of line.now pairs)) }
+    ensures answer { (pairs : List Pair)
+        → Gives result stage_of (after_name book.now count (line_of line.now pairs)) }
     ensures named { IfOk result (λ behind. AllNamed (stage_of behind)) }
 {
     match line {
@@ -78,7 +80,8 @@ fn after_name(book: &Book, count: u32, line: &Line) -> Result<Stage, Fail<CertKi
 }
 
 fn after_slices(count: u32, line: &Line) -> Result<Stage, Fail<CertKind>>
-    ensures answer { (pairs : List Pair) → Gives result stage_of (after_slices count (line_of line.now pairs)) }
+    ensures answer { (pairs : List Pair)
+        → Gives result stage_of (after_slices count (line_of line.now pairs)) }
     ensures named { IfOk result (λ behind. AllNamed (stage_of behind)) }
 {
     match line {
@@ -87,7 +90,7 @@ fn after_slices(count: u32, line: &Line) -> Result<Stage, Fail<CertKind>>
     }
 }
 
-// The slice line of the next slice, where this much is left of the one before.
+/// The slice line of the next slice, where this much is left of the one before.
 fn next_slice(
     count: u32,
     next: u64,
@@ -117,7 +120,8 @@ fn after_number(
     line: &Line,
 ) -> Result<Stage, Fail<CertKind>>
     requires within { AreWithin book.now slices.now }
-    ensures answer { (pairs : List Pair) → Gives result stage_of (after_number book.now slices.now number (line_of line.now pairs)) }
+    ensures answer { (pairs : List Pair)
+        → Gives result stage_of (after_number book.now slices.now number (line_of line.now pairs)) }
     ensures named { IfOk result (λ behind. AllNamed (stage_of behind)) }
 {
     match line {
@@ -136,7 +140,7 @@ fn after_number(
     }
 }
 
-// Whether the names make a set, and it is good on a day.
+/// Whether the names make a set, and it is good on a day.
 fn is_good_set(alloc: Global, book: &Book, day: Day, names: &CodeList) -> Result<bool, Memory>
     ensures { IfOk result (λ good. good ≡ is_good_set book.now day (set_of_names book.now.codes names.now)) }
 {
@@ -147,7 +151,7 @@ fn is_good_set(alloc: Global, book: &Book, day: Day, names: &CodeList) -> Result
     }
 }
 
-// A slice of which the set line has been read, with its clauses and nothing closed.
+/// A slice of which the set line has been read, with its clauses and nothing closed.
 fn open_slice(alloc: Global, book: &Book, slice: &Slice, number: u32) -> Result<OpenSlice, Memory>
     requires { asked_of book.now slice.now ≤ MOST_QUESTIONS }
     ensures opened { IfOk result (λ s. so_far_of s ≡ opened book.now slice.now.first number) }
@@ -174,7 +178,8 @@ fn after_within(
 ) -> Result<Stage, Fail<CertKind>>
     requires pairs { HasPairs line.now pairs.now }
     requires named { NamesKept (so_far_of slice) }
-    ensures answer { Gives result stage_of (after_within count (so_far_of slice) (line_of line.now pairs.now)) }
+    ensures answer { Gives result stage_of (after_within count (so_far_of slice)
+        (line_of line.now pairs.now)) }
     ensures named { IfOk result (λ behind. AllNamed (stage_of behind)) }
 {
     match line {
@@ -195,10 +200,11 @@ fn after_within(
     }
 }
 
-// Appends the resolvent of a chain.
+/// Appends the resolvent of a chain.
 fn derive(slice: &mut OpenSlice, start: Ref, pairs: &[Pair]) -> Result<(), Fail<CertKind>>
     requires { 0 < length pairs.now }
-    ensures answer { Leaves result (within (so_far_of slice.new)) (with_clause (so_far_of slice.old) (chain slice.old.kernel.clauses start pairs.now)) }
+    ensures answer { Leaves result (within (so_far_of slice.new)) (with_clause (so_far_of slice.old)
+        (chain slice.old.kernel.clauses start pairs.now)) }
     ensures named { NamesKept (so_far_of slice.old) → OnOk result (NamesKept (so_far_of slice.new)) }
 {
     match slice.kernel.resolve(start, pairs) {
@@ -220,10 +226,11 @@ fn step_kind(fault: StepFault) -> CertKind
     }
 }
 
-// Closes the next question by a clause.
+/// Closes the next question by a clause.
 fn close_next(slice: &mut OpenSlice, question: u64, clause: Ref) -> Result<(), Fail<CertKind>>
     ensures named { NamesKept (so_far_of slice.old) → OnOk result (NamesKept (so_far_of slice.new)) }
-    ensures answer { Leaves result (within (so_far_of slice.new)) (close_next (so_far_of slice.old) (so_far_of slice.old).left question clause) }
+    ensures answer { Leaves result (within (so_far_of slice.new)) (close_next (so_far_of slice.old)
+        (so_far_of slice.old).left question clause) }
 {
     if slice.closed >= slice.to_close.len() {
         return Err(Fail::Refused(CertKind::Syntax));
@@ -243,7 +250,7 @@ fn close_next(slice: &mut OpenSlice, question: u64, clause: Ref) -> Result<(), F
     Ok(())
 }
 
-// Whether a clause has no literal but the complement of the goal.
+/// Whether a clause has no literal but the complement of the goal.
 pub(crate) fn closes(goal: Lit, clause: &[Lit]) -> bool
     ensures { result ≡ closes goal clause.now }
 {
@@ -262,7 +269,8 @@ fn first_left(slice: &OpenSlice) -> Option<CertKind>
 }
 
 fn end_behind(count: u32, slice: &OpenSlice) -> Result<Stage, Fail<CertKind>>
-    ensures answer { Gives result stage_of (end_behind count ((so_far_of slice.now).slice + 1) (first_left (so_far_of slice.now).left)) }
+    ensures answer { Gives result stage_of (end_behind count ((so_far_of slice.now).slice + 1)
+        (first_left (so_far_of slice.now).left)) }
     ensures named { IfOk result (λ behind. AllNamed (stage_of behind)) }
 {
     if u64::from(slice.slice) + 1 != u64::from(count) {

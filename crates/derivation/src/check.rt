@@ -41,7 +41,7 @@ pub fn check_cert(alloc: Global, book: &Book, cert: &[u8]) -> Result<Certified, 
     }
 }
 
-// Reads the lines one after another.
+/// Reads the lines one after another.
 fn read_cert(
     alloc: Global,
     book: &Book,
@@ -79,7 +79,7 @@ fn read_cert(
     Err(fault_at(number, Fail::Refused(CertKind::Syntax)))
 }
 
-// What is wrong with the line of this number.
+/// What is wrong with the line of this number.
 fn fault_at(line: u64, fail: Fail<CertKind>) -> Fail<CertFault>
     ensures { result ≡ fault_at line fail }
 {
@@ -89,7 +89,7 @@ fn fault_at(line: u64, fail: Fail<CertKind>) -> Fail<CertFault>
     }
 }
 
-// What comes behind the last line feed: nothing, and only behind the end line.
+/// What comes behind the last line feed: nothing, and only behind the end line.
 fn after_last(so_far: Certified, stage: &Stage, rest: &[u8]) -> Result<Certified, CertKind>
     ensures { result ≡ after_last so_far (stage_of stage.now) rest.now }
 {
@@ -104,7 +104,7 @@ fn after_last(so_far: Certified, stage: &Stage, rest: &[u8]) -> Result<Certified
     }
 }
 
-// Counts a step.
+/// Counts a step.
 fn with_line(so_far: Certified, is_step: bool) -> Certified
     requires { so_far.steps + 1 < 2 ^ 64 }
     ensures value { result ≡ with_line so_far is_step }
@@ -144,7 +144,7 @@ struct Taken {
     is_step: bool,
 }
 
-// Takes one text. The room for pairs serves every line.
+/// Takes one text. The room for pairs serves every line.
 fn take_line(
     alloc: Global,
     book: &Book,
@@ -156,14 +156,15 @@ fn take_line(
     requires few { length slices.now < 2 ^ 32 }
     requires within { AreWithin book.now slices.now }
     requires named { AllNamed (stage_of stage) }
-    ensures answer { Gives result seen (taken_line book.now slices.now (stage_of stage) (cert_line text.now)) }
+    ensures answer { Gives result seen (taken_line book.now slices.now (stage_of stage)
+        (cert_line text.now)) }
     ensures named { IfOk result (λ taken. AllNamed (stage_of taken.stage)) }
 {
     let line = read_line(alloc, text, pairs)?;
     take_read(alloc, book, slices, stage, line, pairs)
 }
 
-// Takes a line that was read, or nothing where the text has the form of none.
+/// Takes a line that was read, or nothing where the text has the form of none.
 fn take_read(
     alloc: Global,
     book: &Book,
@@ -176,7 +177,8 @@ fn take_read(
     requires within { AreWithin book.now slices.now }
     requires named { AllNamed (stage_of stage) }
     requires pairs { IfSome line (λ l. HasPairs l pairs.now) }
-    ensures answer { Gives result seen (taken_line book.now slices.now (stage_of stage) (option_map (λ l. line_of l pairs.now) line)) }
+    ensures answer { Gives result seen (taken_line book.now slices.now (stage_of stage) (option_map
+        (λ l. line_of l pairs.now) line)) }
     ensures named { IfOk result (λ taken. AllNamed (stage_of taken.stage)) }
 {
     if is_past_end(&stage) {

@@ -37,7 +37,8 @@ pub(crate) fn read_line(
     text: &[u8],
     pairs: &mut Vec<Pair>,
 ) -> Result<Option<Line>, Memory>
-    ensures line { IfOk result (λ line. line_kept text.now ≡ option_map (λ l. line_of l pairs.new.items) line) }
+    ensures line { IfOk result (λ line. line_kept text.now
+        ≡ option_map (λ l. line_of l pairs.new.items) line) }
     ensures pairs { IfOk result (λ line. IfSome line (λ l. HasPairs l pairs.new.items)) }
 {
     let mut words = Pieces::of(text, b' ');
@@ -50,9 +51,11 @@ pub(crate) fn read_line(
     read_other(alloc, keyword, words)
 }
 
-// Reads a line other than a step.
+/// Reads a line other than a step.
 fn read_other(alloc: Global, keyword: &[u8], words: Pieces) -> Result<Option<Line>, Memory>
-    ensures line { IfOk result (λ line. (pairs : List Pair) → other_from number_kept literal_kept keyword.now words.entry ≡ option_map (λ l. line_of l pairs) line) }
+    ensures line { IfOk result (λ line. (pairs : List Pair)
+        → other_from number_kept literal_kept keyword.now words.entry
+        ≡ option_map (λ l. line_of l pairs) line) }
     ensures pairs { IfOk result (λ line. (pairs : List Pair) → IfSome line (λ l. HasPairs l pairs)) }
 {
     if keyword == b"close".as_slice() {
@@ -77,7 +80,8 @@ fn read_other(alloc: Global, keyword: &[u8], words: Pieces) -> Result<Option<Lin
 }
 
 fn read_step(mut words: Pieces, pairs: &mut Vec<Pair>) -> Result<Option<Line>, Memory>
-    ensures line { IfOk result (λ line. step_from number_kept literal_kept words.entry ≡ option_map (λ l. line_of l pairs.new.items) line) }
+    ensures line { IfOk result (λ line. step_from number_kept literal_kept words.entry
+        ≡ option_map (λ l. line_of l pairs.new.items) line) }
     ensures pairs { IfOk result (λ line. IfSome line (λ l. HasPairs l pairs.new.items)) }
 {
     let Some(start) = words.next() else {
@@ -98,10 +102,11 @@ fn read_step(mut words: Pieces, pairs: &mut Vec<Pair>) -> Result<Option<Line>, M
     }))
 }
 
-// Whether the words are pairs, which take the place of those that are there.
+/// Whether the words are pairs, which take the place of those that are there.
 #[tactic(auto, using(crate::proofs::ReadLaws::no_pairs_read, crate::proofs::ReadLaws::all_pairs_read, crate::proofs::ReadLaws::pair_read))]
 fn read_pairs(mut words: Pieces, pairs: &mut Vec<Pair>) -> Result<bool, Memory>
-    ensures { IfOk result (λ are_pairs. pairs_from number_kept literal_kept words.entry ≡ (if are_pairs then Some pairs.new.items else None)) }
+    ensures { IfOk result (λ are_pairs. pairs_from number_kept literal_kept words.entry
+        ≡ (if are_pairs then Some pairs.new.items else None)) }
 {
     pairs.clear();
     while let Some(lit) = words.next() {
@@ -125,7 +130,8 @@ fn read_pair(lit: &[u8], other: &[u8]) -> Option<Pair>
 }
 
 fn read_close(mut words: Pieces) -> Option<Line>
-    ensures line { (pairs : List Pair) → close_from number_kept literal_kept words.entry ≡ option_map (λ l. line_of l pairs) result }
+    ensures line { (pairs : List Pair) → close_from number_kept literal_kept words.entry
+        ≡ option_map (λ l. line_of l pairs) result }
     ensures pairs { (pairs : List Pair) → IfSome result (λ l. HasPairs l pairs) }
 {
     let question = words.next()?;
@@ -140,7 +146,8 @@ fn read_close(mut words: Pieces) -> Option<Line>
 
 #[tactic(auto, using(crate::proofs::ReadLaws::name_read, crate::proofs::ReadLaws::all_names_read))]
 fn read_set(alloc: Global, mut words: Pieces) -> Result<Option<Line>, Memory>
-    ensures line { IfOk result (λ line. (pairs : List Pair) → set_from words.entry ≡ option_map (λ l. line_of l pairs) line) }
+    ensures line { IfOk result (λ line. (pairs : List Pair) → set_from words.entry
+        ≡ option_map (λ l. line_of l pairs) line) }
     ensures pairs { IfOk result (λ line. (pairs : List Pair) → IfSome line (λ l. HasPairs l pairs)) }
 {
     let mut names = CodeList::new(alloc);
@@ -154,7 +161,8 @@ fn read_set(alloc: Global, mut words: Pieces) -> Result<Option<Line>, Memory>
 }
 
 fn read_slice(mut words: Pieces) -> Option<Line>
-    ensures line { (pairs : List Pair) → slice_from number_kept literal_kept words.entry ≡ option_map (λ l. line_of l pairs) result }
+    ensures line { (pairs : List Pair) → slice_from number_kept literal_kept words.entry
+        ≡ option_map (λ l. line_of l pairs) result }
     ensures pairs { (pairs : List Pair) → IfSome result (λ l. HasPairs l pairs) }
 {
     let word = words.next()?;
@@ -165,7 +173,8 @@ fn read_slice(mut words: Pieces) -> Option<Line>
 }
 
 fn read_book(mut words: Pieces) -> Option<Line>
-    ensures line { (pairs : List Pair) → book_from number_kept literal_kept words.entry ≡ option_map (λ l. line_of l pairs) result }
+    ensures line { (pairs : List Pair) → book_from number_kept literal_kept words.entry
+        ≡ option_map (λ l. line_of l pairs) result }
     ensures pairs { (pairs : List Pair) → IfSome result (λ l. HasPairs l pairs) }
 {
     let name = words.next()?;

@@ -36,7 +36,8 @@ impl<'a> Pieces<'a> {
 
     /// The next piece, or None where there is none left.
     pub(crate) fn next(&mut self) -> Option<&'a [u8]>
-        ensures { MatchOption result ((self.old ≡ []) × (self.new ≡ [])) (λ piece. self.old ≡ piece.now ∷ self.new) }
+        ensures { MatchOption result ((self.old ≡ []) × (self.new ≡ []))
+            (λ piece. self.old ≡ piece.now ∷ self.new) }
     {
         if self.done {
             return None;

@@ -34,10 +34,11 @@ pub fn write_cert(alloc: Global, book: &Book, proofs: &[SliceProof]) -> Result<B
     Ok(text.into_body())
 }
 
-// The line with the name of the book and the number of its slices.
+/// The line with the name of the book and the number of its slices.
 #[tactic(auto, using(crate::proofs::LineLaws::some_words, crate::proofs::LineLaws::more_words))]
 fn put_book(text: &mut Text, name: &Id, slices: u64) -> Result<(), Memory>
-    ensures text { OnOk result (text.new ≡ text.old ++ line_of (codes "book") (name.now ∷ decimal slices ∷ [])) }
+    ensures text { OnOk result (text.new
+        ≡ text.old ++ line_of (codes "book") (name.now ∷ decimal slices ∷ [])) }
     ensures fit { OnOk result (LineFits (book_line name.now slices)) }
 {
     text.put(b"book")?;
@@ -46,7 +47,7 @@ fn put_book(text: &mut Text, name: &Id, slices: u64) -> Result<(), Memory>
     text.put(b"\n")
 }
 
-// The lines of the slice of this number.
+/// The lines of the slice of this number.
 fn put_slice(text: &mut Text, book: &Book, number: usize, proof: &SliceProof) -> Result<(), Memory>
     requires { length proof.now.set ≡ length book.now.codes }
     ensures text { OnOk result (text.new ≡ text.old ++ written (slice_lines book.now number proof.now)) }
@@ -60,7 +61,7 @@ fn put_slice(text: &mut Text, book: &Book, number: usize, proof: &SliceProof) ->
     put_closings(text, &proof.closed)
 }
 
-// The line that a slice begins with.
+/// The line that a slice begins with.
 #[tactic(auto, using(crate::proofs::LineLaws::some_words, crate::proofs::LineLaws::more_words))]
 fn put_slice_line(text: &mut Text, number: u64) -> Result<(), Memory>
     ensures text { OnOk result (text.new ≡ text.old ++ line_of (codes "slice") (decimal number ∷ [])) }
@@ -71,7 +72,7 @@ fn put_slice_line(text: &mut Text, number: u64) -> Result<(), Memory>
     text.put(b"\n")
 }
 
-// The line of a set.
+/// The line of a set.
 #[tactic(auto, using(crate::proofs::LineLaws::some_words, crate::proofs::LineLaws::more_words))]
 fn put_set_line(text: &mut Text, table: &CodeTable, set: &CodeSet) -> Result<(), Memory>
     requires { length set.now ≡ length table.now }
@@ -94,9 +95,10 @@ fn put_members(text: &mut Text, table: &CodeTable, set: &CodeSet) -> Result<(), 
     Ok(())
 }
 
-// The steps by which the further clauses were derived.
+/// The steps by which the further clauses were derived.
 fn put_steps(text: &mut Text, kernel: &Kernel) -> Result<(), Memory>
-    ensures text { OnOk result (text.new ≡ text.old ++ written (step_lines kernel.now.starts kernel.now.pairs)) }
+    ensures text { OnOk result (text.new
+        ≡ text.old ++ written (step_lines kernel.now.starts kernel.now.pairs)) }
     ensures fit { OnOk result (AllByRecursion LineFits (step_lines kernel.now.starts kernel.now.pairs)) }
     ensures derived { IsDerived kernel.now }
 {
@@ -115,7 +117,8 @@ fn put_step(text: &mut Text, kernel: &Kernel, at: Ref) -> Result<(), Memory>
         let pairs = slice_index_or kernel.now.pairs n [] in
         OnOk result (text.new ≡ text.old ++ line_of (codes "step") (decimal start ∷ pair_words pairs)) }
     ensures fit { let n = at - kernel.now.given in
-        OnOk result (LineFits (step_line (slice_index kernel.now.starts n) (slice_index_or kernel.now.pairs n []))) }
+        OnOk result (LineFits (step_line (slice_index kernel.now.starts n)
+        (slice_index_or kernel.now.pairs n []))) }
 {
     match kernel.start_of(at) {
         Some(start) => put_step_line(text, start, kernel.pairs_of(at)),
@@ -125,7 +128,8 @@ fn put_step(text: &mut Text, kernel: &Kernel, at: Ref) -> Result<(), Memory>
 
 #[tactic(auto, using(crate::proofs::LineLaws::some_words, crate::proofs::LineLaws::more_words))]
 fn put_step_line(text: &mut Text, start: Ref, pairs: &[Pair]) -> Result<(), Memory>
-    ensures text { OnOk result (text.new ≡ text.old ++ line_of (codes "step") (decimal start ∷ pair_words pairs.now)) }
+    ensures text { OnOk result (text.new
+        ≡ text.old ++ line_of (codes "step") (decimal start ∷ pair_words pairs.now)) }
     ensures fits { OnOk result ((start < 2 ^ 64) × All PairFits pairs.now) }
 {
     text.put(b"step")?;
@@ -145,7 +149,7 @@ fn put_pairs(text: &mut Text, pairs: &[Pair]) -> Result<(), Memory>
     Ok(())
 }
 
-// The closings, in order.
+/// The closings, in order.
 fn put_closings(text: &mut Text, closings: &[Closing]) -> Result<(), Memory>
     ensures text { OnOk result (text.new ≡ text.old ++ written (close_lines closings.now)) }
     ensures fit { OnOk result (AllByRecursion LineFits (close_lines closings.now)) }
@@ -158,7 +162,8 @@ fn put_closings(text: &mut Text, closings: &[Closing]) -> Result<(), Memory>
 
 #[tactic(auto, using(crate::proofs::LineLaws::some_words, crate::proofs::LineLaws::more_words))]
 fn put_close_line(text: &mut Text, closing: Closing) -> Result<(), Memory>
-    ensures text { OnOk result (text.new ≡ text.old ++ line_of (codes "close") (decimal closing.question ∷ decimal closing.at ∷ [])) }
+    ensures text { OnOk result (text.new
+        ≡ text.old ++ line_of (codes "close") (decimal closing.question ∷ decimal closing.at ∷ [])) }
     ensures fits { (closing.question < 2 ^ 64) × (closing.at < 2 ^ 64) }
 {
     text.put(b"close")?;
@@ -167,7 +172,7 @@ fn put_close_line(text: &mut Text, closing: Closing) -> Result<(), Memory>
     text.put(b"\n")
 }
 
-// The words stand behind one space each.
+/// The words stand behind one space each.
 fn put_word(text: &mut Text, word: &[u8]) -> Result<(), Memory>
     ensures { OnOk result (text.new ≡ text.old ++ spaced (word.now ∷ [])) }
 {

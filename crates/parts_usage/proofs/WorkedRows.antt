@@ -1,5 +1,5 @@
 -- What orders of the worked book come to.
-use Rattle.std.proofs.Common.{◌≡◌, ℕ, Bool, true, false, List, [], ◌∷◌, Ok, Err, refl}
+use Rattle.std.proofs.Common.{◌≡◌, true, false, [], ◌∷◌, Ok, Err, refl}
 use Rattle.std.specs.Prelude.{codes}
 use Rattle.book_model.specs.WorkedBook.{an_engine, a_gearbox, one_gearbox, motor, m1, m2, book_with, book_t, set_t}
 use Rattle.supplement.specs.Completion.{completion_by}

@@ -28,7 +28,8 @@ pub fn verify_reply<F: Files>(
     file: &FileName,
     files: &mut F,
 ) -> Result<RunReply, OutError>
-    ensures reply { IfOk result (RepliesToVerify (book_of text.now) file.now (F.told files.old) (F.told files.new)) }
+    ensures reply { let book = book_of text.now in
+        IfOk result (RepliesToVerify book file.now (F.told files.old) (F.told files.new)) }
     ensures cause { let fails = FailsAtCertificate file.now text.now (F.told files.old) (F.told files.new) in
         result ≡ Err OutError.Failed → fails }
     ensures kept { ReadsFiles (F.told files.old) (F.told files.new) }
@@ -47,7 +48,8 @@ fn file_reply<F: Files>(
     files: &mut F,
 ) -> Result<RunReply, OutError>
     ensures reply { IfOk result (RepliesToFile book.now file.now (F.told files.old) (F.told files.new)) }
-    ensures cause { result ≡ Err OutError.Failed → FailsToRead file.now (F.told files.old) (F.told files.new) }
+    ensures cause { let fails = FailsToRead file.now (F.told files.old) (F.told files.new) in
+        result ≡ Err OutError.Failed → fails }
     ensures kept { ReadsFiles (F.told files.old) (F.told files.new) }
 {
     match files.read(alloc, file.as_str(), MOST_CERT_BYTES) {
@@ -57,7 +59,8 @@ fn file_reply<F: Files>(
 }
 
 fn content_reply(alloc: Global, book: &Book, content: Option<Vec<u8>>) -> Result<RunReply, Memory>
-    ensures { IfOk result (λ reply. reply ≡ content_reply book.now (option_map (λ bytes. bytes.items) content)) }
+    ensures { let text = option_map (λ bytes. bytes.items) content in
+        IfOk result (λ reply. reply ≡ content_reply book.now text) }
 {
     match content {
         Some(text) => certified_reply(alloc, book, &text),

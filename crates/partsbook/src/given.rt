@@ -13,8 +13,8 @@ use std::alloc::Global;
 use std::io;
 use std::io::ErrorKind;
 
-/// Does what the given words ask, and gives the status. Where the system can't give them as text, as where a word isn't UTF-8, they
-/// are of no form.
+/// Does what the given words ask, and gives the status. Where the system can't give them as text, as where a
+/// word isn't UTF-8, they are of no form.
 pub fn run_given<S: Source, K: Sink, F: Files>(
     alloc: Global,
     given: io::Result<Vec<String>>,
@@ -23,13 +23,13 @@ pub fn run_given<S: Source, K: Sink, F: Files>(
     files: &mut F,
     log: &mut RunLog,
 ) -> u8
-    ensures words { let before = outside (S.input source.old) (F.told files.old) (K.output sink.old) log.old in
+    ensures text { let before = outside (S.input source.old) (F.told files.old) (K.output sink.old) log.old in
         let after = outside (S.input source.new) (F.told files.new) (K.output sink.new) log.new in
         IfOk given (λ words. Does (texts_of words.items) before after result) }
-    ensures no_text { let before = outside (S.input source.old) (F.told files.old) (K.output sink.old) log.old in
+    ensures none { let before = outside (S.input source.old) (F.told files.old) (K.output sink.old) log.old in
         let after = outside (S.input source.new) (F.told files.new) (K.output sink.new) log.new in
         IfErr given (λ error. error_kind error ≢ ErrorKind.OutOfMemory → AnswersUsage before after result) }
-    ensures no_memory { let before = outside (S.input source.old) (F.told files.old) (K.output sink.old) log.old in
+    ensures want { let before = outside (S.input source.old) (F.told files.old) (K.output sink.old) log.old in
         let after = outside (S.input source.new) (F.told files.new) (K.output sink.new) log.new in
         IfErr given (λ error. error_kind error ≡ ErrorKind.OutOfMemory → AnswersMemory before after result) }
 {

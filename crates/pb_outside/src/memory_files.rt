@@ -49,7 +49,8 @@ impl Files for MemoryFiles {
         ensures content { let content = option_map (λ bytes. bytes.items) in
             IfOk result (λ found. ReadsFile name.now max (Some self.old.files) (content found)) }
         ensures stays { OnOk result (self.new.plan.faults ≡ self.old.plan.faults) }
-        ensures cause { result ≡ Err OutError.Failed → FailsToRead name.now (told_by self.old) (told_by self.new) }
+        ensures cause { let fails = FailsToRead name.now (told_by self.old) (told_by self.new) in
+            result ≡ Err OutError.Failed → fails }
         ensures kept { self.new.files ≡ self.old.files }
         ensures later { IsLater (faults_of self.old.plan) (faults_of self.new.plan) }
 

@@ -28,11 +28,14 @@ impl Model for MemorySink {
 }
 
 impl MemorySink {
+    ghost use Rattle.pb_outside.specs.FaultPlan.{Plan};
+
     /// Makes the room for `room` bytes at once, so that no write takes memory. A call fails, and takes nothing, exactly where its number is among `fails` or its piece is longer than the room that is left.
     pub fn new(alloc: Global, room: usize, fails: Vec<u64>) -> Result<MemorySink, Memory>
         ensures taken { IfOk result (λ sink. sink.taken ≡ []) }
         ensures room { IfOk result (λ sink. sink.room ≡ room) }
-        ensures plan { IfOk result (λ sink. sink.plan ≡ record { fails = fails.items; next_call = 0; faults = 0 }) }
+        ensures plan { let plan : Plan = record { fails = fails.items; next_call = 0; faults = 0 } in
+            IfOk result (λ sink. sink.plan ≡ plan) }
     {
         Ok(MemorySink {
             taken: Vec::with_capacity(alloc, room)?,

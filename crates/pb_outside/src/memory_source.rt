@@ -79,7 +79,8 @@ impl Source for MemorySource {
         ensures stays { OnOk result (self.new.plan.faults ≡ self.old.plan.faults) }
         ensures unchanged { OnErr result (into.new.items ≡ into.old.items) }
         ensures kept { OnErr result (self.new.left ≡ self.old.left) }
-        ensures cause { result ≡ Err OutError.Failed → Fails (faults_of self.old.plan) (faults_of self.new.plan) }
+        ensures cause { let fails = Fails (faults_of self.old.plan) (faults_of self.new.plan) in
+            result ≡ Err OutError.Failed → fails }
         ensures later { IsLater (faults_of self.old.plan) (faults_of self.new.plan) }
 
         // Exactly the calls whose numbers are among those to fail do so.

@@ -16,10 +16,14 @@ pub trait Source: Ends {
         ensures told { let left = (Self.input self.old).left in
             let left' = (Self.input self.new).left in
             IfOk result (λ count. ReadsPiece count left left' into.old.items into.new.items) }
-        ensures stays { OnOk result ((Self.input self.new).faults.count ≡ (Self.input self.old).faults.count) }
+        ensures stays { let before = (Self.input self.old).faults in
+            let after = (Self.input self.new).faults in
+            OnOk result (after.count ≡ before.count) }
         ensures unchanged { OnErr result (into.new.items ≡ into.old.items) }
         ensures kept { OnErr result (Keeps (Self.input self.old).left (Self.input self.new).left) }
-        ensures cause { result ≡ Err OutError.Failed → Fails (Self.input self.old).faults (Self.input self.new).faults }
+        ensures cause { let before = (Self.input self.old).faults in
+            let after = (Self.input self.new).faults in
+            result ≡ Err OutError.Failed → Fails before after }
         ensures later { IsLater (Self.input self.old).faults (Self.input self.new).faults }
         ensures other_end { Self.output self.new ≡ Self.output self.old }
         ensures same_names { Self.names self.new ≡ Self.names self.old };

@@ -1,6 +1,7 @@
 mod Worked
 mod TokenLemmas
 mod PendingLemmas
+mod DraftLemmas
 mod StepLemmas
 mod Sound
 mod Whole

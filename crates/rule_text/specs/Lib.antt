@@ -5,5 +5,6 @@ pub mod FirstFault
 pub mod Reading
 pub mod Printing
 pub mod Laws
+pub mod Draft
 pub mod Steps
 pub mod Views

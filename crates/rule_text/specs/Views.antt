@@ -1,17 +1,11 @@
 -- What the values of the reader stand for, and what it makes of a token.
-use Rattle.std.specs.Prelude.{ℕ, map, reverse, option_map}
-use Rattle.pb_base.specs.Rule.{Rule, negated}
-use Rattle.pb_base.specs.Node.{rule_of_leaf}
+use Rattle.std.specs.Prelude.{ℕ, reverse}
 use Rattle.rule_text.specs.Token.{Token, word, plus, slash, minus, opening, closing, semicolon, other}
-use Rattle.rule_text.specs.Reading.{Open}
 use Rattle.rule_text.specs.Steps.{State}
 use Rattle.rule_text.specs.declared.fault.RuleFault.{RuleFault}
 use Rattle.rule_text.specs.declared.fault.RuleFault.TheVariants.{BadByte, Expected}
 use Rattle.rule_text.specs.declared.token.Token.{Token as CodeToken}
 use Rattle.rule_text.specs.declared.token.Token.TheVariants.{Word, Plus, Slash, Minus, Opening, Closing, Semicolon, Other}
-use Rattle.rule_text.specs.declared.expression.Term.{Term}
-use Rattle.rule_text.specs.declared.expression.Term.TheVariants.{Lone, Joined}
-use Rattle.rule_text.specs.declared.expression.Expression.{Expression}
 use Rattle.rule_text.specs.declared.reader.Reader.{Reader}
 use Rattle.rule_text.specs.declared.standing.Stage.{Stage}
 
@@ -30,18 +24,11 @@ abbrev pub misplaced : ℕ → Token → RuleFault
 misplaced at other = BadByte at
 misplaced at t = Expected at
 
-abbrev pub rule_of_term : Term → Rule
-rule_of_term (Lone leaf signs) = negated signs (rule_of_leaf leaf)
-rule_of_term (Joined rule) = rule
-
-abbrev pub open_of : Expression → Open
-open_of e = record { left = e.left; product = option_map rule_of_term e.term }
-
 -- where a reader is, were it at this stage
 abbrev pub state_at : Stage → Reader → State
 state_at stage r = record {
   standing = record { stage = stage; pending = reverse r.pending.items; count = r.nodes };
-  read = record { innermost = open_of r.expression; outer = map open_of (reverse r.outer.items) };
+  read = record { innermost = r.expression; outer = reverse r.outer.items };
 }
 
 abbrev pub state_of : Reader → State

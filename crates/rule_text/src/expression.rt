@@ -1,110 +1,226 @@
 //! What was read of an expression, while the text inside a bracket or outside all brackets is read.
-ghost use Rattle.std.specs.Prelude.{◌≡◌, IfOk, OnOk, None};
+ghost use Rattle.std.specs.Prelude.{◌≡◌, ◌++◌, ◌∷◌, ◌+◌, replicate, length, IfOk, OnOk};
 ghost use Rattle.pb_base.specs.Rule.{negated};
-ghost use Rattle.pb_base.specs.Node.{rule_of_leaf};
+ghost use Rattle.pb_base.specs.Node.{nodes_of, rule_of_leaf, leaf_node};
+ghost use Rattle.pb_base.specs.declared.node.Node.TheVariants.{Not};
 ghost use Rattle.rule_text.specs.Reading.{nothing, whole, with_factor, with_slash};
+ghost use Rattle.rule_text.specs.Draft.{open_in, with_term, with_nodes, IsDraft};
 
-use pb_base::{Formula, Leaf, Memory};
+use pb_base::{Formula, Leaf, Memory, Node};
 use std::alloc::Global;
+use std::marker::Model;
 
-/// A term, as far as it was read.
-#[derive(Drop)]
-pub(crate) enum Term {
-    /// One word under this many minus signs. No formula was made of it yet, so that it can be joined in place.
-    Lone(Leaf, u32),
-    Joined(Formula),
-}
-
-impl Term {
-    ghost use Rattle.rule_text.specs.Views.{rule_of_term};
-
-    #[inline(always)]
-    fn into_formula(self, alloc: Global) -> Result<Formula, Memory>
-        ensures { IfOk result (λ f. f ≡ rule_of_term self) }
-    {
-        match self {
-            Term::Lone(leaf, signs) => Formula::leaf(alloc, leaf, signs),
-            Term::Joined(formula) => Ok(formula),
-        }
-    }
-}
-
-/// An expression, as far as it was read.
+/// An expression, as far as it was read, as one list of nodes. What stands before the last slash is whole, and behind it comes the
+/// last term. So a word or a bracket is joined in place, and no term has a list of its own.
 #[derive(Drop)]
 pub(crate) struct Expression {
-    /// The terms before the last slash.
-    pub(crate) left: Option<Formula>,
-    /// The factors of the last term.
-    pub(crate) term: Option<Term>,
+    nodes: Vec<Node>,
+    /// Where the last term begins. Where it is not the first, the jump over it stands before it, and gets its size when it ends.
+    start: usize,
+}
+
+impl Model for Expression {
+    ghost use Rattle.rule_text.specs.Reading.{Open};
+    ghost use Rattle.rule_text.specs.Draft.{open_code, open_in, IsDraft};
+
+    ghost Value = { Open };
+
+    ghost coded = { open_code };
+
+    ghost view = { λ e. open_in e.start e.nodes.items };
+
+    ghost invariant = { λ e. IsDraft e.start e.nodes.items };
 }
 
 impl Expression {
-    ghost use Rattle.rule_text.specs.Views.{open_of};
-
     // Nothing was read yet.
-    pub(crate) fn new() -> Expression
-        ensures { open_of result ≡ nothing }
+    pub(crate) fn new(alloc: Global) -> Expression
+        ensures { result ≡ nothing }
     {
         Expression {
-            left: None,
-            term: None,
+            nodes: Vec::new(alloc),
+            start: 0,
         }
     }
 
-    // A factor of one word under this many minus signs.
-    #[inline(always)]
-    pub(crate) fn add_word(&mut self, alloc: Global, leaf: Leaf, signs: u32) -> Result<(), Memory>
-        ensures { OnOk result (open_of self.new ≡ with_factor (open_of self.old) (negated signs (rule_of_leaf leaf))) }
+    // Nothing was read yet, and there is room for this many nodes.
+    pub(crate) fn with_room(alloc: Global, room: usize) -> Result<Expression, Memory>
+        ensures { IfOk result (λ e. e ≡ nothing) }
     {
-        let term = match self.term.take() {
-            None => Term::Lone(leaf, signs),
-            Some(term) => {
-                let product = term.into_formula(alloc)?;
-                Term::Joined(product.and_leaf(leaf, signs)?)
-            }
-        };
-        self.term = Some(term);
-        Ok(())
+        let nodes = Vec::with_capacity(alloc, room)?;
+        Ok(Expression { nodes, start: 0 })
     }
 
+    // A factor more, of one word under this many minus signs. On want of memory, here and below, nothing is left of the expression.
     #[inline(always)]
-    pub(crate) fn add_factor(&mut self, alloc: Global, factor: Formula) -> Result<(), Memory>
-        ensures { OnOk result (open_of self.new ≡ with_factor (open_of self.old) factor) }
+    pub(crate) fn add_word(&mut self, leaf: Leaf, signs: u32) -> Result<(), Memory>
+        ensures { OnOk result (self.new ≡ with_factor self.old (negated signs (rule_of_leaf leaf))) }
     {
-        let product = match self.term.take() {
-            None => factor,
-            Some(term) => {
-                let product = term.into_formula(alloc)?;
-                product.and(factor)?
+        match join_word(&mut self.nodes, self.start, leaf, signs) {
+            Ok(()) => Ok(()),
+            Err(memory) => {
+                self.nodes.clear();
+                self.start = 0;
+                Err(memory)
             }
-        };
-        self.term = Some(Term::Joined(product));
-        Ok(())
+        }
+    }
+
+    // A factor more, which stood in brackets, under this many minus signs.
+    pub(crate) fn add_bracket(&mut self, inner: Expression, signs: u32) -> Result<(), Memory>
+        ensures { OnOk result (self.new ≡ with_factor self.old (negated signs (whole inner))) }
+    {
+        let mut factor = inner.into_nodes()?;
+        push_signs(&mut factor, signs)?;
+        match join_nodes(&mut self.nodes, self.start, &factor) {
+            Ok(()) => Ok(()),
+            Err(memory) => {
+                self.nodes.clear();
+                self.start = 0;
+                Err(memory)
+            }
+        }
     }
 
     // A further term begins.
     #[inline(always)]
-    pub(crate) fn add_slash(&mut self, alloc: Global) -> Result<(), Memory>
-        ensures { OnOk result (open_of self.new ≡ with_slash (open_of self.old)) }
+    pub(crate) fn add_slash(&mut self) -> Result<(), Memory>
+        ensures { OnOk result (self.new ≡ with_slash self.old) }
     {
-        let left = self.take_whole(alloc)?;
-        self.left = Some(left);
-        Ok(())
+        match begin_term(&mut self.nodes, self.start) {
+            Ok(start) => {
+                self.start = start;
+                Ok(())
+            }
+            Err(memory) => {
+                self.nodes.clear();
+                self.start = 0;
+                Err(memory)
+            }
+        }
     }
 
-    // The formula, if it ends here. The expression is then as a new one.
-    #[inline(always)]
-    pub(crate) fn take_whole(&mut self, alloc: Global) -> Result<Formula, Memory>
-        ensures formula { IfOk result (λ f. f ≡ whole (open_of self.old)) }
-        ensures empty { open_of self.new ≡ nothing }
+    // The formula, if it ends here.
+    pub(crate) fn into_formula(self) -> Result<Formula, Memory>
+        ensures { IfOk result (λ f. f ≡ whole self) }
     {
-        let term = self.term.take().unwrap_or(Term::Lone(Leaf::No, 0));
-        match self.left.take() {
-            None => term.into_formula(alloc),
-            Some(left) => match term {
-                Term::Lone(leaf, signs) => left.or_leaf(leaf, signs),
-                Term::Joined(right) => left.or(right),
-            },
-        }
+        Ok(Formula::of_nodes(self.into_nodes()?))
+    }
+
+    // Its nodes, if it ends here.
+    fn into_nodes(self) -> Result<Vec<Node>, Memory>
+        ensures { IfOk result (λ nodes. nodes.items ≡ nodes_of (whole self)) }
+    {
+        let mut nodes = self.nodes;
+        end_term(&mut nodes, self.start)?;
+        Ok(nodes)
+    }
+}
+
+// Puts FALSE for the last term, which begins at this place, where it has no factor. No text of the grammar has such a term.
+#[inline(always)]
+fn fill_term(nodes: &mut Vec<Node>, start: usize) -> Result<(), Memory>
+    ensures { OnOk result (nodes.new.items ≡ with_term start nodes.old.items) }
+{
+    if nodes.len() <= start {
+        nodes.push(Node::No)?;
+    }
+    Ok(())
+}
+
+// Ends the last term, which begins at this place: the jump over it gets its size.
+#[inline(always)]
+fn end_term(nodes: &mut Vec<Node>, start: usize) -> Result<(), Memory>
+    requires { IsDraft start nodes.old.items }
+    ensures { OnOk result (nodes.new.items ≡ nodes_of (whole (open_in start nodes.old.items))) }
+{
+    fill_term(nodes, start)?;
+    if start == 0 {
+        return Ok(());
+    }
+    let size = size_of(&nodes[start..])?;
+    nodes[start - 1] = Node::WhenFalse(size);
+    nodes.push(Node::Or(size))?;
+    Ok(())
+}
+
+// Ends the last term, which begins at this place, and begins a further one, whose place it answers.
+#[inline(always)]
+fn begin_term(nodes: &mut Vec<Node>, start: usize) -> Result<usize, Memory>
+    requires { IsDraft start nodes.old.items }
+    ensures draft { IfOk result (λ next. IsDraft next nodes.new.items) }
+    ensures read { IfOk result (λ next. open_in next nodes.new.items ≡ with_slash (open_in start nodes.old.items)) }
+{
+    end_term(nodes, start)?;
+    nodes.push(Node::WhenFalse(0))?;
+    Ok(nodes.len())
+}
+
+// Joins a factor of one word to the last term, which begins at this place.
+#[inline(always)]
+fn join_word(nodes: &mut Vec<Node>, start: usize, leaf: Leaf, signs: u32) -> Result<(), Memory>
+    ensures { OnOk result (nodes.new.items ≡ with_nodes start nodes.old.items (leaf_node leaf ∷ replicate signs Not)) }
+{
+    if nodes.len() <= start {
+        return push_word(nodes, leaf, signs);
+    }
+    let word_size = signs.checked_add(1).ok_or(Memory)?;
+    nodes.push(Node::WhenTrue(word_size))?;
+    push_word(nodes, leaf, signs)?;
+    nodes.push(Node::And(word_size))?;
+    Ok(())
+}
+
+// Joins a factor of these nodes to the last term, which begins at this place.
+fn join_nodes(nodes: &mut Vec<Node>, start: usize, factor: &[Node]) -> Result<(), Memory>
+    ensures { OnOk result (nodes.new.items ≡ with_nodes start nodes.old.items factor.now) }
+{
+    if nodes.len() <= start {
+        nodes.extend_from_slice(factor)?;
+        return Ok(());
+    }
+    let size = size_of(factor)?;
+    nodes.push(Node::WhenTrue(size))?;
+    nodes.extend_from_slice(factor)?;
+    nodes.push(Node::And(size))?;
+    Ok(())
+}
+
+// The number of nodes of a side. One of 2^32, which no text of 512 words and signs makes, counts as want of memory.
+#[inline(always)]
+fn size_of(nodes: &[Node]) -> Result<u32, Memory>
+    ensures { IfOk result (λ size. size ≡ length nodes.now) }
+{
+    u32::try_from(nodes.len()).map_err(|_| Memory)
+}
+
+// Puts a word and its minus signs behind the others.
+#[inline(always)]
+fn push_word(nodes: &mut Vec<Node>, leaf: Leaf, signs: u32) -> Result<(), Memory>
+    ensures { OnOk result (nodes.new.items ≡ nodes.old.items ++ leaf_node leaf ∷ replicate signs Not) }
+{
+    nodes.push(node_of(leaf))?;
+    push_signs(nodes, signs)
+}
+
+// Puts this many minus signs behind the others.
+#[inline(always)]
+fn push_signs(nodes: &mut Vec<Node>, signs: u32) -> Result<(), Memory>
+    ensures { OnOk result (nodes.new.items ≡ nodes.old.items ++ replicate signs Not) }
+{
+    for _ in 0..signs {
+        nodes.push(Node::Not)?;
+    }
+    Ok(())
+}
+
+#[inline(always)]
+fn node_of(leaf: Leaf) -> Node
+    ensures { result ≡ leaf_node leaf }
+{
+    match leaf {
+        Leaf::Code(place) => Node::Code(place),
+        Leaf::Yes => Node::Yes,
+        Leaf::No => Node::No,
     }
 }

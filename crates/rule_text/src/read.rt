@@ -12,6 +12,7 @@ ghost use Rattle.rule_text.specs.Laws.{IsShortText, AnswersFault, RefusesForLimi
 use crate::RuleFault;
 use crate::reader::Reader;
 use crate::token::{is_blank, token_at};
+use pb_base::limits::MOST_NODES;
 use pb_base::{CodeTable, Fail, Formula};
 use std::alloc::Global;
 
@@ -28,7 +29,9 @@ pub fn read_rule(alloc: Global, text: &[u8], codes: &CodeTable) -> Result<Formul
     if is_all_blank(text) {
         return Err(Fail::Refused(RuleFault::Empty));
     }
-    let mut reader = Reader::new(alloc);
+    // Codes of five letters make a node for each two bytes.
+    let room = (text.len() / 2 + 4).min(MOST_NODES);
+    let mut reader = Reader::new(alloc, room)?;
     let mut at = 0;
     while at < text.len() {
         if is_blank(text[at]) {
@@ -39,7 +42,7 @@ pub fn read_rule(alloc: Global, text: &[u8], codes: &CodeTable) -> Result<Formul
             at += token.len();
         }
     }
-    reader.finish(alloc, text.len() as u32)
+    reader.finish(text.len() as u32)
 }
 
 fn is_all_blank(text: &[u8]) -> bool

@@ -17,9 +17,12 @@ use crate::standing::{Pending, Stage};
 use crate::token::Token;
 use arrayvec::ArrayVec;
 use pb_base::limits::{MOST_NESTING, MOST_NODES};
-use pb_base::{CodeName, CodeTable, Fail, Formula, Leaf};
+use pb_base::{CodeName, CodeTable, Fail, Formula, Leaf, Memory};
 use std::alloc::Global;
 use std::mem;
+
+/// How many nodes of what stands in a bracket there is room for at first.
+const ROOM_IN_BRACKET: usize = 16;
 
 /// What was read so far.
 #[derive(Drop)]
@@ -42,16 +45,18 @@ fn refused(fault: RuleFault) -> Result<(), Fail<RuleFault>>
 impl Reader {
     ghost use Rattle.rule_text.specs.Views.{state_at, state_of, token_of};
 
-    pub(crate) fn new(alloc: Global) -> Reader
-        ensures { state_of result ≡ begin }
+    // A reader with room for this many nodes of a formula.
+    pub(crate) fn new(alloc: Global, room: usize) -> Result<Reader, Memory>
+        ensures { IfOk result (λ r. state_of r ≡ begin) }
     {
-        Reader {
+        let expression = Expression::with_room(alloc, room)?;
+        Ok(Reader {
             stage: Stage::Awaiting,
             pending: ArrayVec::new(),
             nodes: 0,
-            expression: Expression::new(),
+            expression,
             outer: Vec::new(alloc),
-        }
+        })
     }
 
     // Takes the token at this place.
@@ -73,7 +78,7 @@ impl Reader {
     }
 
     // The formula, if the text may end here.
-    pub(crate) fn finish(mut self, alloc: Global, end: u32) -> Result<Formula, Fail<RuleFault>>
+    pub(crate) fn finish(self, end: u32) -> Result<Formula, Fail<RuleFault>>
         ensures { Answers result (finish end (state_of self)) }
     {
         match self.stage {
@@ -85,7 +90,7 @@ impl Reader {
             }
             Stage::Ended => {}
         }
-        Ok(self.expression.take_whole(alloc)?)
+        Ok(self.expression.into_formula()?)
     }
 
     #[inline(always)]
@@ -99,21 +104,15 @@ impl Reader {
         ensures { Leaves result (state_of self.new) (step codes.now (state_at Awaiting self.old) (at, token_of token.entry)) }
     {
         match token {
-            Token::Word(name) => self.word(alloc, at, name, codes),
+            Token::Word(name) => self.word(at, name, codes),
             Token::Minus => self.minus(at),
-            Token::Opening => self.opening(at),
+            Token::Opening => self.opening(alloc, at),
             _ => refused(token.misplaced(at)),
         }
     }
 
     #[inline(always)]
-    fn word(
-        &mut self,
-        alloc: Global,
-        at: u32,
-        name: &[u8],
-        codes: &CodeTable,
-    ) -> Result<(), Fail<RuleFault>>
+    fn word(&mut self, at: u32, name: &[u8], codes: &CodeTable) -> Result<(), Fail<RuleFault>>
         ensures { Leaves result (state_of self.new) (step codes.now (state_at Awaiting self.old) (at, word name.now)) }
     {
         let Some(leaf) = word_leaf(name, codes) else {
@@ -124,7 +123,7 @@ impl Reader {
         }
         self.nodes += 1;
         let signs = take_signs(&mut self.pending);
-        self.expression.add_word(alloc, leaf, signs)?;
+        self.expression.add_word(leaf, signs)?;
         self.stage = Stage::Complete;
         Ok(())
     }
@@ -146,13 +145,14 @@ impl Reader {
     }
 
     #[inline(always)]
-    fn opening(&mut self, at: u32) -> Result<(), Fail<RuleFault>>
+    fn opening(&mut self, alloc: Global, at: u32) -> Result<(), Fail<RuleFault>>
         ensures { (names : List (List ℕ)) → Leaves result (state_of self.new) (step names (state_at Awaiting self.old) (at, opening)) }
     {
         if self.pending.is_full() {
             return refused(RuleFault::TooDeep(at));
         }
-        let outer = mem::replace(&mut self.expression, Expression::new());
+        let inner = Expression::with_room(alloc, ROOM_IN_BRACKET)?;
+        let outer = mem::replace(&mut self.expression, inner);
         self.outer.push(outer)?;
         self.pending.push(Pending::Bracket);
         self.stage = Stage::Awaiting;
@@ -170,7 +170,7 @@ impl Reader {
     {
         match token {
             Token::Plus => self.plus(at),
-            Token::Slash => self.slash(alloc, at),
+            Token::Slash => self.slash(at),
             Token::Closing => self.closing(alloc, at),
             Token::Semicolon => self.semicolon(at),
             _ => refused(token.misplaced(at)),
@@ -190,14 +190,14 @@ impl Reader {
     }
 
     #[inline(always)]
-    fn slash(&mut self, alloc: Global, at: u32) -> Result<(), Fail<RuleFault>>
+    fn slash(&mut self, at: u32) -> Result<(), Fail<RuleFault>>
         ensures { (names : List (List ℕ)) → Leaves result (state_of self.new) (step names (state_at Complete self.old) (at, slash)) }
     {
         if self.nodes >= MOST_NODES {
             return refused(RuleFault::TooLong(at));
         }
         self.nodes += 1;
-        self.expression.add_slash(alloc)?;
+        self.expression.add_slash()?;
         self.stage = Stage::Awaiting;
         Ok(())
     }
@@ -210,11 +210,10 @@ impl Reader {
             return refused(RuleFault::Expected(at));
         };
         self.pending.pop();
-        let factor = self.expression.take_whole(alloc)?;
-        self.expression = self.outer.pop().unwrap_or(Expression::new());
+        let outer = self.outer.pop().unwrap_or(Expression::new(alloc));
+        let inner = mem::replace(&mut self.expression, outer);
         let signs = take_signs(&mut self.pending);
-        let factor = factor.negated(signs)?;
-        self.expression.add_factor(alloc, factor)?;
+        self.expression.add_bracket(inner, signs)?;
         self.stage = Stage::Complete;
         Ok(())
     }

@@ -58,7 +58,11 @@ fn word_len(text: &[u8]) -> usize
 fn is_name_byte(b: u8) -> bool
     ensures { result ≡ is_name_byte b }
 {
-    b.is_ascii_uppercase() || b.is_ascii_digit()
+    match b {
+        b'A'..=b'Z' => true,
+        b'0'..=b'9' => true,
+        _ => false,
+    }
 }
 
 // The token of a byte that is neither a blank nor part of a word.

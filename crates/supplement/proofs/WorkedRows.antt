@@ -1,5 +1,5 @@
 -- How orders of the worked book are completed.
-use Rattle.std.proofs.Common.{◌≡◌, Bool, true, false, List, [], ◌∷◌, refl}
+use Rattle.std.proofs.Common.{◌≡◌, true, false, [], ◌∷◌, refl}
 use Rattle.book_model.specs.WorkedBook.{book_t, set_t}
 use Rattle.supplement.specs.Completion.{completion_by, completion_of}
 

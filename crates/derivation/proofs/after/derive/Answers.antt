@@ -1,4 +1,4 @@
-use Rattle.std.proofs.Common.{◌≡◌, ◌<◌, ◌^◌, length, arith}
+use Rattle.std.proofs.Common.{arith}
 use Rattle.derivation.specs.Reading.{so_far_of}
 use Rattle.derivation.proofs.NamedLaws.{named_derived}
 use Rattle.derivation.proofs.after.derive.Goals as goal

@@ -6,5 +6,5 @@ use Rattle.partsbook.proofs.cert_text.put_slices.Goals as goal
 
 pub returns : goal.returns
 returns c =
-    let number : c.put_number.new.self ≡ c.put.new.self ++ number_behind c.args.count = c.in_ok-put_number.ensures ∙ ap (λ (n : ℕ). c.put.new.self ++ number_behind n) c.from.ensures in
-    two_pieces c.args.text.now c.put.new.self c.put_number.new.self (codes " limit slices") (number_behind c.args.count) c.in_ok-put.ensures number
+    let number : c.put_number.new.text ≡ c.put.new.self ++ number_behind c.args.count = c.in_ok-put_number.ensures ∙ ap (λ (n : ℕ). c.put.new.self ++ number_behind n) c.from.ensures in
+    two_pieces c.args.text.now c.put.new.self c.put_number.new.text (codes " limit slices") (number_behind c.args.count) c.in_ok-put.ensures number

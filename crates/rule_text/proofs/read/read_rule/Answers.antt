@@ -28,26 +28,26 @@ returns-then-is_all_blank-clause-limits c = refuses_for_limit c.args.codes.now c
 pub returns-in_err-take-clause-answer : goal.returns-in_err-take-clause-answer
 returns-in_err-take-clause-answer c =
     let text = c.args.text.now in
-    let p = err_from_is_err_and c.from_residual.result c.from_residual.ensures.1 in
+    let p = err_from_is_err_and c.from_residual-in_err-take.result c.from_residual-in_err-take.ensures.1 in
     let whole = rule_of-read c.args.codes.now text (sym c.is_all_blank.ensures ∙ c.if-is_all_blank.false) in
     rw (p.1, p.2)
     (refuses c.args.codes.now (length text) text c.loop-at.at (state_of c.loop-at.reader) (token_of c.token_at-token.result) _ _ (state_of c.take.new.self)
     c.loop-at-test.true (sym c.is_blank.ensures ∙ c.if-is_blank.false) c.token_at-token.ensures (c.loop-at.invariant.same ∙ whole) c.in_err-take.ensures)
 
 pub returns-in_err-take-clause-fault : goal.returns-in_err-take-clause-fault
-returns-in_err-take-clause-fault c = is_fault c.args.codes.now c.args.text.now c.from_residual.result (returns-in_err-take-clause-answer c)
+returns-in_err-take-clause-fault c = is_fault c.args.codes.now c.args.text.now c.from_residual-in_err-take.result (returns-in_err-take-clause-answer c)
 
 pub returns-in_err-take-clause-spelled : goal.returns-in_err-take-clause-spelled
-returns-in_err-take-clause-spelled c = is_spelled c.args.codes.now c.args.text.now c.from_residual.result (returns-in_err-take-clause-answer c)
+returns-in_err-take-clause-spelled c = is_spelled c.args.codes.now c.args.text.now c.from_residual-in_err-take.result (returns-in_err-take-clause-answer c)
 
 pub returns-in_err-take-clause-read : goal.returns-in_err-take-clause-read
-returns-in_err-take-clause-read c = is_read c.args.codes.now c.args.text.now c.from_residual.result (returns-in_err-take-clause-answer c)
+returns-in_err-take-clause-read c = is_read c.args.codes.now c.args.text.now c.from_residual-in_err-take.result (returns-in_err-take-clause-answer c)
 
 pub returns-in_err-take-clause-limits : goal.returns-in_err-take-clause-limits
-returns-in_err-take-clause-limits c = refuses_for_limit c.args.codes.now c.args.text.now c.from_residual.result (returns-in_err-take-clause-answer c)
+returns-in_err-take-clause-limits c = refuses_for_limit c.args.codes.now c.args.text.now c.from_residual-in_err-take.result (returns-in_err-take-clause-answer c)
 
 pub returns-in_err-take-clause-codes : goal.returns-in_err-take-clause-codes
-returns-in_err-take-clause-codes c = keeps_codes c.args.codes.now c.args.text.now c.from_residual.result (returns-in_err-take-clause-answer c)
+returns-in_err-take-clause-codes c = keeps_codes c.args.codes.now c.args.text.now c.from_residual-in_err-take.result (returns-in_err-take-clause-answer c)
 
 pub loop-at-preserved : goal.loop-at-preserved
 loop-at-preserved c =

@@ -1,8 +1,8 @@
 -- Each node of the list is a code of the formula or none, and each code is one of them.
-use Rattle.std.proofs.Common.{◌≡◌, ℕ, ◌+◌, length, true, take, drop, sym, ap, subst, refl, ◌∙◌, arith}
+use Rattle.std.proofs.Common.{◌≡◌, ◌+◌, length, true, take, drop, sym, ap, subst, refl, ◌∙◌, arith}
 use Rattle.std.specs.List.{list_any}
 use Rattle.std.proofs.lemmas.List.{take_all}
-use Rattle.pb_base.specs.Node.{is_below, are_below, nodes_of}
+use Rattle.pb_base.specs.Node.{are_below}
 use Rattle.pb_base.proofs.Nodes.{are_below-nodes_of, node_below, step_below}
 use Rattle.supplement.specs.Occurrences.{occurs, is_code}
 use Rattle.supplement.proofs.OccurrenceLemmas.{notes_next, notes_fewer, is_among}

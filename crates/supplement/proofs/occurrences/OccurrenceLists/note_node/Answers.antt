@@ -1,8 +1,8 @@
 -- The new entry goes before those of its code.
-use Rattle.std.proofs.Common.{◌≡◌, ◌<◌, ℕ, length, Some, eqb, sym, ap, ◌∙◌, set, arith}
+use Rattle.std.proofs.Common.{◌≡◌, ◌<◌, length, Some, eqb, sym, ap, ◌∙◌, set, arith}
 use Rattle.pb_base.specs.Node.{is_below}
 use Rattle.pb_base.specs.declared.node.Node.TheVariants.{Code}
-use Rattle.supplement.specs.Occurrences.{Notes, is_code}
+use Rattle.supplement.specs.Occurrences.{is_code}
 use Rattle.supplement.proofs.OccurrenceLemmas.{notes_entry, notes_fewer, is_below-code}
 use Rattle.supplement.proofs.occurrences.OccurrenceLists.note_node.Goals as goal
 
