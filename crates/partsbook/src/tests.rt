@@ -7,6 +7,7 @@ mod clauses;
 mod fault_texts;
 mod orders;
 mod outside;
+mod written;
 
 use crate::log::RunLog;
 use crate::run::run;
@@ -80,7 +81,7 @@ fn answers(
 }
 
 /// Asserts the answers to orders against the engine book, with one line changed.
-fn orders(
+fn engine_orders(
     rt: &impl Abort,
     alloc: Global,
     end: &str,
@@ -108,7 +109,7 @@ fn book_of(alloc: Global, text: &[u8]) -> Result<Book, Fail> {
 #[test]
 fn orders_against_the_engine_book(rt: HostRuntime) -> Result<(), Fail> {
     let alloc = rt.alloc();
-    orders(
+    engine_orders(
         &rt,
         alloc,
         "\n",
@@ -157,7 +158,7 @@ fn orders_against_the_engine_book(rt: HostRuntime) -> Result<(), Fail> {
         ],
     )?;
     // The form of the text: a byte order mark, other line ends, a padded row, and the first fault.
-    orders(
+    engine_orders(
         &rt,
         alloc,
         "\r\n",
