@@ -5,6 +5,8 @@ use Rattle.pb_base.specs.declared.answer.Fail.{Fail}
 use Rattle.pb_base.specs.declared.answer.Fail.TheVariants.{Refused, Memory}
 use Rattle.rule_text.specs.Token.{tokens}
 use Rattle.rule_text.specs.Grammar.{IsText}
+use Rattle.rule_text.specs.Reading.{rule_of}
+use Rattle.rule_text.specs.Printing.{printed_depth}
 use Rattle.pb_base.specs.declared.limits.TheConstants.{MOST_NESTING, MOST_NODES}
 use Rattle.rule_text.specs.declared.fault.RuleFault.{RuleFault}
 use Rattle.rule_text.specs.declared.fault.RuleFault.TheVariants.{Empty, BadByte, UnknownCode, Expected, TooDeep, TooLong}
@@ -29,3 +31,11 @@ RefusesForLimit (Err (Refused (BadByte at))) depth count = ⊥
 RefusesForLimit (Err (Refused (UnknownCode at))) depth count = ⊥
 RefusesForLimit (Err (Refused (Expected at))) depth count = ⊥
 RefusesForLimit (Err Memory) depth count = Unit {0}
+
+-- what is in the grammar is refused for a limit alone
+abbrev pub RefusesForLimits : {A : Type 0} → Result A (Fail RuleFault) → List (List ℕ) → List ℕ → Type 0
+RefusesForLimits result names text = (depth : ℕ) (rule : Rule) → IsText names depth (tokens text) rule → RefusesForLimit result depth (nodes rule)
+
+-- the text that was printed of a rule is read as that rule, where it keeps both limits
+abbrev pub ReadsBack : List (List ℕ) → Rule → List ℕ → Type 0
+ReadsBack names rule text = printed_depth rule ≤ MOST_NESTING → nodes rule ≤ MOST_NODES → rule_of names text ≡ Ok rule

@@ -1,7 +1,9 @@
 -- What the values of the reader stand for, and what it makes of a token.
-use Rattle.std.specs.Prelude.{ℕ, reverse}
-use Rattle.rule_text.specs.Token.{Token, word, plus, slash, minus, opening, closing, semicolon, other}
-use Rattle.rule_text.specs.Steps.{State}
+use Rattle.std.specs.Prelude.{ℕ, List, reverse, Result}
+use Rattle.pb_base.specs.Answers.{Leaves}
+use Rattle.pb_base.specs.declared.answer.Fail.{Fail}
+use Rattle.rule_text.specs.Token.{Token, Placed, word, plus, slash, minus, opening, closing, semicolon, other}
+use Rattle.rule_text.specs.Steps.{State, step}
 use Rattle.rule_text.specs.declared.fault.RuleFault.{RuleFault}
 use Rattle.rule_text.specs.declared.fault.RuleFault.TheVariants.{BadByte, Expected}
 use Rattle.rule_text.specs.declared.token.Token.{Token as CodeToken}
@@ -33,3 +35,7 @@ state_at stage r = record {
 
 abbrev pub state_of : Reader → State
 state_of r = state_at r.stage r
+
+-- the reader becomes what a step makes of this state, or refuses the token with its fault
+abbrev pub Takes : {U : Type 0} → Result U (Fail RuleFault) → Reader → List (List ℕ) → State → Placed → Type 0
+Takes result new names old t = Leaves result (state_of new) (step names old t)

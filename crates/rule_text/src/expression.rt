@@ -149,7 +149,8 @@ fn end_term(nodes: &mut Vec<Node>, start: usize) -> Result<(), Memory>
 fn begin_term(nodes: &mut Vec<Node>, start: usize) -> Result<usize, Memory>
     requires { IsDraft start nodes.old.items }
     ensures draft { IfOk result (λ next. IsDraft next nodes.new.items) }
-    ensures read { IfOk result (λ next. open_in next nodes.new.items ≡ with_slash (open_in start nodes.old.items)) }
+    ensures read { let before = open_in start nodes.old.items in
+        IfOk result (λ next. open_in next nodes.new.items ≡ with_slash before) }
 {
     end_term(nodes, start)?;
     nodes.push(Node::WhenFalse(0))?;
@@ -159,7 +160,8 @@ fn begin_term(nodes: &mut Vec<Node>, start: usize) -> Result<usize, Memory>
 // Joins a factor of one word to the last term, which begins at this place.
 #[inline(always)]
 fn join_word(nodes: &mut Vec<Node>, start: usize, leaf: Leaf, signs: u32) -> Result<(), Memory>
-    ensures { OnOk result (nodes.new.items ≡ with_nodes start nodes.old.items (leaf_node leaf ∷ replicate signs Not)) }
+    ensures { let word = leaf_node leaf ∷ replicate signs Not in
+        OnOk result (nodes.new.items ≡ with_nodes start nodes.old.items word) }
 {
     if nodes.len() <= start {
         return push_word(nodes, leaf, signs);

@@ -1,13 +1,11 @@
 //! Printing a rule.
-ghost use Rattle.std.specs.Prelude.{◌≡◌, ◌++◌, ◌≤◌, IsTrue, IfOk, OnOk, length, reverse};
-ghost use Rattle.pb_base.specs.Rule.{codes_below, nodes};
-ghost use Rattle.pb_base.specs.Names.{true_word, false_word};
+ghost use Rattle.std.specs.Prelude.{◌≡◌, ◌++◌, IsTrue, IfOk, OnOk, length, reverse};
+ghost use Rattle.pb_base.specs.Rule.{codes_below};
 ghost use Rattle.rule_text.specs.Token.{tokens};
 ghost use Rattle.rule_text.specs.Grammar.{IsText};
-ghost use Rattle.rule_text.specs.Reading.{rule_of};
-ghost use Rattle.rule_text.specs.Printing.{printed, printed_depth, bracketed, is_either, is_both, is_pair};
+ghost use Rattle.rule_text.specs.Laws.{ReadsBack};
+ghost use Rattle.rule_text.specs.Printing.{printed, printed_depth, bracketed, is_either, is_pair};
 
-use pb_base::limits::{MOST_NESTING, MOST_NODES};
 use pb_base::{Body, CodeTable, Formula, FormulaPart, Memory, Shape};
 use std::alloc::Global;
 
@@ -16,7 +14,7 @@ pub fn print_rule(alloc: Global, rule: &Formula, codes: &CodeTable) -> Result<Bo
     requires { IsTrue (codes_below (length codes.now) rule.now) }
     ensures text { IfOk result (λ text. text ≡ printed codes.now rule.now) }
     ensures spelled { IfOk result (λ text. IsText codes.now (printed_depth rule.now) (tokens text) rule.now) }
-    ensures read_back { printed_depth rule.now ≤ MOST_NESTING → nodes rule.now ≤ MOST_NODES → IfOk result (λ text. rule_of codes.now text ≡ Ok rule.now) }
+    ensures read_back { IfOk result (λ text. ReadsBack codes.now rule.now text) }
 {
     // The table tells that its names are words of their own: each is read as its code.
     let _names = codes.len();
@@ -77,7 +75,8 @@ fn write_bracketed(
     codes: &CodeTable,
 ) -> Result<(), Memory>
     requires { IsTrue (codes_below (length codes.now) rule) }
-    ensures { OnOk result (text.new.items ≡ text.old.items ++ reverse (bracketed needed (printed codes.now rule.entry))) }
+    ensures { let rule_text = bracketed needed (printed codes.now rule.entry) in
+        OnOk result (text.new.items ≡ text.old.items ++ reverse rule_text) }
 {
     if needed {
         text.push(b')')?;

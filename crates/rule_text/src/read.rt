@@ -1,13 +1,12 @@
 //! Reading the text of a rule.
-ghost use Rattle.std.specs.Prelude.{◌≡◌, ◌<◌, ◌≤◌, ◌^◌, ℕ, length, IfOk, IsTrue};
+ghost use Rattle.std.specs.Prelude.{◌≡◌, ◌<◌, ◌^◌, length, Ok, IfOk, IsTrue};
 ghost use Rattle.std.specs.List.{list_all};
 ghost use Rattle.pb_base.specs.Answers.{Answers};
-ghost use Rattle.pb_base.specs.Rule.{Rule, codes_below, nodes};
-ghost use Rattle.rule_text.specs.Token.{is_blank, tokens};
-ghost use Rattle.rule_text.specs.Grammar.{IsText};
+ghost use Rattle.pb_base.specs.Rule.{Rule, codes_below};
+ghost use Rattle.rule_text.specs.Token.{is_blank};
 ghost use Rattle.rule_text.specs.FirstFault.{first_fault};
 ghost use Rattle.rule_text.specs.Reading.{rule_of};
-ghost use Rattle.rule_text.specs.Laws.{IsShortText, AnswersFault, RefusesForLimit};
+ghost use Rattle.rule_text.specs.Laws.{IsShortText, AnswersFault, RefusesForLimits};
 
 use crate::RuleFault;
 use crate::reader::Reader;
@@ -23,7 +22,7 @@ pub fn read_rule(alloc: Global, text: &[u8], codes: &CodeTable) -> Result<Formul
     ensures fault { AnswersFault result (first_fault codes.now text.now) }
     ensures spelled { IfOk result (λ rule. IsShortText codes.now text.now rule) }
     ensures read { (rule : Rule) → IsShortText codes.now text.now rule → Answers result (Ok rule) }
-    ensures limits { (depth : ℕ) (rule : Rule) → IsText codes.now depth (tokens text.now) rule → RefusesForLimit result depth (nodes rule) }
+    ensures limits { RefusesForLimits result codes.now text.now }
     ensures codes { IfOk result (λ rule. IsTrue (codes_below (length codes.now) rule)) }
 {
     if is_all_blank(text) {

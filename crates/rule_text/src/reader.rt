@@ -1,6 +1,6 @@
 //! The reader of a rule: it takes the tokens from the left, one method for each token that may stand where it is.
 ghost use Rattle.std.specs.Prelude.{◌≡◌, ◌<◌, ◌≤◌, IfOk, zero, List, ℕ, option_map, reverse};
-ghost use Rattle.pb_base.specs.Answers.{Answers, Leaves};
+ghost use Rattle.pb_base.specs.Answers.{Answers};
 ghost use Rattle.pb_base.specs.Rule.{Rule, negated};
 ghost use Rattle.pb_base.specs.Node.{rule_of_leaf};
 ghost use Rattle.pb_base.specs.declared.answer.Fail.TheVariants.{Refused, Memory};
@@ -8,7 +8,7 @@ ghost use Rattle.rule_text.specs.Token.{word, plus, slash, minus, opening, closi
 ghost use Rattle.rule_text.specs.Grammar.{word_rule, constant_rule};
 ghost use Rattle.rule_text.specs.FirstFault.{without_signs};
 ghost use Rattle.rule_text.specs.Reading.{under_signs};
-ghost use Rattle.rule_text.specs.Steps.{begin, step, finish};
+ghost use Rattle.rule_text.specs.Steps.{begin, finish};
 ghost use Rattle.rule_text.specs.declared.standing.Stage.TheVariants.{Awaiting, Complete};
 
 use crate::RuleFault;
@@ -43,7 +43,7 @@ fn refused(fault: RuleFault) -> Result<(), Fail<RuleFault>>
 }
 
 impl Reader {
-    ghost use Rattle.rule_text.specs.Views.{state_at, state_of, token_of};
+    ghost use Rattle.rule_text.specs.Views.{state_at, state_of, token_of, Takes};
 
     // A reader with room for this many nodes of a formula.
     pub(crate) fn new(alloc: Global, room: usize) -> Result<Reader, Memory>
@@ -68,7 +68,7 @@ impl Reader {
         token: Token<'_>,
         codes: &CodeTable,
     ) -> Result<(), Fail<RuleFault>>
-        ensures { Leaves result (state_of self.new) (step codes.now (state_of self.old) (at, token_of token.entry)) }
+        ensures { Takes result self.new codes.now (state_of self.old) (at, token_of token.entry) }
     {
         match self.stage {
             Stage::Awaiting => self.take_factor(alloc, at, token, codes),
@@ -101,7 +101,7 @@ impl Reader {
         token: Token<'_>,
         codes: &CodeTable,
     ) -> Result<(), Fail<RuleFault>>
-        ensures { Leaves result (state_of self.new) (step codes.now (state_at Awaiting self.old) (at, token_of token.entry)) }
+        ensures { Takes result self.new codes.now (state_at Awaiting self.old) (at, token_of token.entry) }
     {
         match token {
             Token::Word(name) => self.word(at, name, codes),
@@ -113,7 +113,7 @@ impl Reader {
 
     #[inline(always)]
     fn word(&mut self, at: u32, name: &[u8], codes: &CodeTable) -> Result<(), Fail<RuleFault>>
-        ensures { Leaves result (state_of self.new) (step codes.now (state_at Awaiting self.old) (at, word name.now)) }
+        ensures { Takes result self.new codes.now (state_at Awaiting self.old) (at, word name.now) }
     {
         let Some(leaf) = word_leaf(name, codes) else {
             return refused(RuleFault::UnknownCode(at));
@@ -130,7 +130,8 @@ impl Reader {
 
     #[inline(always)]
     fn minus(&mut self, at: u32) -> Result<(), Fail<RuleFault>>
-        ensures { (names : List (List ℕ)) → Leaves result (state_of self.new) (step names (state_at Awaiting self.old) (at, minus)) }
+        ensures { (names : List (List ℕ)) →
+            Takes result self.new names (state_at Awaiting self.old) (at, minus) }
     {
         if self.pending.is_full() {
             return refused(RuleFault::TooDeep(at));
@@ -146,7 +147,8 @@ impl Reader {
 
     #[inline(always)]
     fn opening(&mut self, alloc: Global, at: u32) -> Result<(), Fail<RuleFault>>
-        ensures { (names : List (List ℕ)) → Leaves result (state_of self.new) (step names (state_at Awaiting self.old) (at, opening)) }
+        ensures { (names : List (List ℕ)) →
+            Takes result self.new names (state_at Awaiting self.old) (at, opening) }
     {
         if self.pending.is_full() {
             return refused(RuleFault::TooDeep(at));
@@ -166,7 +168,8 @@ impl Reader {
         at: u32,
         token: Token<'_>,
     ) -> Result<(), Fail<RuleFault>>
-        ensures { (names : List (List ℕ)) → Leaves result (state_of self.new) (step names (state_at Complete self.old) (at, token_of token.entry)) }
+        ensures { (names : List (List ℕ)) →
+            Takes result self.new names (state_at Complete self.old) (at, token_of token.entry) }
     {
         match token {
             Token::Plus => self.plus(at),
@@ -179,7 +182,8 @@ impl Reader {
 
     #[inline(always)]
     fn plus(&mut self, at: u32) -> Result<(), Fail<RuleFault>>
-        ensures { (names : List (List ℕ)) → Leaves result (state_of self.new) (step names (state_at Complete self.old) (at, plus)) }
+        ensures { (names : List (List ℕ)) →
+            Takes result self.new names (state_at Complete self.old) (at, plus) }
     {
         if self.nodes >= MOST_NODES {
             return refused(RuleFault::TooLong(at));
@@ -191,7 +195,8 @@ impl Reader {
 
     #[inline(always)]
     fn slash(&mut self, at: u32) -> Result<(), Fail<RuleFault>>
-        ensures { (names : List (List ℕ)) → Leaves result (state_of self.new) (step names (state_at Complete self.old) (at, slash)) }
+        ensures { (names : List (List ℕ)) →
+            Takes result self.new names (state_at Complete self.old) (at, slash) }
     {
         if self.nodes >= MOST_NODES {
             return refused(RuleFault::TooLong(at));
@@ -204,7 +209,8 @@ impl Reader {
 
     #[inline(always)]
     fn closing(&mut self, alloc: Global, at: u32) -> Result<(), Fail<RuleFault>>
-        ensures { (names : List (List ℕ)) → Leaves result (state_of self.new) (step names (state_at Complete self.old) (at, closing)) }
+        ensures { (names : List (List ℕ)) →
+            Takes result self.new names (state_at Complete self.old) (at, closing) }
     {
         let Some(Pending::Bracket) = self.pending.last() else {
             return refused(RuleFault::Expected(at));
@@ -220,7 +226,8 @@ impl Reader {
 
     #[inline(always)]
     fn semicolon(&mut self, at: u32) -> Result<(), Fail<RuleFault>>
-        ensures { (names : List (List ℕ)) → Leaves result (state_of self.new) (step names (state_at Complete self.old) (at, semicolon)) }
+        ensures { (names : List (List ℕ)) →
+            Takes result self.new names (state_at Complete self.old) (at, semicolon) }
     {
         if !self.pending.is_empty() {
             return refused(RuleFault::Expected(at));
