@@ -6,3 +6,4 @@ pub mod Asked
 pub mod Caused
 pub mod Verified
 pub mod Sure
+pub mod HandMade

@@ -144,7 +144,7 @@ fn a_certificate_is_written_and_read_again(rt: HostRuntime) -> Result<(), Fail> 
     set.with(2);
     let first = [pair(0, false, 15), pair(1, false, 16)];
     let second = [pair(7, true, 5), pair(0, true, 18), pair(1, true, 19)];
-    let chains = [chain(9, &first), chain(8, &second)];
+    let chains = [chain_from(9, &first), chain_from(8, &second)];
     let closed = vec![in alloc; closing(13, 21), closing(14, 22)]?;
     let text = certificate(alloc, &book, set, &chains, closed)?.ok_or("it shows no release")?;
     let want =
@@ -161,7 +161,7 @@ fn a_certificate_is_written_and_read_again(rt: HostRuntime) -> Result<(), Fail> 
     Ok(())
 }
 
-fn chain<'a>(start: usize, pairs: &'a [Pair]) -> Chain<'a> {
+fn chain_from<'a>(start: usize, pairs: &'a [Pair]) -> Chain<'a> {
     Chain { start, pairs }
 }
 
