@@ -79,8 +79,8 @@ fn answers(
     Ok(())
 }
 
-/// Asserts the answers to orders against the engine book, with one line changed.
-fn orders(
+/// Asserts the answers to orders against the engine book with one line changed, or none at place 99.
+fn changed_books_answer(
     rt: &impl Abort,
     alloc: Global,
     end: &str,
@@ -108,7 +108,7 @@ fn book_of(alloc: Global, text: &[u8]) -> Result<Book, Fail> {
 #[test]
 fn orders_against_the_engine_book(rt: HostRuntime) -> Result<(), Fail> {
     let alloc = rt.alloc();
-    orders(
+    changed_books_answer(
         &rt,
         alloc,
         "\n",
@@ -157,7 +157,7 @@ fn orders_against_the_engine_book(rt: HostRuntime) -> Result<(), Fail> {
         ],
     )?;
     // The form of the text: a byte order mark, other line ends, a padded row, and the first fault.
-    orders(
+    changed_books_answer(
         &rt,
         alloc,
         "\r\n",
