@@ -80,8 +80,8 @@ fn answers(
     Ok(())
 }
 
-/// Asserts the answers to orders against the engine book, with one line changed.
-fn engine_orders(
+/// Asserts the answers to orders against the engine book with one line changed, or none at place 99.
+fn changed_books_answer(
     rt: &impl Abort,
     alloc: Global,
     end: &str,
@@ -109,7 +109,7 @@ fn book_of(alloc: Global, text: &[u8]) -> Result<Book, Fail> {
 #[test]
 fn orders_against_the_engine_book(rt: HostRuntime) -> Result<(), Fail> {
     let alloc = rt.alloc();
-    engine_orders(
+    changed_books_answer(
         &rt,
         alloc,
         "\n",
@@ -158,7 +158,7 @@ fn orders_against_the_engine_book(rt: HostRuntime) -> Result<(), Fail> {
         ],
     )?;
     // The form of the text: a byte order mark, other line ends, a padded row, and the first fault.
-    engine_orders(
+    changed_books_answer(
         &rt,
         alloc,
         "\r\n",

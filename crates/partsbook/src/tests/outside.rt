@@ -7,20 +7,10 @@ use crate::run::run;
 use book_text::{BookFault, BookKind};
 use parts_usage::OrderFault;
 use pb_outside::{Files, MemoryFiles, MemorySink, MemorySource, Sink, Source};
+use std::alloc::Global;
 use std::io;
+use std::process::Abort;
 use std::test::Fail;
-
-/// A run against the engine book, with the calls on the source, the files and the sink that fail.
-#[derive(Drop)]
-struct Case {
-    words: &'static str,
-    fails: [&'static [u64]; 3],
-    status: u8,
-    text: &'static str,
-    note: Note,
-    /// The counts of faults of the source, the files and the sink afterwards.
-    faults: (u64, u64, u64),
-}
 
 fn counted(which: u8) -> Note {
     Note::Count {
@@ -30,77 +20,81 @@ fn counted(which: u8) -> Note {
     }
 }
 
+/// Asserts what a run against the engine book leaves behind, where the calls of these numbers on the source, the files
+/// and the sink fail: the status with the text, the one note, and the counts of faults of the three.
+fn leaves(
+    rt: &impl Abort,
+    alloc: Global,
+    words: &str,
+    fails: (u64, u64, u64),
+    answer: (u8, &str),
+    note: Note,
+    faults: (u64, u64, u64),
+) -> Result<(), Fail> {
+    let all = words_of(alloc, words)?;
+    let input = joined(alloc, &ENGINE, "\n")?;
+    let pieces = [3].to_vec(alloc)?;
+    let mut source = MemorySource::new(input, pieces, [fails.0].to_vec(alloc)?);
+    let mut files = MemoryFiles::new(Vec::new(alloc), [fails.1].to_vec(alloc)?);
+    let mut sink = MemorySink::new(alloc, 1000, [fails.2].to_vec(alloc)?)?;
+    let mut log = RunLog::new(alloc);
+    let status = run(alloc, &all, &mut source, &mut sink, &mut files, &mut log);
+    assert_eq!(rt; status, answer.0, "status of {words}");
+    assert_eq!(rt; sink.taken(), answer.1.as_bytes(), "text of {words}");
+    assert_eq!(rt; log.notes().len(), 1, "notes of {words}");
+    assert!(rt; log.notes().first() == Some(&note), "note of {words}");
+    let counts = (source.read_faults(), files.faults(), sink.write_faults());
+    assert_eq!(rt; counts, faults, "faults of {words}");
+    Ok(())
+}
+
 #[test]
 fn faults_of_the_outside_and_the_log(rt: HostRuntime) -> Result<(), Fail> {
     let alloc = rt.alloc();
-    for case in [
-        Case {
-            words: "order 1 M1",
-            fails: [&[1], &[], &[]],
-            status: 4,
-            text: "read fault\n",
-            note: counted(1),
-            faults: (1, 0, 0),
-        },
-        Case {
-            words: "verify C",
-            fails: [&[], &[], &[]],
-            status: 4,
-            text: "read fault\n",
-            note: counted(2),
-            faults: (0, 1, 0),
-        },
-        Case {
-            words: "order x",
-            fails: [&[0], &[0], &[0]],
-            status: 5,
-            text: "",
-            note: counted(3),
-            faults: (0, 0, 1),
-        },
-        Case {
-            words: "order 1",
-            fails: [&[], &[0], &[]],
-            status: 1,
-            text: "refused C1\n",
-            note: Note::Refused(0),
-            faults: (0, 0, 0),
-        },
-        Case {
-            words: "order 0",
-            fails: [&[], &[0], &[]],
-            status: 3,
-            text: "order fault 1\n",
-            note: Note::Order(OrderFault::DayOutsideTerm),
-            faults: (0, 0, 0),
-        },
-    ] {
-        let [read_fails, file_fails, write_fails] = case.fails;
-        let all = words_of(alloc, case.words)?;
-        let input = joined(alloc, &ENGINE, "\n")?;
-        let pieces = [3].to_vec(alloc)?;
-        let mut source = MemorySource::new(input, pieces, read_fails.to_vec(alloc)?);
-        let mut sink = MemorySink::new(alloc, 1000, write_fails.to_vec(alloc)?)?;
-        let mut files = MemoryFiles::new(Vec::new(alloc), file_fails.to_vec(alloc)?);
-        let mut log = RunLog::new(alloc);
-        let status = run(alloc, &all, &mut source, &mut sink, &mut files, &mut log);
-        assert_eq!(rt; status, case.status, "status of {}", case.words);
-        assert_eq!(rt;
-            sink.taken(),
-            case.text.as_bytes(),
-            "text of {}",
-            case.words
-        );
-        assert_eq!(rt;
-            log.notes(),
-            [case.note].as_slice(),
-            "notes of {}",
-            case.words
-        );
-        let faults = (source.read_faults(), files.faults(), sink.write_faults());
-        assert_eq!(rt; faults, case.faults, "faults of {}", case.words);
-    }
-    Ok(())
+    // No call has the number 99.
+    let words = "order 1 M1";
+    let answer = (4, "read fault\n");
+    leaves(
+        &rt,
+        alloc,
+        words,
+        (1, 99, 99),
+        answer,
+        counted(1),
+        (1, 0, 0),
+    )?;
+    leaves(
+        &rt,
+        alloc,
+        "verify C",
+        (99, 99, 99),
+        answer,
+        counted(2),
+        (0, 1, 0),
+    )?;
+    leaves(
+        &rt,
+        alloc,
+        "order x",
+        (0, 0, 0),
+        (5, ""),
+        counted(3),
+        (0, 0, 1),
+    )?;
+    let refused = Note::Refused(0);
+    let answer = (1, "refused C1\n");
+    leaves(
+        &rt,
+        alloc,
+        "order 1",
+        (99, 0, 99),
+        answer,
+        refused,
+        (0, 0, 0),
+    )?;
+    let fault = Note::Order(OrderFault::DayOutsideTerm);
+    let answer = (3, "order fault 1\n");
+    leaves(&rt, alloc, "order 0", (99, 0, 99), answer, fault, (0, 0, 0))
 }
 
 #[test]

@@ -7,4 +7,4 @@ use Rattle.partsbook.proofs.cert_text.put_slices.Goals as goal
 pub returns : goal.returns
 returns c =
     let number : c.put_number.new.text ≡ c.put.new.self ++ number_behind c.args.count = c.in_ok-put_number.ensures ∙ ap (λ (n : ℕ). c.put.new.self ++ number_behind n) c.from.ensures in
-    two_pieces c.args.text.now c.put.new.self c.put_number.new.text (codes " limit slices") (number_behind c.args.count) c.in_ok-put.ensures number
+    two_pieces c.args.text.now c.put.new.self c.put_number.new.text (codes " limit slices") (number_behind c.args.count) c.in_ok-put.ensures.ok number
