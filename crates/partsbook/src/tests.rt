@@ -13,6 +13,7 @@ use crate::log::RunLog;
 use crate::run::run;
 use book_model::Book;
 use book_text::read_book;
+use pb_base::short_number;
 use pb_outside::{MemoryFiles, MemorySink, MemorySource, NamedFile};
 use std::alloc::Global;
 use std::process::Abort;
@@ -37,8 +38,6 @@ const ENGINE: [&str; 14] = [
 ];
 
 const USAGE: &str = "usage: order DAY CODE.. | verify CERTFILE\n";
-
-const ACCEPTED: &str = "accepted\ncodes M1 G5\nMOT,P1,A100,1\n";
 
 /// The text of these lines, each ended by `end`.
 fn joined(alloc: Global, lines: &[&str], end: &str) -> Result<Vec<u8>, Fail> {
@@ -80,20 +79,76 @@ fn answers(
     Ok(())
 }
 
-/// Asserts the answers to orders against the engine book with one line changed, or none at place 99.
-fn changed_books_answer(
+/// The text of a field of a table, in which `^` stands for the end of a line.
+fn unfolded(alloc: Global, field: &[u8]) -> Result<Vec<u8>, Fail> {
+    let mut text = Vec::new(alloc);
+    for b in field {
+        text.push(if *b == b'^' { b'\n' } else { *b })?;
+    }
+    Ok(text)
+}
+
+/// Asserts what a run with these words writes for this input, and its status, each as a field of a table.
+fn fields_answer(
     rt: &impl Abort,
     alloc: Global,
-    end: &str,
-    cases: &[(usize, &str, &str, u8, &str)],
+    input: Vec<u8>,
+    words: &[u8],
+    status: &[u8],
+    output: &[u8],
 ) -> Result<(), Fail> {
-    for (place, line, words, status, text) in cases {
-        let mut lines = ENGINE;
-        if *place < lines.len() {
-            lines[*place] = line;
+    let Ok(words) = str::from_utf8(words) else {
+        return Err("words are text".into());
+    };
+    let all = words_of(alloc, words)?;
+    let want = unfolded(alloc, output)?;
+    let mut source = MemorySource::new(input, Vec::new(alloc), Vec::new(alloc));
+    let mut sink = MemorySink::new(alloc, 1000, Vec::new(alloc))?;
+    let mut files = MemoryFiles::new(Vec::new(alloc), Vec::new(alloc));
+    let mut log = RunLog::new(alloc);
+    let found = run(alloc, &all, &mut source, &mut sink, &mut files, &mut log);
+    assert_eq!(rt; sink.taken(), want.as_slice(), "text of {words}");
+    assert_eq!(rt;
+        Some(u32::from(found)),
+        short_number(status),
+        "status of {words}"
+    );
+    Ok(())
+}
+
+/// The engine book's text with another line at this place, or as it is where there is no such place.
+fn engine_with(alloc: Global, place: &[u8], line: &[u8], end: &str) -> Result<Vec<u8>, Fail> {
+    let changed = short_number(place);
+    let mut text = Vec::new(alloc);
+    for (at, own) in ENGINE.iter().enumerate() {
+        if Some(at as u32) == changed {
+            text.append(&mut unfolded(alloc, line)?)?;
+        } else {
+            text.extend_from_slice(own.as_bytes())?;
         }
-        let input = joined(alloc, &lines, end)?;
-        answers(rt, alloc, input, Vec::new(alloc), words, (*status, text))?;
+        text.extend_from_slice(end.as_bytes())?;
+    }
+    Ok(text)
+}
+
+/// Asserts a row `PLACE~LINE~WORDS~STATUS~OUTPUT` of a table, over the engine book with that line at that place.
+fn engine_row_answers(rt: &impl Abort, alloc: Global, end: &str, row: &[u8]) -> Result<(), Fail> {
+    let mut fields = row.split(|b| *b == b'~');
+    let (Some(place), Some(line)) = (fields.next(), fields.next()) else {
+        return Err("a place and a line".into());
+    };
+    let (Some(words), Some(status), Some(output)) = (fields.next(), fields.next(), fields.next())
+    else {
+        return Err("words, a status and an output".into());
+    };
+    let input = engine_with(alloc, place, line, end)?;
+    fields_answer(rt, alloc, input, words, status, output)
+}
+
+/// Asserts each row of a table over the engine book.
+fn engine_answers(rt: &impl Abort, alloc: Global, end: &str, table: &[u8]) -> Result<(), Fail> {
+    for row in table.split(|b| *b == b'\n') {
+        engine_row_answers(rt, alloc, end, row)?;
     }
     Ok(())
 }
@@ -106,77 +161,47 @@ fn book_of(alloc: Global, text: &[u8]) -> Result<Book, Fail> {
     Ok(book)
 }
 
+/// Orders against the engine book.
+const ORDERS: &[u8] = b"99~~order 1 M1~0~accepted^codes M1 G5^MOT,P1,A100,1^\n\
+99~~order 1~1~refused C1^\n\
+99~~order 1 M1 M2~1~refused C2^\n\
+99~~order 1 M2~1~refused C3^\n\
+99~~order 1 M1 G7~0~accepted^codes M1 G7^MOT,P1,A100,1^\n\
+99~~order 0 M1~3~order fault 1^\n\
+99~~order 01000 M1~0~accepted^codes M1 G5^MOT,P1,A100,1^\n\
+99~~order 1001 M1~3~order fault 1^\n\
+99~~order 1 M1 XX~3~order fault 2 2^\n\
+99~~order 1 M1 M1~3~order fault 3 2^\n\
+7~~order 1 M1 M2~1~unfit P1 2^\n\
+10~~order 1 M1~1~refused C3^\n\
+12~position,P1,,mandatory,,~order 1 M1~0~accepted^codes M1 G5^-,P1,A100,1^\n\
+12~position,P1,MOT,optional,,^variant,V0,P1,A050,7,AC,,~order 1 M1 AC~1~unfit P1 2^";
+
+/// Words that are of no form.
+const FORMLESS: &[u8] = b"99~~order~2~usage: order DAY CODE.. | verify CERTFILE^\n\
+99~~order x M1~2~usage: order DAY CODE.. | verify CERTFILE^\n\
+99~~order 000001 M1~2~usage: order DAY CODE.. | verify CERTFILE^\n\
+99~~order 1 TRUE~2~usage: order DAY CODE.. | verify CERTFILE^\n\
+99~~order 1 -- M1~2~usage: order DAY CODE.. | verify CERTFILE^\n\
+99~~offer 1 M1~2~usage: order DAY CODE.. | verify CERTFILE^\n\
+99~~verify~2~usage: order DAY CODE.. | verify CERTFILE^\n\
+99~~verify -C~2~usage: order DAY CODE.. | verify CERTFILE^\n\
+99~~verify C D~2~usage: order DAY CODE.. | verify CERTFILE^";
+
+/// The form of the text: a byte order mark, a padded row, and the first fault.
+const FORMS: &[u8] =
+    b"0~\xef\xbb\xbfbook,T,1,1000~order 1 M1~0~accepted^codes M1 G5^MOT,P1,A100,1^\n\
+0~book,T,1,1000,,,,~order 1 M1~0~accepted^codes M1 G5^MOT,P1,A100,1^\n\
+0~~order 1 M1~3~book fault 1 3^\n\
+2~code,M1,x~order 1 M1~3~book fault 3 10^\n\
+6~construct,C1,*,M1+,,~order 1 M1~3~book fault 7 12 4 3^";
+
 #[test]
 fn orders_against_the_engine_book(rt: HostRuntime) -> Result<(), Fail> {
     let alloc = rt.alloc();
-    changed_books_answer(
-        &rt,
-        alloc,
-        "\n",
-        &[
-            (99, "", "order 1 M1", 0, ACCEPTED),
-            (99, "", "order 1", 1, "refused C1\n"),
-            (99, "", "order 1 M1 M2", 1, "refused C2\n"),
-            (99, "", "order 1 M2", 1, "refused C3\n"),
-            (
-                99,
-                "",
-                "order 1 M1 G7",
-                0,
-                "accepted\ncodes M1 G7\nMOT,P1,A100,1\n",
-            ),
-            (99, "", "order 0 M1", 3, "order fault 1\n"),
-            (99, "", "order 01000 M1", 0, ACCEPTED),
-            (99, "", "order 1001 M1", 3, "order fault 1\n"),
-            (99, "", "order 1 M1 XX", 3, "order fault 2 2\n"),
-            (99, "", "order 1 M1 M1", 3, "order fault 3 2\n"),
-            (99, "", "order", 2, USAGE),
-            (99, "", "order x M1", 2, USAGE),
-            (99, "", "order 000001 M1", 2, USAGE),
-            (99, "", "order 1 TRUE", 2, USAGE),
-            (99, "", "order 1 -- M1", 2, USAGE),
-            (99, "", "offer 1 M1", 2, USAGE),
-            (99, "", "verify", 2, USAGE),
-            (99, "", "verify -C", 2, USAGE),
-            (99, "", "verify C D", 2, USAGE),
-            (7, "", "order 1 M1 M2", 1, "unfit P1 2\n"),
-            (10, "", "order 1 M1", 1, "refused C3\n"),
-            (
-                12,
-                "position,P1,,mandatory,,",
-                "order 1 M1",
-                0,
-                "accepted\ncodes M1 G5\n-,P1,A100,1\n",
-            ),
-            (
-                12,
-                "position,P1,MOT,optional,,\nvariant,V0,P1,A050,7,AC,,",
-                "order 1 M1 AC",
-                1,
-                "unfit P1 2\n",
-            ),
-        ],
-    )?;
-    // The form of the text: a byte order mark, other line ends, a padded row, and the first fault.
-    changed_books_answer(
-        &rt,
-        alloc,
-        "\r\n",
-        &[
-            (0, "\u{feff}book,T,1,1000", "order 1 M1", 0, ACCEPTED),
-            (0, "book,T,1,1000,,,,", "order 1 M1", 0, ACCEPTED),
-            (0, "", "order 1 M1", 3, "book fault 1 3\n"),
-            (2, "code,M1,x", "order 1 M1", 3, "book fault 3 10\n"),
-            (
-                6,
-                "construct,C1,*,M1+,,",
-                "order 1 M1",
-                3,
-                "book fault 7 12 4 3\n",
-            ),
-        ],
-    )?;
-    Ok(())
+    engine_answers(&rt, alloc, "\n", ORDERS)?;
+    engine_answers(&rt, alloc, "\n", FORMLESS)?;
+    engine_answers(&rt, alloc, "\r\n", FORMS)
 }
 
 #[test]

@@ -1,9 +1,9 @@
 //! Texts of books whose reading is known, with ample memory.
 
+use super::{fields_answer, unfolded};
 use book_model::Book;
 use book_text::{BookFault, BookKind, Which, read_book};
 use pb_base::Fail;
-use rule_text::RuleFault;
 use std::alloc::{AllocError, Global};
 use std::process::Abort;
 use std::test::Fail as Failure;
@@ -54,96 +54,55 @@ fn texts_of_one_book_read_alike(rt: HostRuntime) {
     }
 }
 
+/// Texts with their first faults: `TEXT~WORDS~STATUS~OUTPUT`.
+const FAULTS: &[u8] = b"~order 1~3~book fault 1 3^\n\
+code,A,a~order 1~3~book fault 1 3^\n\
+book,S,1,9^book,S,1,9~order 1~3~book fault 2 4^\n\
+book,S,1,9^CODE,A,a~order 1~3~book fault 2 5^\n\
+book,S,1,9^code,A~order 1~3~book fault 2 6^\n\
+book,S,1,9^code,A,a,,x~order 1~3~book fault 2 6^\n\
+book,S,1,9^code,TRUE,a~order 1~3~book fault 2 7^\n\
+book,S,0,9~order 1~3~book fault 1 8^\n\
+book,S,9,1~order 1~3~book fault 1 9^\n\
+book,S,1,9^code,A,\"a^b\"^^code,A,b~order 1~3~book fault 3 10^\n\
+book,S,1,9^code,A,a^construct,R,*,A,,^supplement,R,1,A,A,,~order 1~3~book fault 4 10^\n\
+book,S,1,9^variant,V,P,X,1,A,,~order 1~3~book fault 2 11^\n\
+book,S,1,9^code,A,a^construct,C,*,A+,,~order 1~3~book fault 3 12 4 2^\n\
+book,S,1,9^construct,C,*,A+,,^code,a,a~order 1~3~book fault 3 7^\n\
+book,S,1,9^construct,C,*,TRUE,,2^construct,C2,*,TRUE,3,2~order 1~3~book fault 3 9^\n\
+book,S,1,9^code,A,\xff~order 1~3~book fault 0 2^\n\
+\xff~order 1~3~book fault 0 2^\n\
+book,S,1,9,2~order 1~3~book fault 1 6^\n\
+book,S,1,9^group,G,a~order 1~3~book fault 2 5^\n\
+book,S,1,9^ ^~order 1~3~book fault 2 5^\n\
+book,S,1,9^\"\"^~order 1~3~book fault 2 5^\n\
+book,S,1,9^code,A\"B,a~order 1~3~book fault 2 7^\n\
+book,S,1,9^position,P,,often,,~order 1~3~book fault 2 7^\n\
+book,S,1,9^variant,V,P,X,1000,A,,~order 1~3~book fault 2 8^\n\
+book,S,1,9^position,P,M,optional,,~order 1~3~book fault 2 11^\n\
+book,S,1,9^construct,C,B,A+,,~order 1~3~book fault 2 11^\n\
+book,S,1,9^code,A,a^construct,C,A,,,~order 1~3~book fault 3 12 1^\n\
+book,S,1,9^construct,C,*,-a,,~order 1~3~book fault 2 12 2 1^\n\
+book,S,1,9^construct,C,*,-ZZ,,~order 1~3~book fault 2 12 3 1^";
+
+fn fault_answers(rt: &impl Abort, alloc: Global, row: &[u8]) -> Result<(), Failure> {
+    let mut fields = row.split(|b| *b == b'~');
+    let (Some(text), Some(words)) = (fields.next(), fields.next()) else {
+        return Err("a text and words".into());
+    };
+    let (Some(status), Some(output)) = (fields.next(), fields.next()) else {
+        return Err("a status and an output".into());
+    };
+    let input = unfolded(alloc, text)?;
+    fields_answer(rt, alloc, input, words, status, output)
+}
+
 #[test]
-fn first_faults(rt: HostRuntime) {
-    let rows: [(&[u8], u32, BookKind, u32); 27] = [
-        (b"", 1, BookKind::NoBookRecord, 3),
-        (b"code,A,a", 1, BookKind::NoBookRecord, 3),
-        (b"book,S,1,9\nbook,S,1,9", 2, BookKind::SecondBookRecord, 4),
-        (b"book,S,1,9\nCODE,A,a", 2, BookKind::UnknownKind, 5),
-        (b"book,S,1,9\ncode,A", 2, BookKind::FieldCount, 6),
-        (b"book,S,1,9\ncode,A,a,,x", 2, BookKind::FieldCount, 6),
-        (b"book,S,1,9\ncode,TRUE,a", 2, BookKind::BadName, 7),
-        (b"book,S,0,9", 1, BookKind::BadNumber, 8),
-        (b"book,S,9,1", 1, BookKind::BadDays, 9),
-        (
-            b"book,S,1,9\ncode,A,\"a\nb\"\n\ncode,A,b",
-            3,
-            BookKind::Duplicate,
-            10,
-        ),
-        (
-            b"book,S,1,9\ncode,A,a\nconstruct,R,*,A,,\nsupplement,R,1,A,A,,",
-            4,
-            BookKind::Duplicate,
-            10,
-        ),
-        (
-            b"book,S,1,9\nvariant,V,P,X,1,A,,",
-            2,
-            BookKind::UnknownName,
-            11,
-        ),
-        (
-            b"book,S,1,9\ncode,A,a\nconstruct,C,*,A+,,",
-            3,
-            BookKind::BadRule(RuleFault::Expected(2)),
-            12,
-        ),
-        (
-            b"book,S,1,9\nconstruct,C,*,A+,,\ncode,a,a",
-            3,
-            BookKind::BadName,
-            7,
-        ),
-        (
-            b"book,S,1,9\nconstruct,C,*,TRUE,,2\nconstruct,C2,*,TRUE,3,2",
-            3,
-            BookKind::BadDays,
-            9,
-        ),
-        (b"book,S,1,9\ncode,A,\xff", 0, BookKind::NotUtf8, 2),
-        (b"\xff", 0, BookKind::NotUtf8, 2),
-        (b"book,S,1,9,2", 1, BookKind::FieldCount, 6),
-        (b"book,S,1,9\ngroup,G,a", 2, BookKind::UnknownKind, 5),
-        (b"book,S,1,9\n \n", 2, BookKind::UnknownKind, 5),
-        (b"book,S,1,9\n\"\"\n", 2, BookKind::UnknownKind, 5),
-        (b"book,S,1,9\ncode,A\"B,a", 2, BookKind::BadName, 7),
-        (b"book,S,1,9\nposition,P,,often,,", 2, BookKind::BadName, 7),
-        (
-            b"book,S,1,9\nvariant,V,P,X,1000,A,,",
-            2,
-            BookKind::BadNumber,
-            8,
-        ),
-        (
-            b"book,S,1,9\nposition,P,M,optional,,",
-            2,
-            BookKind::UnknownName,
-            11,
-        ),
-        (
-            b"book,S,1,9\nconstruct,C,B,A+,,",
-            2,
-            BookKind::UnknownName,
-            11,
-        ),
-        (
-            b"book,S,1,9\ncode,A,a\nconstruct,C,A,,,",
-            3,
-            BookKind::BadRule(RuleFault::Empty),
-            12,
-        ),
-    ];
-    for (text, row, kind, number) in rows {
-        match answer(&rt, rt.alloc(), text) {
-            Ok(_) => panic!(rt; "read"),
-            Err(fault) => {
-                assert!(rt; fault == BookFault { row, kind });
-                assert_eq!(rt; fault.kind.number(), number);
-            }
-        }
+fn first_faults(rt: HostRuntime) -> Result<(), Failure> {
+    for row in FAULTS.split(|b| *b == b'\n') {
+        fault_answers(&rt, rt.alloc(), row)?;
     }
+    Ok(())
 }
 
 // The rows of a kind, with names of three bytes.
