@@ -6,4 +6,3 @@ pub mod Asked
 pub mod Caused
 pub mod Verified
 pub mod Sure
-pub mod HandMade

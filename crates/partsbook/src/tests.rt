@@ -1,18 +1,10 @@
-//! The answers of `run`, as a person would check them by hand, the texts of faults, and what the crates below answer at
-//! their limits.
+//! The answers of `run`, as a person would check them by hand.
 
-mod books;
 mod certificates;
-mod clauses;
-mod fault_texts;
-mod orders;
 mod outside;
-mod written;
 
 use crate::log::RunLog;
 use crate::run::run;
-use book_model::Book;
-use book_text::read_book;
 use pb_base::short_number;
 use pb_outside::{MemoryFiles, MemorySink, MemorySource, NamedFile};
 use std::alloc::Global;
@@ -151,14 +143,6 @@ fn engine_answers(rt: &impl Abort, alloc: Global, end: &str, table: &[u8]) -> Re
         engine_row_answers(rt, alloc, end, row)?;
     }
     Ok(())
-}
-
-/// The book of a text, which is one.
-fn book_of(alloc: Global, text: &[u8]) -> Result<Book, Fail> {
-    let Ok(book) = read_book(alloc, text) else {
-        return Err(Fail::from("no book"));
-    };
-    Ok(book)
 }
 
 /// Orders against the engine book.
