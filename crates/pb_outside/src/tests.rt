@@ -9,7 +9,7 @@ use std::test::Fail;
 use std::{fs, io, process};
 
 #[test]
-fn a_memory_source_is_read_in_pieces_with_faults_or_whole(rt: HostRuntime) -> Result<(), Fail> {
+fn a_memory_source_gives_its_pieces_and_its_faults(rt: HostRuntime) -> Result<(), Fail> {
     let alloc = rt.alloc();
     let content = b"abcdef".to_vec(alloc)?;
     let pieces = [2, 9, 0].to_vec(alloc)?;
@@ -26,7 +26,12 @@ fn a_memory_source_is_read_in_pieces_with_faults_or_whole(rt: HostRuntime) -> Re
         assert_eq!(rt; into.as_slice(), so_far.as_bytes());
     }
     assert_eq!(rt; source.read_faults(), 1);
+    Ok(())
+}
 
+#[test]
+fn a_source_is_read_to_its_end_or_to_the_limit(rt: HostRuntime) -> Result<(), Fail> {
+    let alloc = rt.alloc();
     for (limit, want) in [(0, ""), (4, "abcd"), (6, "abcdef"), (9, "abcdef")] {
         let pieces = [1, 3, 1].to_vec(alloc)?;
         let content = b"abcdef".to_vec(alloc)?;
@@ -38,7 +43,7 @@ fn a_memory_source_is_read_in_pieces_with_faults_or_whole(rt: HostRuntime) -> Re
 }
 
 #[test]
-fn a_memory_sink_has_its_room_and_files_are_found_by_name(rt: HostRuntime) -> Result<(), Fail> {
+fn a_memory_sink_takes_whole_pieces_while_there_is_room(rt: HostRuntime) -> Result<(), Fail> {
     let alloc = rt.alloc();
     let mut sink = MemorySink::new(alloc, 5, [1].to_vec(alloc)?)?;
     for (piece, want) in [
@@ -51,7 +56,12 @@ fn a_memory_sink_has_its_room_and_files_are_found_by_name(rt: HostRuntime) -> Re
     }
     assert_eq!(rt; sink.taken(), b"abcde".as_slice());
     assert_eq!(rt; sink.write_faults(), 2);
+    Ok(())
+}
 
+#[test]
+fn files_in_memory_are_found_by_the_first_of_a_name(rt: HostRuntime) -> Result<(), Fail> {
+    let alloc = rt.alloc();
     let mut all = Vec::new(alloc);
     for (name, content) in [("a", "xyz"), ("b", "12345"), ("a", "second")] {
         all.push(NamedFile {
