@@ -73,11 +73,23 @@ impl CodeName {
         ensures name { IfSome result (λ name. (name ≡ bytes.now) × (is_code_name bytes.now ≡ true)) }
         ensures none { IfNone result (is_code_name bytes.now ≡ false) }
     {
-        if is_word(bytes, 8) && !is_constant(bytes) {
-            Some(CodeName(Padded::of(bytes)))
+        if is_word(bytes, 8) {
+            CodeName::of_word(bytes)
         } else {
             None
         }
+    }
+
+    /// The name of a word, which has only bytes of A to Z and 0 to 9, or None where it is no name.
+    pub fn of_word(word: &[u8]) -> Option<CodeName>
+        requires { list_all is_name_byte word.now ≡ true }
+        ensures name { IfSome result (λ name. (name ≡ word.now) × (is_code_name word.now ≡ true)) }
+        ensures none { IfNone result (is_code_name word.now ≡ false) }
+    {
+        if word.is_empty() || word.len() > 8 || is_constant(word) {
+            return None;
+        }
+        Some(CodeName(Padded::of(word)))
     }
 
     /// The bytes of the name.
@@ -158,5 +170,9 @@ fn are_name_bytes(bytes: &[u8]) -> bool
 fn is_name_byte(b: u8) -> bool
     ensures { result ≡ is_name_byte b }
 {
-    b.is_ascii_uppercase() || b.is_ascii_digit()
+    match b {
+        b'A'..=b'Z' => true,
+        b'0'..=b'9' => true,
+        _ => false,
+    }
 }

@@ -9,7 +9,7 @@ use crate::occurrences::OccurrenceLists;
 use crate::plain::complete_by_trying;
 use crate::{Completer, complete_plainly};
 use book_model::{Book, BookParts, Supplement, VariantGroups, fires};
-use pb_base::{CodeSet, CodeTable, Formula, Id, Leaf, Memory};
+use pb_base::{CodeSet, CodeTable, Formula, Id, Memory};
 use std::alloc::Global;
 use std::test::Fail;
 
@@ -35,8 +35,8 @@ fn drawn_formula(alloc: Global, shape: u32, a: u32, b: u32) -> Result<Formula, M
 {
     match shape {
         0 => Formula::code(alloc, a),
-        1 => Formula::code(alloc, a)?.and_leaf(Leaf::Code(b), 0),
-        2 => Formula::code(alloc, a)?.or_leaf(Leaf::Code(b), 0),
+        1 => Formula::code(alloc, a)?.and(Formula::code(alloc, b)?),
+        2 => Formula::code(alloc, a)?.or(Formula::code(alloc, b)?),
         _ => without(alloc, a, b),
     }
 }
@@ -47,7 +47,7 @@ fn without(alloc: Global, a: u32, b: u32) -> Result<Formula, Memory>
     requires b_is_code { b < 6 }
     ensures { IfOk result (RuleFits 6) }
 {
-    Formula::code(alloc, a)?.and_leaf(Leaf::Code(b), 1)
+    Formula::code(alloc, a)?.and(Formula::code(alloc, b)?.not()?)
 }
 
 fn drawn_rules(alloc: Global, id: Id, seed: u32) -> Result<Vec<Supplement>, Memory>
@@ -228,7 +228,7 @@ fn chain_rule(alloc: Global, id: Id, place: u32) -> Result<Supplement, Memory>
         rule: if in_chain {
             link
         } else {
-            link.and_leaf(Leaf::Code(1001 + place % 999), 0)?
+            link.and(Formula::code(alloc, 1001 + place % 999)?)?
         },
         from: 1,
         until: 1,
