@@ -99,6 +99,13 @@ impl CodeName {
     {
         self.0.bytes()
     }
+
+    // What is known of every name of a code; the call does nothing.
+    pub(crate) fn form_law(&self)
+        ensures { is_code_name self.now ≡ true }
+    {
+        let _bytes = &self.0;
+    }
 }
 
 /// The number of a part: 1 to 16 bytes of A to Z and 0 to 9.
