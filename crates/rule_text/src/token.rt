@@ -6,6 +6,7 @@ ghost use Rattle.rule_text.specs.Token.{is_blank, mark, token_at, token_len};
 ghost use Rattle.rule_text.specs.Views.{misplaced, token_of, IsLexed};
 
 use crate::RuleFault;
+use pb_base::is_name_byte;
 
 /// A token of a rule.
 #[derive(Clone, Copy)]
@@ -54,16 +55,6 @@ fn word_len(text: &[u8]) -> usize
         }
     }
     text.len()
-}
-
-fn is_name_byte(b: u8) -> bool
-    ensures { result ≡ is_name_byte b }
-{
-    match b {
-        b'A'..=b'Z' => true,
-        b'0'..=b'9' => true,
-        _ => false,
-    }
 }
 
 // The token of a byte that is neither a blank nor part of a word.
