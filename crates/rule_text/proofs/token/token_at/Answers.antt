@@ -1,5 +1,4 @@
 use Rattle.std.proofs.Common.{length, drop, take, ◌-◌}
-use Rattle.pb_base.specs.Names.{is_name_byte}
 use Rattle.rule_text.proofs.TokenLemmas.{word_bytes}
 use Rattle.rule_text.proofs.token.token_at.Goals as goal
 
