@@ -1,0 +1,162 @@
+-- A group whose text is one names some of the book's codes, each once.
+use Rattle.std.proofs.Common.{◌≡◌, ◌≤◌, ◌<◌, ℕ, Bool, true, false, not, ◌&&◌, ◌||◌, List, [], ◌∷◌, ◌++◌, length, Option, Some, None, Result, Ok, Err, refl, subst, arith, append_assoc, if◌then◌else◌}
+use Rattle.std.specs.Prelude.{nat_le}
+use Rattle.std.specs.List.{IsDistinct, list_any}
+use Rattle.std.proofs.lemmas.List.{append-nil}
+use Rattle.pb_base.specs.Names.{is_code_name, same_name}
+use Rattle.pb_base.specs.Results.{and_then}
+use Rattle.pb_base.specs.declared.limits.TheConstants.{LEAST_GROUP_CODES, MOST_GROUP_CODES}
+use Rattle.book_model.specs.Book.{GroupFits}
+use Rattle.book_text.specs.Rows.{Row}
+use Rattle.book_text.specs.Fields.{field, is_width, name_in, code_name_in, code_or_star_in, part_in, module_in, is_mandatory_in, group_kind_in, number_in, days_in}
+use Rattle.book_text.specs.Group.{names_in, may_follow, are_codes_behind, is_group, are_group}
+use Rattle.book_text.specs.Kind.{kind_of}
+use Rattle.book_text.specs.Entry.{group_in_form, entry_of_kind, entry_of}
+use Rattle.book_text.specs.SecondPass.{places_of}
+use Rattle.book_text.specs.declared.kind.Kind.{Kind}
+use Rattle.book_text.specs.declared.kind.Kind.TheVariants as kind
+use Rattle.book_text.specs.declared.entry.Heading.{Heading}
+use Rattle.book_text.specs.declared.entry.Entry.{Entry}
+use Rattle.book_text.specs.declared.entry.Entry.TheVariants as e
+use Rattle.book_text.specs.declared.fields.Days.{Days}
+use Rattle.book_text.specs.declared.fields.Form.{Form}
+use Rattle.book_text.specs.declared.fields.Form.TheVariants as form
+use Rattle.book_text.specs.declared.fault.BookKind.{BookKind}
+use Rattle.book_text.specs.declared.fault.BookKind.TheVariants.{FieldCount, BadName}
+use Rattle.book_text.proofs.DistinctLemmas.{IsAbsent, distinct-push}
+use Rattle.book_text.proofs.PlaceLemmas.{places_of-below, length-places_of, places_of-distinct}
+
+-- ---- the names of a group are distinct
+
+both : (a b : Bool) → (a && b) ≡ true → (a ≡ true) × (b ≡ true)
+both true b h = (refl, h)
+both false b h = cc
+
+absent-by : (here later : Bool) (name x : List ℕ) (names : List (List ℕ)) → same_name name x ≡ here → not (here || later) ≡ true → (not later ≡ true → IsAbsent name names) → IsAbsent name (x ∷ names)
+absent-by true later name x names e h rest = cc
+absent-by false later name x names e h rest = (e, rest h)
+
+absent-from_any : (names : List (List ℕ)) (name : List ℕ) → not (list_any (same_name name) names) ≡ true → IsAbsent name names
+absent-from_any [] name h = tt
+absent-from_any (x ∷ names) name h = absent-by (same_name name x) (list_any (same_name name) names) name x names refl h (absent-from_any names name)
+
+distinct-behind : (before names : List (List ℕ)) → IsDistinct same_name before → are_codes_behind before names ≡ true → IsDistinct same_name (before ++ names)
+distinct-behind before [] d h = rw (append-nil before) d
+distinct-behind before (name ∷ names) d h =
+    let (may, rest) = both (may_follow before name) (are_codes_behind (before ++ name ∷ []) names) h in
+    let new = (both (is_code_name name) (not (list_any (same_name name) before)) may).1 in
+    subst (IsDistinct same_name) (append_assoc before (name ∷ []) names)
+    (distinct-behind (before ++ name ∷ []) names (distinct-push before name d (absent-from_any before name new)) rest)
+
+no-names : IsDistinct same_name []
+unfolding IsDistinct
+no-names = tt
+
+-- what a group's text says of the names
+pub record AreGroup (names : List (List ℕ)) : Type 0 where
+  pub least : LEAST_GROUP_CODES ≤ length names
+  pub most : length names ≤ MOST_GROUP_CODES
+  pub distinct : IsDistinct same_name names
+
+are_group-says : (names : List (List ℕ)) → are_group names ≡ true → AreGroup names
+are_group-says names h =
+    let (least, rest) = both (nat_le LEAST_GROUP_CODES (length names)) (nat_le (length names) MOST_GROUP_CODES && are_codes_behind [] names) h in
+    let (most, codes) = both (nat_le (length names) MOST_GROUP_CODES) (are_codes_behind [] names) rest in
+    record { least = grind (arith, least); most = grind (arith, most); distinct = distinct-behind [] names no-names codes }
+
+-- its places fit
+pub places_of-fits : (codes : List (List ℕ)) (text : List ℕ) (places : List ℕ) → is_group text ≡ true → places_of codes (names_in text) ≡ Ok places → GroupFits (length codes) places
+places_of-fits codes text places is h =
+    let says = are_group-says (names_in text) is in
+    let count = length-places_of codes (names_in text) places h in
+    record {
+      in_range = places_of-below codes (names_in text) places h;
+      distinct = places_of-distinct codes (names_in text) places says.distinct h;
+      least = omega (arith, count, says.least);
+      most = omega (arith, count, says.most);
+    }
+
+-- ---- the text beside the record of a group is a group's
+
+-- what is true of the record that is said, if one is
+abbrev Says : (Entry → Type 0) → Result Entry BookKind → Type 0
+Says P (Ok entry) = P entry
+Says P (Err kind) = Unit {0}
+
+says-then : {A : Type 0} (P : Entry → Type 0) (r : Result A BookKind) (f : A → Result Entry BookKind) → ((a : A) → Says P (f a)) → Says P (and_then r f)
+says-then P (Ok a) f h = h a
+says-then P (Err kind) f h = tt
+
+says-if : (P : Entry → Type 0) (b : Bool) (said : Result Entry BookKind) (kind : BookKind) → (b ≡ true → Says P said) → Says P (if b then said else Err kind)
+says-if P true said kind h = h refl
+says-if P false said kind h = tt
+
+-- the text that a row with this record has beside it
+abbrev pub IsBeside : Row → Entry → Type 0
+IsBeside row (e.Group id kind days) = is_group (field row 3) ≡ true
+IsBeside row (e.Code name) = Unit {0}
+IsBeside row (e.Supplement id rank code days) = Unit {0}
+IsBeside row (e.Construct id on days) = Unit {0}
+IsBeside row (e.Module id) = Unit {0}
+IsBeside row (e.Position id group mandatory days) = Unit {0}
+IsBeside row (e.Variant id position part quantity days) = Unit {0}
+
+says-else : (P : Entry → Type 0) (b : Bool) (said : Result Entry BookKind) (kind : BookKind) → (not b ≡ true → Says P said) → Says P (if b then Err kind else said)
+says-else P true said kind h = tt
+says-else P false said kind h = h refl
+
+true-of : (b : Bool) → not (not b) ≡ true → b ≡ true
+true-of true h = refl
+true-of false h = cc
+
+group_says : (f : Form) (term : Days) (row : Row) → Says (IsBeside row) (group_in_form f term row)
+group_says form.One term row = tt
+group_says form.Two term row =
+    let P = IsBeside row in
+    says-if P (is_width 6 row) _ FieldCount (λ _.
+    says-then P (name_in (field row 1)) _ (λ id.
+    says-then P (group_kind_in (field row 2)) _ (λ which.
+    says-else P (not (is_group (field row 3))) _ BadName (λ is.
+    says-then P (days_in term (field row 4) (field row 5)) _ (λ days. true-of (is_group (field row 3)) is)))))
+
+kind_says : (k : Option Kind) (h : Heading) (row : Row) → Says (IsBeside row) (entry_of_kind k h row)
+kind_says None h row = tt
+kind_says (Some kind.Book) h row = tt
+kind_says (Some kind.Code) h row =
+    let P = IsBeside row in
+    says-if P (is_width 3 row) _ FieldCount (λ _. says-then P (code_name_in (field row 1)) _ (λ name. tt))
+kind_says (Some kind.Supplement) h row =
+    let P = IsBeside row in
+    says-if P (is_width 7 row) _ FieldCount (λ _.
+    says-then P (name_in (field row 1)) _ (λ id.
+    says-then P (number_in 0 9999 (field row 2)) _ (λ rank.
+    says-then P (code_name_in (field row 3)) _ (λ code.
+    says-then P (days_in h.term (field row 5) (field row 6)) _ (λ days. tt)))))
+kind_says (Some kind.Construct) h row =
+    let P = IsBeside row in
+    says-if P (is_width 6 row) _ FieldCount (λ _.
+    says-then P (name_in (field row 1)) _ (λ id.
+    says-then P (code_or_star_in (field row 2)) _ (λ on.
+    says-then P (days_in h.term (field row 4) (field row 5)) _ (λ days. tt))))
+kind_says (Some kind.Group) h row = group_says h.form h.term row
+kind_says (Some kind.Module) h row =
+    let P = IsBeside row in
+    says-if P (is_width 3 row) _ FieldCount (λ _. says-then P (name_in (field row 1)) _ (λ id. tt))
+kind_says (Some kind.Position) h row =
+    let P = IsBeside row in
+    says-if P (is_width 6 row) _ FieldCount (λ _.
+    says-then P (name_in (field row 1)) _ (λ id.
+    says-then P (module_in (field row 2)) _ (λ group.
+    says-then P (is_mandatory_in (field row 3)) _ (λ mandatory.
+    says-then P (days_in h.term (field row 4) (field row 5)) _ (λ days. tt)))))
+kind_says (Some kind.Variant) h row =
+    let P = IsBeside row in
+    says-if P (is_width 8 row) _ FieldCount (λ _.
+    says-then P (name_in (field row 1)) _ (λ id.
+    says-then P (name_in (field row 2)) _ (λ position.
+    says-then P (part_in (field row 3)) _ (λ part.
+    says-then P (number_in 1 999 (field row 4)) _ (λ quantity.
+    says-then P (days_in h.term (field row 6) (field row 7)) _ (λ days. tt))))))
+
+pub entry_of-beside : (h : Heading) (row : Row) (entry : Entry) → entry_of h row ≡ Ok entry → IsBeside row entry
+entry_of-beside h row entry is = rw is at (kind_says (kind_of (field row 0)) h row)
