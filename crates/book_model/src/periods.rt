@@ -11,7 +11,8 @@ use std::alloc::Global;
 /// The days of each record that has days, in the order of supplementing rules, constructibility rules, positions and variants.
 pub fn periods_of(alloc: Global, book: &Book) -> Result<Vec<Slice>, Memory>
     ensures value { IfOk result (λ periods. periods.items ≡ periods_of book.now) }
-    ensures limit { IfOk result (λ periods. vec_len periods ≤ MOST_SUPPLEMENTS + MOST_CONSTRUCTS + MOST_GROUPS + MOST_POSITIONS + MOST_VARIANTS) }
+    ensures limit { let most_rules = MOST_SUPPLEMENTS + MOST_CONSTRUCTS + MOST_GROUPS in
+        IfOk result (λ periods. vec_len periods ≤ most_rules + MOST_POSITIONS + MOST_VARIANTS) }
 {
     let mut periods = supplement_days(alloc, book.supplements())?;
     let constructs = construct_days(alloc, book.constructs())?;
