@@ -26,12 +26,11 @@ use Rattle.book_text.specs.SecondPass.{second_pass}
 use Rattle.book_text.specs.declared.kind.Kind.{Kind}
 use Rattle.book_text.specs.declared.kind.Kind.TheVariants as kind
 use Rattle.book_text.specs.declared.fields.Days.{Days}
-use Rattle.book_text.specs.declared.fields.Form.{Form}
 use Rattle.book_text.specs.declared.names.Names.{Names}
 use Rattle.book_text.specs.declared.entry.Heading.{Heading}
 use Rattle.book_text.specs.declared.fault.BookKind.{BookKind}
 use Rattle.book_text.specs.declared.fault.BookKind.TheVariants.{FieldCount, BadDays, TooLarge, NotUtf8}
-use Rattle.book_text.proofs.Faultless.{and_then-Ok, at_row-Ok}
+use Rattle.book_text.proofs.Faultless.{Says, says-then, says-else, and_then-Ok, at_row-Ok}
 use Rattle.book_text.proofs.NamesLaw.{NamesFit, first_pass-fits}
 use Rattle.book_text.proofs.RecordsLaw.{RecordsFit, AreNamed, second_pass-fits, passes-named}
 
@@ -47,39 +46,32 @@ ordered-by false days got e h = let same : days ≡ got = cc in subst IsOrdered 
 term_of-ordered : (from until : ℕ) (days : Days) → term_of from until ≡ Ok days → IsOrdered days
 term_of-ordered from until days h = ordered-by (nat_lt until from) (record { from = from; until = until }) days refl h
 
-wide-by : {A : Type 0} (b : Bool) (r : Result A BookKind) (a : A) → (if b then Err FieldCount else r) ≡ Ok a → r ≡ Ok a
-wide-by true r a h = cc
-wide-by false r a h = h
+abbrev HasOrdered : Heading → Type 0
+HasOrdered heading = IsOrdered heading.term
 
-book_in-ordered : (row : Row) (heading : Heading) → book_in row ≡ Ok heading → IsOrdered heading.term
-book_in-ordered row heading h =
-    let whole : List ℕ → Days → Form → Result Heading BookKind = λ name term form. Ok (record { name = name; term = term; form = form }) in
-    let of_days : List ℕ → ℕ → ℕ → Result Heading BookKind = λ name from until. and_then (form_in (field row 4)) (λ form. and_then (term_of from until) (λ term. whole name term form)) in
-    let named : List ℕ → Result Heading BookKind = λ name. and_then (day_in (field row 2)) (λ from. and_then (day_in (field row 3)) (λ until. of_days name from until)) in
-    let said = wide-by (not (is_width 4 row || is_width 5 row)) (and_then (name_in (field row 1)) named) heading h in
-    let (name, _, dated) = and_then-Ok (name_in (field row 1)) named heading said in
-    let (from, _, ended) = and_then-Ok (day_in (field row 2)) (λ from. and_then (day_in (field row 3)) (λ until. of_days name from until)) heading dated in
-    let (until, _, formed) = and_then-Ok (day_in (field row 3)) (λ until. of_days name from until) heading ended in
-    let (form, _, termed) = and_then-Ok (form_in (field row 4)) (λ form. and_then (term_of from until) (λ term. whole name term form)) heading formed in
-    let (term, is, made) = and_then-Ok (term_of from until) (λ term. whole name term form) heading termed in
-    let got : Heading = record { name = name; term = term; form = form } in
-    let same : got ≡ heading = cc in
-    subst (λ (x : Heading). IsOrdered x.term) same (term_of-ordered from until term is)
+book_in-ordered : (row : Row) → Says HasOrdered (book_in row)
+book_in-ordered row =
+    says-else HasOrdered (not (is_width 4 row || is_width 5 row)) _ FieldCount (λ _.
+    says-then HasOrdered (name_in (field row 1)) _ (λ name _.
+    says-then HasOrdered (day_in (field row 2)) _ (λ from _.
+    says-then HasOrdered (day_in (field row 3)) _ (λ until _.
+    says-then HasOrdered (form_in (field row 4)) _ (λ form _.
+    says-then HasOrdered (term_of from until) _ (λ term is. term_of-ordered from until term is))))))
 
-of_kind-ordered : (k : Option Kind) (row : Row) (heading : Heading) → heading_of_kind k row ≡ Ok heading → IsOrdered heading.term
-of_kind-ordered None row heading h = cc
-of_kind-ordered (Some kind.Book) row heading h = book_in-ordered row heading h
-of_kind-ordered (Some kind.Code) row heading h = cc
-of_kind-ordered (Some kind.Supplement) row heading h = cc
-of_kind-ordered (Some kind.Construct) row heading h = cc
-of_kind-ordered (Some kind.Group) row heading h = cc
-of_kind-ordered (Some kind.Module) row heading h = cc
-of_kind-ordered (Some kind.Position) row heading h = cc
-of_kind-ordered (Some kind.Variant) row heading h = cc
+of_kind-ordered : (k : Option Kind) (row : Row) → Says HasOrdered (heading_of_kind k row)
+of_kind-ordered None row = tt
+of_kind-ordered (Some kind.Book) row = book_in-ordered row
+of_kind-ordered (Some kind.Code) row = tt
+of_kind-ordered (Some kind.Supplement) row = tt
+of_kind-ordered (Some kind.Construct) row = tt
+of_kind-ordered (Some kind.Group) row = tt
+of_kind-ordered (Some kind.Module) row = tt
+of_kind-ordered (Some kind.Position) row = tt
+of_kind-ordered (Some kind.Variant) row = tt
 
 -- a heading's first day is not after its last
 pub heading_of-ordered : (row : Row) (heading : Heading) → heading_of row ≡ Ok heading → IsOrdered heading.term
-heading_of-ordered row heading h = of_kind-ordered (kind_of (field row 0)) row heading h
+heading_of-ordered row heading h = rw h at (of_kind-ordered (kind_of (field row 0)) row)
 
 -- ---- the book
 

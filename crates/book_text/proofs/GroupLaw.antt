@@ -2,6 +2,7 @@
 use Rattle.std.proofs.Common.{◌≡◌, ◌≤◌, ◌<◌, ℕ, Bool, true, false, not, ◌&&◌, ◌||◌, List, [], ◌∷◌, ◌++◌, length, Option, Some, None, Result, Ok, Err, refl, subst, arith, append_assoc, if◌then◌else◌}
 use Rattle.std.specs.Prelude.{nat_le}
 use Rattle.std.specs.List.{IsDistinct, list_any}
+use Rattle.std.proofs.lemmas.Bool.{and_parts}
 use Rattle.std.proofs.lemmas.List.{append-nil}
 use Rattle.pb_base.specs.Names.{is_code_name, same_name}
 use Rattle.pb_base.specs.Results.{and_then}
@@ -24,13 +25,10 @@ use Rattle.book_text.specs.declared.fields.Form.TheVariants as form
 use Rattle.book_text.specs.declared.fault.BookKind.{BookKind}
 use Rattle.book_text.specs.declared.fault.BookKind.TheVariants.{FieldCount, BadName}
 use Rattle.book_text.proofs.DistinctLemmas.{IsAbsent, distinct-push}
+use Rattle.book_text.proofs.Faultless.{Says, says-then, says-if, says-else}
 use Rattle.book_text.proofs.PlaceLemmas.{places_of-below, length-places_of, places_of-distinct}
 
 -- ---- the names of a group are distinct
-
-both : (a b : Bool) → (a && b) ≡ true → (a ≡ true) × (b ≡ true)
-both true b h = (refl, h)
-both false b h = cc
 
 absent-by : (here later : Bool) (name x : List ℕ) (names : List (List ℕ)) → same_name name x ≡ here → not (here || later) ≡ true → (not later ≡ true → IsAbsent name names) → IsAbsent name (x ∷ names)
 absent-by true later name x names e h rest = cc
@@ -43,8 +41,8 @@ absent-from_any (x ∷ names) name h = absent-by (same_name name x) (list_any (s
 distinct-behind : (before names : List (List ℕ)) → IsDistinct same_name before → are_codes_behind before names ≡ true → IsDistinct same_name (before ++ names)
 distinct-behind before [] d h = rw (append-nil before) d
 distinct-behind before (name ∷ names) d h =
-    let (may, rest) = both (may_follow before name) (are_codes_behind (before ++ name ∷ []) names) h in
-    let new = (both (is_code_name name) (not (list_any (same_name name) before)) may).1 in
+    let (may, rest) = and_parts (may_follow before name) (are_codes_behind (before ++ name ∷ []) names) h in
+    let new = (and_parts (is_code_name name) (not (list_any (same_name name) before)) may).1 in
     subst (IsDistinct same_name) (append_assoc before (name ∷ []) names)
     (distinct-behind (before ++ name ∷ []) names (distinct-push before name d (absent-from_any before name new)) rest)
 
@@ -60,8 +58,8 @@ pub record AreGroup (names : List (List ℕ)) : Type 0 where
 
 are_group-says : (names : List (List ℕ)) → are_group names ≡ true → AreGroup names
 are_group-says names h =
-    let (least, rest) = both (nat_le LEAST_GROUP_CODES (length names)) (nat_le (length names) MOST_GROUP_CODES && are_codes_behind [] names) h in
-    let (most, codes) = both (nat_le (length names) MOST_GROUP_CODES) (are_codes_behind [] names) rest in
+    let (count, codes) = and_parts (nat_le LEAST_GROUP_CODES (length names) && nat_le (length names) MOST_GROUP_CODES) (are_codes_behind [] names) h in
+    let (least, most) = and_parts (nat_le LEAST_GROUP_CODES (length names)) (nat_le (length names) MOST_GROUP_CODES) count in
     record { least = grind (arith, least); most = grind (arith, most); distinct = distinct-behind [] names no-names codes }
 
 -- its places fit
@@ -78,19 +76,6 @@ places_of-fits codes text places is h =
 
 -- ---- the text beside the record of a group is a group's
 
--- what is true of the record that is said, if one is
-abbrev Says : (Entry → Type 0) → Result Entry BookKind → Type 0
-Says P (Ok entry) = P entry
-Says P (Err kind) = Unit {0}
-
-says-then : {A : Type 0} (P : Entry → Type 0) (r : Result A BookKind) (f : A → Result Entry BookKind) → ((a : A) → Says P (f a)) → Says P (and_then r f)
-says-then P (Ok a) f h = h a
-says-then P (Err kind) f h = tt
-
-says-if : (P : Entry → Type 0) (b : Bool) (said : Result Entry BookKind) (kind : BookKind) → (b ≡ true → Says P said) → Says P (if b then said else Err kind)
-says-if P true said kind h = h refl
-says-if P false said kind h = tt
-
 -- the text that a row with this record has beside it
 abbrev pub IsBeside : Row → Entry → Type 0
 IsBeside row (e.Group id kind days) = is_group (field row 3) ≡ true
@@ -101,11 +86,7 @@ IsBeside row (e.Module id) = Unit {0}
 IsBeside row (e.Position id group mandatory days) = Unit {0}
 IsBeside row (e.Variant id position part quantity days) = Unit {0}
 
-says-else : (P : Entry → Type 0) (b : Bool) (said : Result Entry BookKind) (kind : BookKind) → (not b ≡ true → Says P said) → Says P (if b then Err kind else said)
-says-else P true said kind h = tt
-says-else P false said kind h = h refl
-
-true-of : (b : Bool) → not (not b) ≡ true → b ≡ true
+true-of : (b : Bool) → not b ≡ false → b ≡ true
 true-of true h = refl
 true-of false h = cc
 
@@ -113,50 +94,50 @@ group_says : (f : Form) (term : Days) (row : Row) → Says (IsBeside row) (group
 group_says form.One term row = tt
 group_says form.Two term row =
     let P = IsBeside row in
-    says-if P (is_width 6 row) _ FieldCount (λ _.
-    says-then P (name_in (field row 1)) _ (λ id.
-    says-then P (group_kind_in (field row 2)) _ (λ which.
+    says-if P (is_width 6 row) _ FieldCount (
+    says-then P (name_in (field row 1)) _ (λ id _.
+    says-then P (group_kind_in (field row 2)) _ (λ which _.
     says-else P (not (is_group (field row 3))) _ BadName (λ is.
-    says-then P (days_in term (field row 4) (field row 5)) _ (λ days. true-of (is_group (field row 3)) is)))))
+    says-then P (days_in term (field row 4) (field row 5)) _ (λ days _. true-of (is_group (field row 3)) is)))))
 
 kind_says : (k : Option Kind) (h : Heading) (row : Row) → Says (IsBeside row) (entry_of_kind k h row)
 kind_says None h row = tt
 kind_says (Some kind.Book) h row = tt
 kind_says (Some kind.Code) h row =
     let P = IsBeside row in
-    says-if P (is_width 3 row) _ FieldCount (λ _. says-then P (code_name_in (field row 1)) _ (λ name. tt))
+    says-if P (is_width 3 row) _ FieldCount (says-then P (code_name_in (field row 1)) _ (λ name _. tt))
 kind_says (Some kind.Supplement) h row =
     let P = IsBeside row in
-    says-if P (is_width 7 row) _ FieldCount (λ _.
-    says-then P (name_in (field row 1)) _ (λ id.
-    says-then P (number_in 0 9999 (field row 2)) _ (λ rank.
-    says-then P (code_name_in (field row 3)) _ (λ code.
-    says-then P (days_in h.term (field row 5) (field row 6)) _ (λ days. tt)))))
+    says-if P (is_width 7 row) _ FieldCount (
+    says-then P (name_in (field row 1)) _ (λ id _.
+    says-then P (number_in 0 9999 (field row 2)) _ (λ rank _.
+    says-then P (code_name_in (field row 3)) _ (λ code _.
+    says-then P (days_in h.term (field row 5) (field row 6)) _ (λ days _. tt)))))
 kind_says (Some kind.Construct) h row =
     let P = IsBeside row in
-    says-if P (is_width 6 row) _ FieldCount (λ _.
-    says-then P (name_in (field row 1)) _ (λ id.
-    says-then P (code_or_star_in (field row 2)) _ (λ on.
-    says-then P (days_in h.term (field row 4) (field row 5)) _ (λ days. tt))))
+    says-if P (is_width 6 row) _ FieldCount (
+    says-then P (name_in (field row 1)) _ (λ id _.
+    says-then P (code_or_star_in (field row 2)) _ (λ on _.
+    says-then P (days_in h.term (field row 4) (field row 5)) _ (λ days _. tt))))
 kind_says (Some kind.Group) h row = group_says h.form h.term row
 kind_says (Some kind.Module) h row =
     let P = IsBeside row in
-    says-if P (is_width 3 row) _ FieldCount (λ _. says-then P (name_in (field row 1)) _ (λ id. tt))
+    says-if P (is_width 3 row) _ FieldCount (says-then P (name_in (field row 1)) _ (λ id _. tt))
 kind_says (Some kind.Position) h row =
     let P = IsBeside row in
-    says-if P (is_width 6 row) _ FieldCount (λ _.
-    says-then P (name_in (field row 1)) _ (λ id.
-    says-then P (module_in (field row 2)) _ (λ group.
-    says-then P (is_mandatory_in (field row 3)) _ (λ mandatory.
-    says-then P (days_in h.term (field row 4) (field row 5)) _ (λ days. tt)))))
+    says-if P (is_width 6 row) _ FieldCount (
+    says-then P (name_in (field row 1)) _ (λ id _.
+    says-then P (module_in (field row 2)) _ (λ group _.
+    says-then P (is_mandatory_in (field row 3)) _ (λ mandatory _.
+    says-then P (days_in h.term (field row 4) (field row 5)) _ (λ days _. tt)))))
 kind_says (Some kind.Variant) h row =
     let P = IsBeside row in
-    says-if P (is_width 8 row) _ FieldCount (λ _.
-    says-then P (name_in (field row 1)) _ (λ id.
-    says-then P (name_in (field row 2)) _ (λ position.
-    says-then P (part_in (field row 3)) _ (λ part.
-    says-then P (number_in 1 999 (field row 4)) _ (λ quantity.
-    says-then P (days_in h.term (field row 6) (field row 7)) _ (λ days. tt))))))
+    says-if P (is_width 8 row) _ FieldCount (
+    says-then P (name_in (field row 1)) _ (λ id _.
+    says-then P (name_in (field row 2)) _ (λ position _.
+    says-then P (part_in (field row 3)) _ (λ part _.
+    says-then P (number_in 1 999 (field row 4)) _ (λ quantity _.
+    says-then P (days_in h.term (field row 6) (field row 7)) _ (λ days _. tt))))))
 
 pub entry_of-beside : (h : Heading) (row : Row) (entry : Entry) → entry_of h row ≡ Ok entry → IsBeside row entry
 entry_of-beside h row entry is = rw is at (kind_says (kind_of (field row 0)) h row)

@@ -1,7 +1,7 @@
 -- The codes of a group as they are taken one by one.
 use Rattle.std.proofs.Common.{◌≡◌, ◌<◌, ◌≤◌, ◌+◌, ◌++◌, ℕ, Bool, true, false, not, ◌&&◌, List, [], ◌∷◌, length, map, drop, get_or, Bor, refl, sym, ap, ◌∙◌, arith, ◌||◌, nat_le}
 use Rattle.std.specs.List.{list_any}
-use Rattle.std.proofs.lemmas.List.{drop_more, map_push}
+use Rattle.std.proofs.lemmas.List.{drop_more, drop_all, map_push}
 use Rattle.pb_base.specs.declared.limits.TheConstants.{LEAST_GROUP_CODES, MOST_GROUP_CODES}
 use Rattle.book_text.specs.Group.{may_follow, are_codes_behind, are_group}
 
@@ -25,6 +25,9 @@ module _ (seen : List (Bor (List ℕ))) (all : List (List ℕ)) (name : Bor (Lis
   pub codes-wrong : length seen < length all → name.now ≡ get_or all (length seen) name.now → may_follow before name.now ≡ false → are_codes_behind before (drop (length seen) all) ≡ false
   codes-wrong within is may = rw (here within is, may) refl
 
+pub are_codes-end : (before all : List (List ℕ)) (k : ℕ) → length all ≤ k → are_codes_behind before (drop k all) ≡ true
+are_codes-end before all k past = rw (drop_all k all past) refl
+
 no-group : (least most : Bool) → (least && most && false) ≡ false
 no-group true true = refl
 no-group true false = refl
@@ -41,3 +44,12 @@ pub group-of_many : (names : List (List ℕ)) → MOST_GROUP_CODES < length name
 group-of_many names many =
     let past : nat_le (length names) MOST_GROUP_CODES ≡ false = grind arith in
     rw past (too-many (nat_le LEAST_GROUP_CODES (length names)) (are_codes_behind [] names))
+
+true-last : (least : Bool) → (least && true && true) ≡ least
+true-last true = refl
+true-last false = refl
+
+pub group-of_all : (names : List (List ℕ)) → length names ≤ MOST_GROUP_CODES → are_codes_behind [] names ≡ true → are_group names ≡ nat_le LEAST_GROUP_CODES (length names)
+group-of_all names few codes =
+    let within : nat_le (length names) MOST_GROUP_CODES ≡ true = grind arith in
+    rw (within, codes) (true-last (nat_le LEAST_GROUP_CODES (length names)))

@@ -1,13 +1,19 @@
 -- The places that names stand for are among the records, and those of distinct names are distinct.
-use Rattle.std.proofs.Common.{◌≡◌, ◌<◌, ℕ, Bool, true, false, List, [], ◌∷◌, length, Option, Some, None, Ok, refl, sym, ap, ◌∙◌, subst, arith, get_or}
+use Rattle.std.proofs.Common.{◌≡◌, ◌<◌, ◌≤◌, ◌+◌, ◌++◌, ℕ, drop, append_assoc, Result, Bool, true, false, List, [], ◌∷◌, length, Option, Some, None, Ok, Err, refl, sym, ap, ◌∙◌, subst, arith, get_or}
 use Rattle.std.specs.Prelude.{nat_eq, ok_or, IfSome, All}
-use Rattle.std.specs.List.{IsDistinct, AllByRecursion}
-use Rattle.std.specs.Cmp.Lexicographic.{nat_list_eq_equiv}
+use Rattle.std.specs.List.{IsDistinct, AllByRecursion, list_all}
+use Rattle.std.specs.Cmp.Lexicographic.{nat_list_eq_equiv, bytes_decides}
+use Rattle.std.proofs.lemmas.List.{drop_more, drop_all, append-nil}
 use Rattle.std.proofs.lemmas.List.Elements.{All-nil, All-cons}
+use Rattle.std.proofs.lemmas.List.Folds.{list_all_at}
 use Rattle.std.proofs.lemmas.List.Quantifiers.{position-Some}
-use Rattle.pb_base.specs.Names.{same_name, place_in}
+use Rattle.pb_base.specs.Names.{is_code_name, same_name, place_in}
+use Rattle.pb_base.specs.Answers.{Answers}
 use Rattle.pb_base.specs.Results.{and_then}
+use Rattle.pb_base.specs.declared.answer.Fail.{Fail}
+use Rattle.pb_base.specs.declared.answer.Fail.TheVariants.{Refused, Memory}
 use Rattle.book_text.specs.SecondPass.{place_of, places_of, place_if_named}
+use Rattle.book_text.specs.declared.fault.BookKind.{BookKind}
 use Rattle.book_text.specs.declared.fault.BookKind.TheVariants.{UnknownName}
 use Rattle.book_text.proofs.DistinctLemmas.{IsAbsent}
 use Rattle.book_text.proofs.Faultless.{and_then-Ok}
@@ -27,6 +33,18 @@ place_if_named-below names (Some name) place h =
     let some : Some p ≡ place = cc in
     let P : Option ℕ → Type 0 = λ o. IfSome o (λ q. q < length names) in
     subst P some (place_of-below names name p is)
+
+-- what is no name of a code has no place among codes
+unknown-by : (o : Option ℕ) (codes : List (List ℕ)) (name : List ℕ) → place_in codes name ≡ o → list_all is_code_name codes ≡ true → is_code_name name ≡ false → ok_or o UnknownName ≡ Err UnknownName
+unknown-by None codes name e all wrong = refl
+unknown-by (Some place) codes name e all wrong =
+    let (within, same, _) = position-Some (same_name name) codes place [] e in
+    let is : name ≡ get_or codes place [] = (bytes_decides name (get_or codes place [])).0 same in
+    let not_all = list_all_at is_code_name codes place [] within (ap is_code_name (sym is) ∙ wrong) in
+    cc
+
+pub unknown-place : (codes : List (List ℕ)) (name : List ℕ) → list_all is_code_name codes ≡ true → is_code_name name ≡ false → place_of codes name ≡ Err UnknownName
+unknown-place codes name all wrong = unknown-by (place_in codes name) codes name refl all wrong
 
 -- the first place and the others
 record IsPlaced (codes : List (List ℕ)) (name : List ℕ) (names : List (List ℕ)) (places : List ℕ) : Type 0 where
@@ -52,13 +70,14 @@ pub length-places_of : (codes names : List (List ℕ)) (places : List ℕ) → p
 length-places_of codes [] places h = let none : [] ≡ places = cc in ap length (sym none)
 length-places_of codes (name ∷ names) places h =
     let p = placed codes name names places h in
-    ap length (sym p.is) ∙ ap (λ n. n + 1) (length-places_of codes names p.others p.more)
+    let whole = ap length (sym p.is) in
+    omega (arith, whole, length-places_of codes names p.others p.more)
 
 -- names at one place are the same
 same-at : (codes : List (List ℕ)) (a b : List ℕ) (place : ℕ) → place_of codes a ≡ Ok place → place_of codes b ≡ Ok place → same_name a b ≡ true
 same-at codes a b place h g =
-    let at_a = (position-Some (same_name a) codes place [] (known-Ok (place_in codes a) place h)).1.0 in
-    let at_b = (position-Some (same_name b) codes place [] (known-Ok (place_in codes b) place g)).1.0 in
+    let at_a = (position-Some (same_name a) codes place [] (known-Ok (place_in codes a) place h)).1 in
+    let at_b = (position-Some (same_name b) codes place [] (known-Ok (place_in codes b) place g)).1 in
     nat_list_eq_equiv.congr a (get_or codes place []) b at_a ∙ nat_list_eq_equiv.symm (get_or codes place []) b ∙ at_b
 
 apart-by : (is : Bool) (codes : List (List ℕ)) (a b : List ℕ) (p q : ℕ) → nat_eq p q ≡ is → place_of codes a ≡ Ok p → place_of codes b ≡ Ok q → same_name a b ≡ false → nat_eq p q ≡ false
@@ -84,3 +103,32 @@ places_of-distinct codes (name ∷ names) places d h =
     let p = placed codes name names places h in
     let P : List ℕ → Type 0 = IsDistinct nat_eq in
     subst P p.is (apart-places codes name p.first names p.others p.found d.0 p.more, places_of-distinct codes names p.others d.1 p.more)
+
+-- places, and behind them others if there is no fault
+abbrev pub behind : List ℕ → Result (List ℕ) BookKind → Result (List ℕ) BookKind
+behind front answer = and_then answer (λ more. Ok (front ++ more))
+
+behind-one : (front : List ℕ) (place : ℕ) (answer : Result (List ℕ) BookKind) → behind front (and_then answer (λ more. Ok (place ∷ more))) ≡ behind (front ++ place ∷ []) answer
+behind-one front place (Ok more) = ap (λ (l : List ℕ). Ok l) (sym (append_assoc front (place ∷ []) more))
+behind-one front place (Err kind) = refl
+
+-- the names from a place on
+module _ (codes all : List (List ℕ)) (front : List ℕ) (k : ℕ) (name : List ℕ) where
+  here : k < length all → name ≡ get_or all k name → drop k all ≡ name ∷ drop (k + 1) all
+  here within is = drop_more all k name within ∙ ap (λ (n : List ℕ). n ∷ drop (k + 1) all) (sym is)
+
+  pub places-more : (place : ℕ) → k < length all → name ≡ get_or all k name → place_of codes name ≡ Ok place
+      → behind (front ++ place ∷ []) (places_of codes (drop (k + 1) all)) ≡ behind front (places_of codes (drop k all))
+  places-more place within is found = rw (here within is, found) (sym (behind-one front place (places_of codes (drop (k + 1) all))))
+
+  pub places-fault : (kind : BookKind) → k < length all → name ≡ get_or all k name → place_of codes name ≡ Err kind → behind front (places_of codes (drop k all)) ≡ Err kind
+  places-fault kind within is fault = rw (here within is, fault) refl
+
+-- a fault of a name is the fault of all
+pub places-refused : (error : Fail BookKind) (codes all : List (List ℕ)) (front : List ℕ) (k : ℕ) (name : List ℕ) → k < length all → name ≡ get_or all k name
+    → Answers {A = ℕ} (Err error) (place_of codes name) → Answers {A = List ℕ} (Err error) (behind front (places_of codes (drop k all)))
+places-refused (Refused kind) codes all front k name within is fault = places-fault codes all front k name kind within is fault
+places-refused Memory codes all front k name within is fault = tt
+
+pub places-end : (codes all : List (List ℕ)) (front : List ℕ) (k : ℕ) → length all ≤ k → behind front (places_of codes (drop k all)) ≡ Ok front
+places-end codes all front k past = rw (drop_all k all past) (ap (λ (l : List ℕ). Ok l) (append-nil front))

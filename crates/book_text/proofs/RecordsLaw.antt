@@ -151,9 +151,9 @@ RecordsFit-resolved all r new (e.Supplement id rank code days) row fits beside_i
     let fit = supplement_of-Ok all.codes id rank code days (field row 4) s is in
     subst (RecordsFit all) same (record { supplements = All-push (SupplementFits (length all.codes)) r.supplements s fits.supplements fit.1; constructs = fits.constructs; positions = fits.positions; variants = fits.variants; choices = fits.choices })
 RecordsFit-resolved all r new (e.Construct id on days) row fits beside_it h =
-    RecordsFit-construct all r new (construct_of all.codes id on days (field row 3)) fits (λ c is. (construct_of-Ok all.codes id on days (field row 3) c is).1.0) h
+    RecordsFit-construct all r new (construct_of all.codes id on days (field row 3)) fits (λ c is. (construct_of-Ok all.codes id on days (field row 3) c is).1) h
 RecordsFit-resolved all r new (e.Group id kind days) row fits beside_it h =
-    RecordsFit-construct all r new (group_of all.codes id kind days (field row 3)) fits (λ c is. (group_of-Ok all.codes id kind days (field row 3) c beside_it is).1.0) h
+    RecordsFit-construct all r new (group_of all.codes id kind days (field row 3)) fits (λ c is. (group_of-Ok all.codes id kind days (field row 3) c beside_it is).1) h
 RecordsFit-resolved all r new (e.Module id) row fits beside_it h =
     let same : record r { modules = r.modules ++ record { id = id } ∷ [] } ≡ new = cc in
     subst (RecordsFit all) same (record { supplements = fits.supplements; constructs = fits.constructs; positions = fits.positions; variants = fits.variants; choices = fits.choices })
@@ -223,7 +223,7 @@ counted-push test is constructs c e =
     ap length (filter-append test constructs (c ∷ [])) ∙ length-append (filter test constructs) (filter test (c ∷ []))
     ∙ ap (λ n. length (filter test constructs) + n) (counted-by (test c) c ∙ ap (λ (b : Bool). if b then 1 else 0) e)
 
-turned : (is : Bool) → (if is then 0 else 1) ≡ (if not is then 1 else 0)
+turned : (is : Bool) → ◌≡◌ {A = ℕ} (if is then 0 else 1) (if not is then 1 else 0)
 turned true = refl
 turned false = refl
 
@@ -277,14 +277,18 @@ AreNamed-row all n n' r r' (e.Construct id on days) row beside_it named h g =
     let (l, is, whole) = and_then-Ok (beside n.supplements id (added_rule n.constructs id)) (λ l. Ok (record n { constructs = l })) n' h in
     let (c, made, rest) = and_then-Ok (construct_of all.codes id on days (field row 3)) (λ c. Ok (record r { constructs = r.constructs ++ c ∷ [] })) r' g in
     let (_, adding) = beside-Ok n.supplements id (added_rule n.constructs id) l is in
-    let (at, (_, no_group)) = construct_of-Ok all.codes id on days (field row 3) c made in
-    AreNamed-construct false all n n' r r' id l c named at no_group (added_rule-Ok n.constructs id l adding).1 cc cc
+    let (at, _, no_group) = construct_of-Ok all.codes id on days (field row 3) c made in
+    let one : record n { constructs = l } ≡ n' = cc in
+    let other : record r { constructs = r.constructs ++ c ∷ [] } ≡ r' = cc in
+    AreNamed-construct false all n n' r r' id l c named at no_group (added_rule-Ok n.constructs id l adding).1 one other
 AreNamed-row all n n' r r' (e.Group id kind days) row beside_it named h g =
     let (l, is, whole) = and_then-Ok (beside n.supplements id (added_group n.constructs id)) (λ l. Ok (record n { constructs = l })) n' h in
     let (c, made, rest) = and_then-Ok (group_of all.codes id kind days (field row 3)) (λ c. Ok (record r { constructs = r.constructs ++ c ∷ [] })) r' g in
     let (_, adding) = beside-Ok n.supplements id (added_group n.constructs id) l is in
-    let (at, (_, is_one)) = group_of-Ok all.codes id kind days (field row 3) c beside_it made in
-    AreNamed-construct true all n n' r r' id l c named at is_one (added_group-Ok n.constructs id l adding).1 cc cc
+    let (at, _, is_one) = group_of-Ok all.codes id kind days (field row 3) c beside_it made in
+    let one : record n { constructs = l } ≡ n' = cc in
+    let other : record r { constructs = r.constructs ++ c ∷ [] } ≡ r' = cc in
+    AreNamed-construct true all n n' r r' id l c named at is_one (added_group-Ok n.constructs id l adding).1 one other
 AreNamed-row all n n' r r' (e.Module id) row beside_it named h g =
     let (l, is, whole) = and_then-Ok (added MOST_MODULES Modules n.modules id) (λ l. Ok (record n { modules = l })) n' h in
     let one : record n { modules = l } ≡ n' = cc in

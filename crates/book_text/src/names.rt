@@ -1,5 +1,5 @@
 //! The names that the rows of a text give, each told apart from those before it.
-ghost use Rattle.std.specs.Prelude.{◌≡◌, ◌+◌, ◌<◌, ◌^◌, false, Ok, is_some, length, if◌then◌else◌};
+ghost use Rattle.std.specs.Prelude.{◌≡◌, ◌+◌, ◌<◌, ◌^◌, false, Ok, OnErr, is_some, length, if◌then◌else◌};
 ghost use Rattle.pb_base.specs.Answers.{Answers, Leaves};
 ghost use Rattle.pb_base.specs.Names.{place_in};
 ghost use Rattle.pb_base.specs.declared.limits.TheConstants.{MOST_CODES};
@@ -108,7 +108,8 @@ pub fn add_where(
     which: Which,
 ) -> Result<(), Fail<BookKind>>
     requires { is_full ≡ false → length ids.old + 1 < 2 ^ 32 }
-    ensures { Leaves result ids.new (added_where is_full which ids.old id) }
+    ensures value { Leaves result ids.new (added_where is_full which ids.old id) }
+    ensures kept { OnErr result (ids.new ≡ ids.old) }
 {
     if is_full {
         return Err(Fail::Refused(full(is_taken(ids, &id), which)));
@@ -121,7 +122,7 @@ pub fn add_where(
 
 // Refuses an id that others have.
 fn new_beside(others: &Table<Id>, id: &Id) -> Result<(), Fail<BookKind>>
-    ensures { Answers result (beside others.now id.now (Ok ())) }
+    ensures { Answers result (beside others.now id.now (Ok tt)) }
 {
     if is_taken(others, id) {
         return Err(Fail::Refused(BookKind::Duplicate));

@@ -63,7 +63,7 @@ returns-in-Err-Refused-clause-names c =
     let n = length c.rows.entries.items + 2 in
     let fault = rw c.in-Err-Refused.field-0-is at c.in-Err-Refused.ensures.names in
     let count : c.len.result ≡ length c.rows.entries.items = omega (arith, c.len.ensures, c.rows.entries.ok.0) in
-    rw (c.in-Err-Refused.field-0-is, count) (
+    rw count (
     sym c.rows.invariant.rest ∙ ap (pass step n c.rows.names) next
     ∙ pass-fault step n c.rows.names row c.read.new.self c.in-Err-Refused.kind fault)
 
