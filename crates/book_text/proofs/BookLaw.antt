@@ -1,5 +1,5 @@
 -- Where the passes find no fault, the heading, the names and the records make a book that meets its condition.
-use Rattle.std.proofs.Common.{◌≡◌, ◌≤◌, ◌++◌, ℕ, Bool, true, false, List, [], ◌∷◌, length, map, Option, Some, None, Result, Ok, Err, refl, sym, ap, ◌∙◌, subst, arith, if◌then◌else◌}
+use Rattle.std.proofs.Common.{◌≡◌, ◌≤◌, ◌++◌, ℕ, Bool, true, false, List, [], ◌∷◌, length, map, Option, Some, None, Ok, Err, refl, sym, ap, ◌∙◌, subst, arith, if◌then◌else◌}
 use Rattle.std.specs.Prelude.{nat_lt, not, ◌||◌, All}
 use Rattle.std.specs.Str.{is_utf8}
 use Rattle.std.specs.List.{IsDistinct}
@@ -28,7 +28,6 @@ use Rattle.book_text.specs.declared.kind.Kind.TheVariants as kind
 use Rattle.book_text.specs.declared.fields.Days.{Days}
 use Rattle.book_text.specs.declared.names.Names.{Names}
 use Rattle.book_text.specs.declared.entry.Heading.{Heading}
-use Rattle.book_text.specs.declared.fault.BookKind.{BookKind}
 use Rattle.book_text.specs.declared.fault.BookKind.TheVariants.{FieldCount, BadDays, TooLarge, NotUtf8}
 use Rattle.book_text.proofs.Faultless.{Says, says-then, says-else, and_then-Ok, at_row-Ok}
 use Rattle.book_text.proofs.NamesLaw.{NamesFit, first_pass-fits}

@@ -1,11 +1,10 @@
 -- A group whose text is one names some of the book's codes, each once.
-use Rattle.std.proofs.Common.{◌≡◌, ◌≤◌, ◌<◌, ℕ, Bool, true, false, not, ◌&&◌, ◌||◌, List, [], ◌∷◌, ◌++◌, length, Option, Some, None, Result, Ok, Err, refl, subst, arith, append_assoc, if◌then◌else◌}
+use Rattle.std.proofs.Common.{◌≡◌, ◌≤◌, ℕ, Bool, true, false, not, ◌&&◌, ◌||◌, List, [], ◌∷◌, ◌++◌, length, Option, Some, None, Ok, refl, subst, arith, append_assoc}
 use Rattle.std.specs.Prelude.{nat_le}
 use Rattle.std.specs.List.{IsDistinct, list_any}
 use Rattle.std.proofs.lemmas.Bool.{and_parts}
 use Rattle.std.proofs.lemmas.List.{append-nil}
 use Rattle.pb_base.specs.Names.{is_code_name, same_name}
-use Rattle.pb_base.specs.Results.{and_then}
 use Rattle.pb_base.specs.declared.limits.TheConstants.{LEAST_GROUP_CODES, MOST_GROUP_CODES}
 use Rattle.book_model.specs.Book.{GroupFits}
 use Rattle.book_text.specs.Rows.{Row}
@@ -22,7 +21,6 @@ use Rattle.book_text.specs.declared.entry.Entry.TheVariants as e
 use Rattle.book_text.specs.declared.fields.Days.{Days}
 use Rattle.book_text.specs.declared.fields.Form.{Form}
 use Rattle.book_text.specs.declared.fields.Form.TheVariants as form
-use Rattle.book_text.specs.declared.fault.BookKind.{BookKind}
 use Rattle.book_text.specs.declared.fault.BookKind.TheVariants.{FieldCount, BadName}
 use Rattle.book_text.proofs.DistinctLemmas.{IsAbsent, distinct-push}
 use Rattle.book_text.proofs.Faultless.{Says, says-then, says-if, says-else}

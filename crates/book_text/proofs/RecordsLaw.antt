@@ -1,5 +1,5 @@
 -- The records that the second pass gives without a fault refer to records of the book, and carry the ids of the first pass.
-use Rattle.std.proofs.Common.{◌≡◌, ◌≤◌, ◌<◌, ◌+◌, ℕ, Bool, true, false, List, [], ◌∷◌, ◌++◌, length, map, Option, Some, None, Result, Ok, Err, refl, sym, ap, ◌∙◌, subst, arith, if◌then◌else◌}
+use Rattle.std.proofs.Common.{◌≡◌, ◌≤◌, ◌<◌, ◌+◌, ℕ, Bool, true, false, List, [], ◌∷◌, ◌++◌, length, map, Option, Result, Ok, Err, refl, sym, ap, ◌∙◌, subst, arith, if◌then◌else◌}
 use Rattle.std.specs.Prelude.{nat_le, nat_eq, All, not, filter}
 use Rattle.std.proofs.lemmas.List.{map_push, length-append}
 use Rattle.std.proofs.lemmas.List.Elements.{All-push, All-nil, filter-append}

@@ -1,10 +1,9 @@
-use Rattle.std.proofs.Common.{◌≡◌, ◌++◌, ◌∷◌, [], length, map, Ok, refl, sym, ap, ◌∙◌, arith, nat_eq, rules, tests}
+use Rattle.std.proofs.Common.{length, Ok, sym, ap, ◌∙◌, arith, nat_eq, rules, tests}
 use Rattle.std.proofs.lemmas.List.{length_push}
 use Rattle.std.proofs.lemmas.Result.{err_from_is_err_and}
 use Rattle.std.proofs.lemmas.Iterator.Splits.{YieldsList-from_slice_split}
 use Rattle.std.proofs.lemmas.Iterator.Consumers.{YieldsList-at, YieldsList-turn, YieldsList-end}
 use Rattle.book_text.specs.Group.{slash, names_in}
-use Rattle.book_text.specs.SecondPass.{places_of}
 use Rattle.book_text.proofs.PlaceLemmas.{places-more, places-refused, places-end}
 use Rattle.book_text.proofs.second_pass.places_in.Goals as goal
 
