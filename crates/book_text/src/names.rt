@@ -8,9 +8,7 @@ ghost use Rattle.book_text.specs.Names.{no_names, added, added_where, beside, en
 use crate::construct_ids::ConstructIds;
 use crate::entry::Entry;
 use crate::fault::{BookKind, Which};
-use pb_base::limits::{
-    MOST_CODES, MOST_MODULES, MOST_POSITIONS, MOST_SUPPLEMENTS, MOST_VARIANTS,
-};
+use pb_base::limits::{MOST_CODES, MOST_MODULES, MOST_POSITIONS, MOST_SUPPLEMENTS, MOST_VARIANTS};
 use pb_base::{CodeName, CodeTable, Fail, Id, Table};
 use std::alloc::Global;
 

@@ -31,14 +31,14 @@ returns-then-is_full c =
     let yielded = c.loop-name.yielded in
     let all = names_in c.args.text.now in
     elim c.then-is_full.branch [
-      then-is_full-via-then-is_full w ↦
-        let full : length c.loop-name.names.items ≡ MOST_GROUP_CODES = grind (arith, w.if-is_full.true, c.is_full.ensures.value) in
-        let many : MOST_GROUP_CODES < length all = omega (arith, full, ap length inv.taken, turn.0) in
-        sym (group-of_many all many)
-    | then-is_full-via-else-is_full+then-not-may_follow w ↦
-        let names = w.deref.ensures.0 ∙ inv.taken in
-        let may : may_follow (map (λ n. n.now) yielded) c.in-Some.name.now ≡ false = sym (rw names at w.may_follow.ensures) ∙ w.if-not-may_follow.true in
-        sym (group-of_wrong all (sym inv.rest ∙ codes-wrong yielded all c.in-Some.name turn.0 turn.1 may))
+      | then-is_full-via-then-is_full w ↦
+          let full : length c.loop-name.names.items ≡ MOST_GROUP_CODES = grind (arith, w.if-is_full.true, c.is_full.ensures.value) in
+          let many : MOST_GROUP_CODES < length all = omega (arith, full, ap length inv.taken, turn.0) in
+          sym (group-of_many all many)
+      | then-is_full-via-else-is_full+then-not-may_follow w ↦
+          let names = w.deref.ensures.0 ∙ inv.taken in
+          let may : may_follow (map (λ n. n.now) yielded) c.in-Some.name.now ≡ false = sym (rw names at w.may_follow.ensures) ∙ w.if-not-may_follow.true in
+          sym (group-of_wrong all (sym inv.rest ∙ codes-wrong yielded all c.in-Some.name turn.0 turn.1 may))
     ]
 
 pub returns : goal.returns
