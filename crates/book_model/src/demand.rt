@@ -1,6 +1,6 @@
 //! What constructibility rules demand of a set of codes.
-ghost use Rattle.std.specs.Prelude.{◌≡◌, ◌<◌, All, length, min};
-ghost use Rattle.book_model.specs.Book.{DemandFits};
+ghost use Rattle.std.specs.Prelude.{◌≡◌, true, ◌<◌, All, length, min};
+ghost use Rattle.book_model.specs.Book.{DemandFits, demands_group};
 ghost use Rattle.book_model.specs.Good.{is_met, present};
 
 use crate::places::Places;
@@ -29,6 +29,19 @@ impl Demand {
                 on: Some(code),
                 rule,
             } => !set.has(*code) || rule.holds(set),
+            group => group.is_group_met(set),
+        }
+    }
+
+    // Apart from the rules, which are many more and so cost one test of their kind.
+    #[inline(never)]
+    fn is_group_met(&self, set: &CodeSet) -> bool
+        requires fits { DemandFits (length set.now) self.now }
+        requires group { demands_group self.now ≡ true }
+        ensures { result ≡ is_met set.now self.now }
+    {
+        match self {
+            Demand::Rule { .. } => unreachable!(),
             Demand::One(group) => count_to_two(group.codes(), set) == 1,
             Demand::Most(group) => count_to_two(group.codes(), set) <= 1,
         }

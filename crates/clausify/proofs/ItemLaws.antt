@@ -1,5 +1,5 @@
--- The clauses of the formulas of a slice hold just where the variables are the truth of what they stand for and each
--- demand is met, and all demands are met just by the good sets.
+-- The clauses of the formulas of a slice hold just where the variables are the truth of what they stand for and each claim is
+-- met, and all claims are met just by the good sets.
 use Rattle.std.proofs.Common.{inl, inr, append_assoc, ◌≡◌, ℕ, ◌+◌, ◌<◌, Bool, true, false, not, ◌&&◌, ◌||◌, ◌==◌, eqb, ltb, nat_le, List, [], ◌∷◌, ◌++◌, Option, None, Some, length, map, refl, sym, ap, subst, ◌∙◌, arith, length-append}
 use Rattle.std.specs.List.{list_any, list_all, filter, All, AllByRecursion}
 use Rattle.std.specs.Option.{IfSome}

@@ -1,4 +1,4 @@
-//! The formulas of the records that are active on a day, each given its literal and the clause that is demanded of it.
+//! The formulas of the records that are active on a day, each given its literal and the clauses that follow, and the clauses of groups.
 ghost use Rattle.std.specs.Prelude.{◌≡◌, ◌+◌, ◌^◌, ◌<◌, OnOk, length};
 ghost use Rattle.book_model.specs.Book.{DemandFits};
 ghost use Rattle.clausify.specs.Formulas.{connectives};
