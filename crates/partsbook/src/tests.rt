@@ -1,6 +1,7 @@
 //! The answers of `run`, as a person would check them by hand.
 
 mod certificates;
+mod groups;
 mod outside;
 
 use crate::log::RunLog;
