@@ -1,6 +1,7 @@
 //! Completing by trying, after the first time, only the rules in whose formulas an added code occurs.
 //!
-//! Each rule that fires is in the worklist. So the first in it that fires is the rule that fires first of all, and no other needs to be tried.
+//! Each rule that fires is in the worklist. So the first in it that fires is the rule that fires first of all, and no other
+//! needs to be tried.
 ghost use Rattle.std.specs.Prelude.{◌≡◌, ◌≤◌, IfOk, IfSome, length, All};
 ghost use Rattle.pb_base.specs.declared.limits.TheConstants.{MOST_SUPPLEMENTS};
 ghost use Rattle.book_model.specs.Book.{SupplementFits};

@@ -22,7 +22,8 @@ pub struct Entry {
     pub next: Option<usize>,
 }
 
-/// For each code the active supplementing rules in whose formulas it occurs. The entries of all codes stand in one vector, those of a code linked from its head.
+/// For each code the active supplementing rules in whose formulas it occurs. The entries of all codes stand in one vector,
+/// those of a code linked from its head.
 #[derive(Drop)]
 pub struct OccurrenceLists {
     /// For each code the place of its first entry.

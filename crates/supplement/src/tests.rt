@@ -12,7 +12,8 @@ use pb_base::{CodeSet, Formula, Id, Memory};
 use std::alloc::Global;
 use std::test::Fail;
 
-// A rule over six codes, drawn from a number: one of four shapes over two codes, one of three ranks, its code, and whether it is active on day 1, as three of four are.
+// A rule over six codes, drawn from a number: one of four shapes over two codes, one of three ranks, its code, and whether
+// it is active on day 1, as three of four are.
 fn drawn_rule(alloc: Global, id: Id, draw: u32) -> Result<Supplement, Memory>
     ensures { IfOk result (SupplementFits 6) }
 {
@@ -213,7 +214,8 @@ fn the_lower_rank_fires_and_at_one_rank_the_earlier_record(rt: HostRuntime) -> R
     Ok(())
 }
 
-// Of 5,000 rules over 2,000 codes: the first thousand make a chain in which each code adds the next at a lower rank, and each other one is of a code of the chain and one that never comes in.
+// Of 5,000 rules over 2,000 codes: the first thousand make a chain in which each code adds the next at a lower rank, and
+// each other one is of a code of the chain and one that never comes in.
 fn chain_rule(alloc: Global, id: Id, place: u32) -> Result<Supplement, Memory>
     requires { place < MOST_SUPPLEMENTS }
     ensures { IfOk result (SupplementFits 2000) }
