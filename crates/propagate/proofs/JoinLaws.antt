@@ -6,7 +6,7 @@ use Rattle.std.proofs.Math.ListN.{get_or-append, get_or-eq_default}
 use Rattle.std.proofs.Math.Seq.{get_or-append_seam}
 use Rattle.clause_pool.specs.Literal.{complement}
 use Rattle.clause_pool.specs.Clause.{has}
-use Rattle.propagate.specs.Trail.{IsReason, OthersFalse}
+use Rattle.propagate.specs.Trail.{IsReason, OthersFalse, IsTrail}
 use Rattle.propagate.specs.Assignment.{Assigned, end_of}
 use Rattle.propagate.specs.Watching.{HasTrue, Watching, Visits, head_of, clause_at, pair_of, IsListed, IsVisited, IsWatched, IsHeld, AreHeld, IsVisiting, Grown, AreReasons, IsPairIn}
 use Rattle.propagate.specs.Watching.IsHeld.{fixed, paired}
@@ -242,6 +242,19 @@ module _ (s t : Scene) (c : List ℕ) (v : Visits) (refuted : Option ℕ) (j : J
   joined_false k low all =
       let same : clause_at t.watching.clauses k ≡ clause_at s.watching.clauses k = ap (λ (cs : List (List ℕ)). clause_at cs k) j.clauses ∙ get_or-append s.watching.clauses (c ∷ []) [] k low in
       subst (λ (xs : List ℕ). AllFalse (take (end_of t.assigned 0) t.assigned.lits) xs) (sym same) (false_grown s.assigned t.assigned (clause_at s.watching.clauses k) j.grown (h.visiting.ends 0 (omega arith)) all)
+
+  pub joined_trail : IsAssigned t.assigned → IsTrail (trail_of t)
+  joined_trail a = record {
+    apart = a.apart;
+    below = a.below;
+    few_levels = a.few_levels;
+    clauses_below = λ at l is_in. let b = joined_below at l is_in in omega (arith, b, joined_codes);
+    rising = a.rising;
+    within = a.within;
+    reasons_counted = a.reasons_counted;
+    reasoned = j.reasoned h.reasoned;
+    decided = decided_grown s.assigned t.assigned j.grown counted h.decided;
+  }
 
   -- one more clause, which is held
   pub engine_joined : IsHeld t.assigned v t.watching (length s.watching.clauses) → IsEngine t v refuted

@@ -139,6 +139,16 @@ impl Assignment {
         }
     }
 
+    /// The level of the literal at this place of the trail.
+    pub(crate) fn level_at(&self, place: usize) -> usize
+        requires { place < length self.now.lits }
+        ensures level { result ≤ length self.now.starts }
+        ensures before { (m : ℕ) → m < result → end_of self.now m ≤ place }
+        ensures behind { place < end_of self.now result }
+    {
+        count_upto(&self.starts, place)
+    }
+
     /// Whether a literal was false before this place of the trail.
     pub(crate) fn was_false(&self, code: u32, end: usize) -> bool
         requires { code < self.now.vars + self.now.vars }
@@ -219,4 +229,14 @@ impl Assignment {
         self.keep_levels(level);
         self.keep_literals(end);
     }
+}
+
+/// How many of these rising numbers aren't above this one.
+fn count_upto(starts: &[u32], place: usize) -> usize
+    requires { (i j : ℕ) → i ≤ j → j < length starts.now → slice_index starts.now i ≤ slice_index starts.now j }
+    ensures count { result ≤ length starts.now }
+    ensures upto { (m : ℕ) → m < result → slice_index starts.now m ≤ place }
+    ensures above { (m : ℕ) → result ≤ m → m < length starts.now → place < slice_index starts.now m }
+{
+    starts.partition_point(|start| *start as usize <= place)
 }

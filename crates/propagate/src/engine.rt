@@ -1,10 +1,10 @@
 //! Unit propagation by two watched literals.
-ghost use Rattle.std.specs.Prelude.{◌≡◌, ℕ, ◌+◌, ◌*◌, ◌/◌, ◌<◌, ◌≤◌, ◌++◌, [], ◌∷◌, length, slice_index, slice_index_or, IfOk, IfSome, OnOk, OnErr, All, ◌^◌, Ok, None, true, false};
+ghost use Rattle.std.specs.Prelude.{◌≡◌, ℕ, ◌+◌, ◌*◌, ◌/◌, ◌<◌, ◌≤◌, ◌++◌, [], ◌∷◌, length, slice_index, slice_index_or, IfOk, IfSome, IfNone, OnOk, OnErr, All, ◌^◌, Ok, None, true, false};
 ghost use Rattle.clause_pool.specs.Literal.{complement};
 ghost use Rattle.clause_pool.specs.Clause.{has};
 ghost use Rattle.propagate.specs.Trail.{IsTrail, AllFalse, level, end_of, upto};
 ghost use Rattle.propagate.specs.Quiet.{Quiet, IsConsistent};
-ghost use Rattle.propagate.specs.Engine.{empty_trail, Extends, with_assumed, cut, IsOpenAbove, IsOpen};
+ghost use Rattle.propagate.specs.Engine.{empty_trail, Extends, with_assumed, cut, IsOpenAbove, IsOpen, IsLevelOf};
 ghost use Rattle.propagate.specs.Assignment.{IsAssigned, value_over};
 ghost use Rattle.propagate.specs.Visiting.{scene, IsConflict};
 ghost use Rattle.propagate.specs.Running.{Ran};
@@ -88,6 +88,19 @@ impl Engine {
         }
     }
 
+    /// The level at which a variable came to the trail; none where it is open.
+    pub fn level_of(&self, var: u32) -> Option<u32>
+        requires { var < self.now.vars }
+        ensures level { IfSome result (λ n. IsLevelOf self.now var n) }
+        ensures open_variable { IfNone result (IsOpen self.now var) }
+    {
+        let Some(place) = self.assignment.place_of(var) else {
+            return None;
+        };
+        self.assignment.level();
+        Some(self.assignment.level_at(place) as u32)
+    }
+
     /// The clause that made the literal at this place of the trail true.
     pub fn reason_at(&self, place: usize) -> Option<Ref>
         requires { place < length self.now.lits }
@@ -122,6 +135,7 @@ impl Engine {
         requires open_above { 0 < level self.old → IsOpenAbove self.old (slice_index_or pool.now.clauses at []) }
         ensures clauses { OnOk result (self.new.clauses ≡ self.old.clauses ++ slice_index_or pool.now.clauses at [] ∷ []) }
         ensures extends { Extends self.old self.new }
+        ensures trail { IsTrail self.new }
         ensures err { OnErr result (self.new ≡ self.old) }
     {
         self.assignment.lits();
@@ -155,6 +169,7 @@ impl Engine {
         }
         self.assignment.put(lit, None);
     }
+
     /// The literals that are true, the earliest first.
     pub fn trail(&self) -> &[Lit]
         ensures lits { result.now ≡ self.now.lits }
@@ -165,8 +180,10 @@ impl Engine {
 
     /// The number of levels.
     pub fn level(&self) -> u32
-        ensures { result ≡ level self.now }
+        ensures level { result ≡ level self.now }
+        ensures trail { IsTrail self.now }
     {
+        self.assignment.lits();
         self.assignment.level() as u32
     }
 
@@ -244,9 +261,11 @@ fn join(
     ensures held { result ≡ Ok true → (v : Visits) → IsVisiting assignment.old v
         → IsHeld assignment.new v watched.new (length watched.old.clauses) }
     ensures refuted { result ≡ Ok false → AllFalse (upto (trail_of (scene assignment.new watched.new)) 0) lits.now }
+    ensures assigned { IsAssigned assignment.new }
     ensures same_literals { OnErr result (assignment.new ≡ assignment.old) }
     ensures same_clauses { OnErr result (watched.new ≡ watched.old) }
 {
+    assignment.lits();
     let Some(first) = first_open(assignment, lits) else {
         watched.push_plain(lits)?;
         return Ok(false);
@@ -255,7 +274,6 @@ fn join(
         watched.push_pair(lits, Watched { first, second })?;
         return Ok(true);
     }
-    assignment.lits();
     let end = assignment.end_of(assignment.level().saturating_sub(1));
     if let Some(second) = other_late(assignment, lits, first, end) {
         watched.push_pair(lits, Watched { first, second })?;

@@ -4,7 +4,7 @@ ghost use Rattle.std.specs.Bool.{OnTrue, OnFalse};
 ghost use Rattle.clause_pool.specs.Literal.{complement};
 ghost use Rattle.clause_pool.specs.Clause.{has};
 ghost use Rattle.propagate.specs.Trail.{OthersFalse, AllFalse, IsReason};
-ghost use Rattle.propagate.specs.Quiet.{IsConsistent};
+ghost use Rattle.propagate.specs.Assignment.{IsAssigned};
 ghost use Rattle.propagate.specs.Visiting.{scene, Looks, IsConflict, AreTrueIn, entries_of};
 ghost use Rattle.propagate.specs.Watching.{Grown, AreReasons, Keeps, AreTrue, EntryFits, clause_at, pair_of, list_of};
 
@@ -57,7 +57,7 @@ pub(crate) fn put_only(assignment: &mut Assignment, code: u32, clause: u32)
     ensures reasoned { (clauses : List (List ℕ)) → IsReason clauses assignment.old.lits code clause
         → AreReasons clauses assignment.old → AreReasons clauses assignment.new }
     ensures put { has assignment.new.lits code ≡ true }
-    ensures consistent { IsConsistent assignment.new.lits }
+    ensures assigned { IsAssigned assignment.new }
 {
     if assignment.value(code).is_some() {
         return;

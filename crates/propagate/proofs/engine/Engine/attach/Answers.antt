@@ -1,13 +1,13 @@
 use Rattle.std.proofs.Common.{◌≡◌, ℕ, List, Ok, true, length, get_or, subst, sym, ap, arith}
 use Rattle.clause_pool.specs.Clause.{has}
-use Rattle.propagate.specs.Trail.{Trail}
+use Rattle.propagate.specs.Trail.{Trail, IsTrail}
 use Rattle.propagate.specs.Engine.{Extends}
 use Rattle.propagate.specs.Assignment.{Assigned}
 use Rattle.propagate.specs.Watching.{Grown}
 use Rattle.propagate.proofs.KeepLaws.{grown_not, has_at, same_default}
 use Rattle.propagate.specs.Visiting.{scene}
-use Rattle.propagate.proofs.JoinLaws.{engine_joined, engine_refuted}
-use Rattle.propagate.proofs.EngineLaws.{extends_grown}
+use Rattle.propagate.proofs.JoinLaws.{engine_joined, engine_refuted, joined_trail}
+use Rattle.propagate.proofs.EngineLaws.{extends_grown, is_trail}
 use Rattle.propagate.proofs.engine.Engine.attach.Goals as goal
 
 pub returns-in_default-clause-extends : goal.returns-in_default-clause-extends
@@ -58,3 +58,28 @@ invariant_of-self-else-not-branch c = (
       (c.in_ok-join.ensures.held (ap Ok c.if-not-branch.false) _ c.self.invariant.0.visiting),
   omega (arith, c.self.invariant.1, ap (λ (a : Assigned). a.vars) c.in_ok-join.ensures.joined.grown.is),
 )
+
+pub returns-in_default-clause-trail : goal.returns-in_default-clause-trail
+returns-in_default-clause-trail c = subst (λ (t : Trail). IsTrail t) c.self.view_is (is_trail (scene c.self.inside.assignment c.self.inside.watched) _ _ c.lits.ensures.assigned c.self.invariant.0)
+
+pub returns-in_err-join-clause-trail : goal.returns-in_err-join-clause-trail
+returns-in_err-join-clause-trail c =
+    rw (c.in_err-join.ensures.same_literals, c.in_err-join.ensures.same_clauses) (is_trail (scene c.self.inside.assignment c.self.inside.watched) _ _ c.lits.ensures.assigned c.self.invariant.0)
+
+pub returns-then-not-branch-clause-trail : goal.returns-then-not-branch-clause-trail
+returns-then-not-branch-clause-trail c =
+    joined_trail (scene c.self.inside.assignment c.self.inside.watched) (scene c.join.new.assignment c.join.new.watched) c.lits-2.result.now _ c.self.inside.refuted
+    c.in_ok-join.ensures.joined c.lits.ensures.assigned.reasons_counted c.self.invariant.0
+    (λ l is_in.
+            let b = c.requires.below l (subst (λ (xs : List ℕ). has xs l ≡ true) c.lits-2.ensures.clause is_in) in
+            omega (arith, b, c.self.invariant.0.codes, ap (λ (t : Trail). t.vars) c.self.view_is))
+    c.join.ensures.assigned
+
+pub returns-else-not-branch-clause-trail : goal.returns-else-not-branch-clause-trail
+returns-else-not-branch-clause-trail c =
+    joined_trail (scene c.self.inside.assignment c.self.inside.watched) (scene c.join.new.assignment c.join.new.watched) c.lits-2.result.now _ c.self.inside.refuted
+    c.in_ok-join.ensures.joined c.lits.ensures.assigned.reasons_counted c.self.invariant.0
+    (λ l is_in.
+            let b = c.requires.below l (subst (λ (xs : List ℕ). has xs l ≡ true) c.lits-2.ensures.clause is_in) in
+            omega (arith, b, c.self.invariant.0.codes, ap (λ (t : Trail). t.vars) c.self.view_is))
+    c.join.ensures.assigned
