@@ -131,6 +131,7 @@ pub engine_ran : (s t : Scene) (heads : List ℕ) (from to : ℕ) (refuted : Opt
 engine_ran s t heads from to refuted none counted h r = record {
   codes = ran_codes s t from to r h.codes;
   small = let b = h.small in omega (arith, b, ran_vars s t from to r);
+  few = let b = h.few in omega (arith, b, ap length r.same_clauses);
   below = λ k l is_in. let b = h.below k l (subst (λ (cs : List (List ℕ)). has (clause_at cs k) l ≡ true) r.same_clauses is_in) in let c = r.same_count in omega (arith, b, c);
   reasoned = subst (λ (cs : List (List ℕ)). AreReasons cs t.assigned) (sym r.same_clauses) (r.reasoned h.reasoned);
   decided = decided_grown s.assigned t.assigned r.grown counted h.decided;
@@ -279,6 +280,7 @@ module _ (s : Scene) (heads : List ℕ) (head n first : ℕ) (h : IsAssigned s.a
   engine_cut refuted engine = record {
     codes = engine.codes;
     small = engine.small;
+    few = engine.few;
     below = engine.below;
     reasoned = reasons_cut engine.reasoned;
     decided = decided_cut engine.decided;
@@ -371,6 +373,7 @@ pub engine_level : (s : Scene) (heads : List ℕ) (head : ℕ) (refuted : Option
 engine_level s heads head refuted h = record {
   codes = h.codes;
   small = h.small;
+  few = h.few;
   below = h.below;
   reasoned = h.reasoned;
   decided = λ k low none.
@@ -394,6 +397,7 @@ engine_assumed s heads head l refuted counted before =
     record {
       codes = h.codes;
       small = h.small;
+      few = h.few;
       below = h.below;
       reasoned = λ k at low is. elim (cases_eq k (length a.lits)) [
         | inl last ↦
@@ -429,6 +433,7 @@ pub engine_new : (vars : ℕ) (w : Watching) → w.clauses ≡ [] → length w.l
 engine_new vars w none codes small = record {
   codes = codes;
   small = small;
+  few = omega (arith, ap length none);
   below = λ k l is_in. absurd (false≢true (subst (λ (cs : List (List ℕ)). has (clause_at cs k) l ≡ true) none is_in));
   reasoned = λ k at low. absurd (omega (arith, low));
   decided = λ k low. absurd (omega (arith, low));

@@ -198,7 +198,7 @@ false_for_good a w c allowed all = elim (cases_order 0 (length a.starts)) [
 ]
 
 -- false literals stay false for good
-false_grown : (a b : Assigned) (c : List ℕ) → Grown a b → end_of a 0 ≤ length a.lits → AllFalse (take (end_of a 0) a.lits) c → AllFalse (take (end_of b 0) b.lits) c
+pub false_grown : (a b : Assigned) (c : List ℕ) → Grown a b → end_of a 0 ≤ length a.lits → AllFalse (take (end_of a 0) a.lits) c → AllFalse (take (end_of b 0) b.lits) c
 false_grown a b c g ends all = subst (λ (z : Assigned). AllFalse (take (end_of z 0) z.lits) c) (sym g.is) (λ l is_in.
     let h : HasTrue (take (end_of a 0) a.lits) (complement l ∷ []) = (complement l, one_itself (complement l), all l is_in) in
     let found = end_grown a g.more (complement l ∷ []) 0 (omega arith) ends h in
@@ -210,7 +210,7 @@ false_grown a b c g ends all = subst (λ (z : Assigned). AllFalse (take (end_of 
     one_is : (n m : ℕ) → has (n ∷ []) m ≡ true → m ≡ n
     one_is n m h = elim (or_cases (eqb n m) false h) [ inl same ↦ sym (eqb-true n m same) | inr none ↦ absurd (false≢true none) ]
 
-module _ (s t : Scene) (c : List ℕ) (v : Visits) (refuted : Option ℕ) (j : Joined s t c) (counted : length s.assigned.reasons ≡ length s.assigned.lits) (h : IsEngine s v refuted) (below : (l : ℕ) → has c l ≡ true → l < length s.watching.lists) where
+module _ (s t : Scene) (c : List ℕ) (v : Visits) (refuted : Option ℕ) (j : Joined s t c) (counted : length s.assigned.reasons ≡ length s.assigned.lits) (h : IsEngine s v refuted) (below : (l : ℕ) → has c l ≡ true → l < length s.watching.lists) (room : length s.watching.clauses < 2 ^ 32) where
   joined_vars : t.assigned.vars ≡ s.assigned.vars
   joined_vars = ap (λ (z : Assigned). z.vars) j.grown.is
 
@@ -219,6 +219,9 @@ module _ (s t : Scene) (c : List ℕ) (v : Visits) (refuted : Option ℕ) (j : J
 
   joined_small : t.assigned.vars < 2 ^ 31
   joined_small = let b = h.small in omega (arith, b, joined_vars)
+
+  joined_few : length t.watching.clauses ≤ 2 ^ 32
+  joined_few = omega (arith, room, ap length j.clauses, length-append s.watching.clauses (c ∷ []))
 
   joined_below : (k l : ℕ) → has (clause_at t.watching.clauses k) l ≡ true → l < length t.watching.lists
   joined_below k l is_in =
@@ -261,6 +264,7 @@ module _ (s t : Scene) (c : List ℕ) (v : Visits) (refuted : Option ℕ) (j : J
   engine_joined here = record {
     codes = joined_codes;
     small = joined_small;
+    few = joined_few;
     below = joined_below;
     reasoned = j.reasoned h.reasoned;
     decided = decided_grown s.assigned t.assigned j.grown counted h.decided;
@@ -275,6 +279,7 @@ module _ (s t : Scene) (c : List ℕ) (v : Visits) (refuted : Option ℕ) (j : J
   engine_refuted k at all = record {
     codes = joined_codes;
     small = joined_small;
+    few = joined_few;
     below = joined_below;
     reasoned = j.reasoned h.reasoned;
     decided = decided_grown s.assigned t.assigned j.grown counted h.decided;

@@ -9,3 +9,4 @@ pub mod EngineLaws
 pub mod AttachLaws
 pub mod TakeLaws
 pub mod JoinLaws
+pub mod PlainLaws

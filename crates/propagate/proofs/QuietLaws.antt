@@ -12,7 +12,7 @@ use Rattle.std.proofs.lemmas.Bool.{cases_eq, false≢true, or_cases, or_left, or
 use Rattle.std.proofs.Math.ListN.{get_or-eq_default}
 
 -- a clause with a true literal says nothing
-true_is_quiet : (lits c : List ℕ) → IsConsistent lits → HasTrue lits c → IsQuietFor lits c
+pub true_is_quiet : (lits c : List ℕ) → IsConsistent lits → HasTrue lits c → IsQuietFor lits c
 true_is_quiet lits c consistent (y, in_c, is_true) = record {
   not_false = λ all. consistent y is_true (all y in_c);
   unit_true = λ x x_in others. elim (cases_eq y x) [
@@ -74,7 +74,7 @@ held_is_quiet a v w k consistent all (fixed h) = true_is_quiet a.lits (clause_at
 held_is_quiet a v w k consistent all (paired p) = paired_is_quiet a v w k consistent all p
 
 -- what holds at each place holds of all
-all_by_place : (P : List ℕ → Type 0) (clauses : List (List ℕ)) → ((k : ℕ) → k < length clauses → P (clause_at clauses k)) → AllByRecursion P clauses
+pub all_by_place : (P : List ℕ → Type 0) (clauses : List (List ℕ)) → ((k : ℕ) → k < length clauses → P (clause_at clauses k)) → AllByRecursion P clauses
 all_by_place P [] each = tt
 all_by_place P (c ∷ clauses) each = (each 0 (omega arith), all_by_place P clauses (λ k h. each (suc k) (omega (arith, h))))
 

@@ -7,3 +7,4 @@ pub mod Visiting
 pub mod Running
 pub mod Attaching
 pub mod Joining
+pub mod Plain

@@ -1,7 +1,7 @@
 -- What an engine keeps, and what a run over its trail does.
 --     IsEngine s v refuted       how the parts of an engine fit together
 --     Ran s t from to            the trail was visited from one place to another
-use Rattle.std.specs.Prelude.{◌≡◌, ℕ, ◌+◌, ◌^◌, ◌<◌, true, List, Option, Some, None, length, take, slice_index, slice_index_or}
+use Rattle.std.specs.Prelude.{◌≡◌, ℕ, ◌+◌, ◌^◌, ◌<◌, ◌≤◌, true, List, Option, Some, None, length, take, slice_index, slice_index_or}
 use Rattle.clause_pool.specs.Clause.{has}
 use Rattle.propagate.specs.Trail.{AllFalse}
 use Rattle.propagate.specs.Assignment.{Assigned, end_of}
@@ -18,6 +18,7 @@ visits heads head = record { heads = heads; head = head }
 pub record IsEngine (s : Scene) (v : Visits) (refuted : Option ℕ) : Type 0 where
   pub codes : length s.watching.lists ≡ s.assigned.vars + s.assigned.vars
   pub small : s.assigned.vars < 2 ^ 31
+  pub few : length s.watching.clauses ≤ 2 ^ 32
   pub below : (k l : ℕ) → has (clause_at s.watching.clauses k) l ≡ true → l < length s.watching.lists
   pub reasoned : AreReasons s.watching.clauses s.assigned
   pub decided : AreDecided s.assigned

@@ -56,6 +56,13 @@ impl Assignment {
         })
     }
 
+    /// The number of variables.
+    pub(crate) fn vars(&self) -> u32
+        ensures { result ≡ self.now.vars }
+    {
+        self.places.len() as u32
+    }
+
     /// The literals that are true, the earliest first.
     pub(crate) fn lits(&self) -> &[Lit]
         ensures value { result.now ≡ self.now.lits }

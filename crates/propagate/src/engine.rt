@@ -13,6 +13,7 @@ ghost use Rattle.propagate.specs.Watching.{Visits, IsVisiting, IsHeld};
 
 use crate::assignment::Assignment;
 use crate::attach::{first_open, other_late, other_open};
+use crate::plain::run_plainly;
 use crate::visit::{put_only, visit};
 use crate::watch::Watched;
 use crate::watches::WatchedClauses;
@@ -119,6 +120,13 @@ impl Engine {
         self.assignment.end_of(n as usize)
     }
 
+    /// The number of variables.
+    pub fn vars(&self) -> u32
+        ensures { result ≡ self.now.vars }
+    {
+        self.assignment.vars()
+    }
+
     /// The number of attached clauses.
     pub fn clauses(&self) -> usize
         ensures { result ≡ length self.now.clauses }
@@ -205,6 +213,19 @@ impl Engine {
             return Ok(None);
         };
         Ok(Some(clause as usize))
+    }
+
+    /// The same by going through all clauses again and again. It is slow, and takes no memory: what `propagate` means.
+    pub fn propagate_plainly(&mut self, pool: &Pool) -> Result<Option<Ref>, Memory>
+        requires { pool.now.clauses ≡ self.old.clauses }
+        ensures clauses { self.new.clauses ≡ self.old.clauses }
+        ensures extends { Extends self.old self.new }
+        ensures conflict { IfOk result (λ found. IfSome found (λ at. AllFalse self.new.lits (slice_index_or self.new.clauses at []))) }
+        ensures attached { IfOk result (λ found. IfSome found (λ at. at < length self.new.clauses)) }
+        ensures quiet { result ≡ Ok None → Quiet self.new.clauses self.new.lits }
+    {
+        self.assignment.lits();
+        Ok(run_plainly(&mut self.assignment, pool))
     }
 
     /// Takes back all levels behind this one. It takes no memory.

@@ -5,6 +5,7 @@ mod assignment;
 mod attach;
 mod clause_store;
 mod engine;
+mod plain;
 mod visit;
 mod watch;
 mod watches;

@@ -1,4 +1,4 @@
-use Rattle.std.proofs.Common.{rules, ◌≡◌, ℕ, ◌<◌, ◌≤◌, List, length, slice_index, leb, leb-true, sym, subst, arith}
+use Rattle.std.proofs.Common.{rules, ℕ, ◌<◌, ◌≤◌, List, length, slice_index, leb, leb-true, arith}
 use Rattle.std.proofs.lemmas.Bool.{leb-false}
 use Rattle.std.specs.List.Sorted.{IsNonDecreasingBy}
 use Rattle.std.proofs.lemmas.List.Sorted.{IsPartitionPoint-from_clause, IsPartitionedBy-leb}

@@ -44,6 +44,7 @@ invariant_of-self-then-not-branch c = (
       (λ l is_in.
       let b = c.requires.below l (subst (λ (xs : List ℕ). has xs l ≡ true) c.lits-2.ensures.clause is_in) in
       omega (arith, b, c.self.invariant.0.codes, ap (λ (t : Trail). t.vars) c.self.view_is))
+      (omega (arith, c.in-Ok.ensures, c.requires.next, ap (λ (t : Trail). length t.clauses) c.self.view_is))
       c.in-Ok.clause (omega (arith, c.in-Ok.ensures, c.requires.next, ap (λ (t : Trail). length t.clauses) c.self.view_is)) (c.in_ok-join.ensures.refuted (ap Ok c.if-not-branch.true)),
   omega (arith, c.self.invariant.1, ap (λ (a : Assigned). a.vars) c.in_ok-join.ensures.joined.grown.is),
 )
@@ -55,6 +56,7 @@ invariant_of-self-else-not-branch c = (
       (λ l is_in.
       let b = c.requires.below l (subst (λ (xs : List ℕ). has xs l ≡ true) c.lits-2.ensures.clause is_in) in
       omega (arith, b, c.self.invariant.0.codes, ap (λ (t : Trail). t.vars) c.self.view_is))
+      (omega (arith, c.in-Ok.ensures, c.requires.next, ap (λ (t : Trail). length t.clauses) c.self.view_is))
       (c.in_ok-join.ensures.held (ap Ok c.if-not-branch.false) _ c.self.invariant.0.visiting),
   omega (arith, c.self.invariant.1, ap (λ (a : Assigned). a.vars) c.in_ok-join.ensures.joined.grown.is),
 )
@@ -71,8 +73,9 @@ returns-then-not-branch-clause-trail c =
     joined_trail (scene c.self.inside.assignment c.self.inside.watched) (scene c.join.new.assignment c.join.new.watched) c.lits-2.result.now _ c.self.inside.refuted
     c.in_ok-join.ensures.joined c.lits.ensures.assigned.reasons_counted c.self.invariant.0
     (λ l is_in.
-            let b = c.requires.below l (subst (λ (xs : List ℕ). has xs l ≡ true) c.lits-2.ensures.clause is_in) in
-            omega (arith, b, c.self.invariant.0.codes, ap (λ (t : Trail). t.vars) c.self.view_is))
+    let b = c.requires.below l (subst (λ (xs : List ℕ). has xs l ≡ true) c.lits-2.ensures.clause is_in) in
+    omega (arith, b, c.self.invariant.0.codes, ap (λ (t : Trail). t.vars) c.self.view_is))
+    (omega (arith, c.in-Ok.ensures, c.requires.next, ap (λ (t : Trail). length t.clauses) c.self.view_is))
     c.join.ensures.assigned
 
 pub returns-else-not-branch-clause-trail : goal.returns-else-not-branch-clause-trail
@@ -80,6 +83,7 @@ returns-else-not-branch-clause-trail c =
     joined_trail (scene c.self.inside.assignment c.self.inside.watched) (scene c.join.new.assignment c.join.new.watched) c.lits-2.result.now _ c.self.inside.refuted
     c.in_ok-join.ensures.joined c.lits.ensures.assigned.reasons_counted c.self.invariant.0
     (λ l is_in.
-            let b = c.requires.below l (subst (λ (xs : List ℕ). has xs l ≡ true) c.lits-2.ensures.clause is_in) in
-            omega (arith, b, c.self.invariant.0.codes, ap (λ (t : Trail). t.vars) c.self.view_is))
+    let b = c.requires.below l (subst (λ (xs : List ℕ). has xs l ≡ true) c.lits-2.ensures.clause is_in) in
+    omega (arith, b, c.self.invariant.0.codes, ap (λ (t : Trail). t.vars) c.self.view_is))
+    (omega (arith, c.in-Ok.ensures, c.requires.next, ap (λ (t : Trail). length t.clauses) c.self.view_is))
     c.join.ensures.assigned

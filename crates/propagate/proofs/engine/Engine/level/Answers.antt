@@ -1,4 +1,4 @@
-use Rattle.std.proofs.Common.{◌≡◌, subst}
+use Rattle.std.proofs.Common.{subst}
 use Rattle.propagate.specs.Trail.{Trail, IsTrail}
 use Rattle.propagate.specs.Visiting.{scene}
 use Rattle.propagate.proofs.EngineLaws.{is_trail}
