@@ -215,17 +215,17 @@ impl Engine {
         Ok(Some(clause as usize))
     }
 
-    /// The same by going through all clauses again and again. It is slow, and takes no memory: what `propagate` means.
-    pub fn propagate_plainly(&mut self, pool: &Pool) -> Result<Option<Ref>, Memory>
+    /// The same by going through all clauses again and again, which is slow: what `propagate` means. It takes no memory.
+    pub fn propagate_plainly(&mut self, pool: &Pool) -> Option<Ref>
         requires { pool.now.clauses ≡ self.old.clauses }
         ensures clauses { self.new.clauses ≡ self.old.clauses }
         ensures extends { Extends self.old self.new }
-        ensures conflict { IfOk result (λ found. IfSome found (λ at. AllFalse self.new.lits (slice_index_or self.new.clauses at []))) }
-        ensures attached { IfOk result (λ found. IfSome found (λ at. at < length self.new.clauses)) }
-        ensures quiet { result ≡ Ok None → Quiet self.new.clauses self.new.lits }
+        ensures conflict { IfSome result (λ at. AllFalse self.new.lits (slice_index_or self.new.clauses at [])) }
+        ensures attached { IfSome result (λ at. at < length self.new.clauses) }
+        ensures quiet { result ≡ None → Quiet self.new.clauses self.new.lits }
     {
         self.assignment.lits();
-        Ok(run_plainly(&mut self.assignment, pool))
+        run_plainly(&mut self.assignment, pool)
     }
 
     /// Takes back all levels behind this one. It takes no memory.
