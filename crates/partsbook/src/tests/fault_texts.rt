@@ -33,9 +33,10 @@ fn book_kind(number: u32) -> BookKind {
         17 => BookKind::Limit(Which::Codes),
         18 => BookKind::Limit(Which::Supplements),
         19 => BookKind::Limit(Which::Constructs),
-        20 => BookKind::Limit(Which::Modules),
-        21 => BookKind::Limit(Which::Positions),
-        22 => BookKind::Limit(Which::Variants),
+        20 => BookKind::Limit(Which::Groups),
+        21 => BookKind::Limit(Which::Modules),
+        22 => BookKind::Limit(Which::Positions),
+        23 => BookKind::Limit(Which::Variants),
         _ => BookKind::Limit(Which::Choices),
     }
 }
@@ -45,13 +46,13 @@ const BOOK_FAULTS: &[u8] =
 book fault 7 6\nbook fault 7 7\nbook fault 7 8\nbook fault 7 9\nbook fault 7 10\nbook fault 7 11\n\
 book fault 7 12 1\nbook fault 7 12 2 0\nbook fault 7 12 3 5\nbook fault 7 12 4 3\nbook fault 7 12 5 64\n\
 book fault 7 12 6 768\nbook fault 7 13 codes\nbook fault 7 13 supplements\nbook fault 7 13 constructs\n\
-book fault 7 13 modules\nbook fault 7 13 positions\nbook fault 7 13 variants\nbook fault 7 13 choices\n";
+book fault 7 13 groups\nbook fault 7 13 modules\nbook fault 7 13 positions\nbook fault 7 13 variants\nbook fault 7 13 choices\n";
 
 #[test]
 fn faults_of_books(rt: HostRuntime) -> Result<(), Fail> {
     let alloc = rt.alloc();
     let mut all = Text::new(alloc);
-    for number in 0..24u32 {
+    for number in 0..25u32 {
         let kind = book_kind(number);
         let text = book_fault_text(alloc, &BookFault { row: 7, kind })?;
         all.put(text.bytes())?;
