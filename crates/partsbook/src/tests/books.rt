@@ -31,7 +31,7 @@ book,S,1,9^construct,C,*,A+,,^code,a,a~order 1~3~book fault 3 7^\n\
 book,S,1,9^construct,C,*,TRUE,,2^construct,C2,*,TRUE,3,2~order 1~3~book fault 3 9^\n\
 book,S,1,9^code,A,\xff~order 1~3~book fault 0 2^\n\
 \xff~order 1~3~book fault 0 2^\n\
-book,S,1,9,2~order 1~3~book fault 1 6^\n\
+book,S,1,9,2,x~order 1~3~book fault 1 6^\n\
 book,S,1,9^group,G,a~order 1~3~book fault 2 5^\n\
 book,S,1,9^ ^~order 1~3~book fault 2 5^\n\
 book,S,1,9^\"\"^~order 1~3~book fault 2 5^\n\
