@@ -10,3 +10,4 @@ pub mod Codes
 pub mod Pieces
 pub mod Turned
 pub mod MemoryText
+pub mod Deniable

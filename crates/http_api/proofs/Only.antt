@@ -30,4 +30,3 @@ pub only_order : (path : List ℕ) (r : Option Route) → ((number : ℕ) → Le
 only_order path r only (Draft name other) h is = cc
 only_order path r only (Book number other) h is = cc
 only_order path r only (Order number) h is = only number h
-

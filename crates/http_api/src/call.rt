@@ -1,8 +1,9 @@
 //! What a message asks the desk for.
 ghost use Rattle.std.specs.Prelude.{Err};
-ghost use Rattle.pb_base.specs.Answers.{Answers};
+ghost use Rattle.pb_base.specs.Answers.{Answers, IfRefused};
 ghost use Rattle.http_api.specs.Call.{LeadsNowhere, call_at};
 ghost use Rattle.http_api.specs.Path.{path_of};
+ghost use Rattle.http_api.specs.Response.{CanDeny};
 ghost use Rattle.http_api.specs.Route.{Leads};
 ghost use Rattle.http_api.specs.declared.denied.Denied.TheVariants.{NoPath};
 ghost use Rattle.http_api.specs.declared.route.Route.{Route};
@@ -22,6 +23,7 @@ use std::alloc::Global;
 pub fn call_of(alloc: Global, message: &Message) -> Result<Call, Fail<Denied>>
     ensures routed { (route : Route) → Leads (path_of message.now.head.target) route → Answers result (call_at route message.now) }
     ensures lost { LeadsNowhere (path_of message.now.head.target) → Answers result (Err NoPath) }
+    ensures deniable { IfRefused result (λ denied. CanDeny denied message.now.head.target) }
 {
     let routes = Routes::new(alloc)?;
     routes.call_of(alloc, message)
@@ -32,6 +34,7 @@ impl Routes {
     pub fn call_of(&self, alloc: Global, message: &Message) -> Result<Call, Fail<Denied>>
         ensures routed { (route : Route) → Leads (path_of message.now.head.target) route → Answers result (call_at route message.now) }
         ensures lost { LeadsNowhere (path_of message.now.head.target) → Answers result (Err NoPath) }
+        ensures deniable { IfRefused result (λ denied. CanDeny denied message.now.head.target) }
     {
         match self.find(path_of(message.head.target.as_slice())) {
             Some(route) => call_at(alloc, route, message),

@@ -4,7 +4,9 @@ ghost use Rattle.desk_words.specs.Lines.{line, number_behind};
 ghost use Rattle.http_api.specs.ReplyText.{full_line, line_of, missing_line, rest_of};
 ghost use Rattle.desk_words.specs.declared.reply.Reply.{Reply};
 
-use desk_words::{FullOf, Missing, Reply, put_book_fault, put_limit_fault, put_number, put_order_fault};
+use desk_words::{
+    FullOf, Missing, Reply, put_book_fault, put_limit_fault, put_number, put_order_fault,
+};
 use pb_base::{Id, Memory, Text};
 
 /// Puts the line of a reply, where it has one.

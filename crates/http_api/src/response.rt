@@ -63,7 +63,13 @@ impl Routes {
         match denied {
             Denied::WrongMethod => self.wrong_method_response(alloc, path, close, bare),
             Denied::NoPath => denied_with(alloc, Denied::NoPath, Methods::Untold, close, bare),
-            Denied::BadCaller => denied_with(alloc, Denied::BadCaller, Methods::Untold, close, bare),
+            Denied::BadCaller => denied_with(
+                alloc,
+                Denied::BadCaller,
+                Methods::Untold,
+                close,
+                bare,
+            ),
             Denied::BadBody => denied_with(alloc, Denied::BadBody, Methods::Untold, close, bare),
         }
     }

@@ -98,12 +98,32 @@ fn full_router(alloc: Global) -> Result<Router<Kind>, Memory>
 {
     let mut router = Router::new(alloc);
     add(&mut router, "/drafts/{item}", Kind::Draft(DraftPage::Text))?;
-    add(&mut router, "/drafts/{item}/owner", Kind::Draft(DraftPage::Owner))?;
-    add(&mut router, "/drafts/{item}/check", Kind::Draft(DraftPage::Check))?;
-    add(&mut router, "/drafts/{item}/release", Kind::Draft(DraftPage::Release))?;
+    add(
+        &mut router,
+        "/drafts/{item}/owner",
+        Kind::Draft(DraftPage::Owner),
+    )?;
+    add(
+        &mut router,
+        "/drafts/{item}/check",
+        Kind::Draft(DraftPage::Check),
+    )?;
+    add(
+        &mut router,
+        "/drafts/{item}/release",
+        Kind::Draft(DraftPage::Release),
+    )?;
     add(&mut router, "/books/{item}", Kind::Book(BookPage::Text))?;
-    add(&mut router, "/books/{item}/certificate", Kind::Book(BookPage::Certificate))?;
-    add(&mut router, "/books/{item}/withdraw", Kind::Book(BookPage::Withdraw))?;
+    add(
+        &mut router,
+        "/books/{item}/certificate",
+        Kind::Book(BookPage::Certificate),
+    )?;
+    add(
+        &mut router,
+        "/books/{item}/withdraw",
+        Kind::Book(BookPage::Withdraw),
+    )?;
     add(&mut router, "/orders/{item}", Kind::Order)?;
     Ok(router)
 }

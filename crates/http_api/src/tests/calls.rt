@@ -205,3 +205,43 @@ fn one_message_needs_no_routes_of_its_own(rt: HostRuntime) -> Result<(), Fail> {
     );
     Ok(())
 }
+
+// The methods of each path.
+const ALLOWED: &[u8] = b"/drafts/T|GET, PUT
+/drafts/T/owner|GET, POST
+/drafts/T/check|POST
+/drafts/T/release|POST
+/books/1|GET
+/books/1/certificate|GET
+/books/1/withdraw|POST
+/orders/7|GET, PUT";
+
+#[test]
+fn a_wrong_method_is_told_the_right_ones_without_a_body(rt: HostRuntime) -> Result<(), Fail> {
+    let alloc = rt.alloc();
+    let routes = Routes::new(alloc)?;
+    for row in ALLOWED.split(|b| *b == b'\n') {
+        let mut fields = row.split(|b| *b == b'|');
+        let target = fields.next().ok_or("a target")?;
+        let methods = fields.next().ok_or("methods")?;
+        let asked = message(alloc, b"HEAD", target, b"ANNA", b"")?;
+        let Err(Refusal::Refused(denied)) = routes.call_of(alloc, &asked) else {
+            return Err("HEAD is a wrong method".into());
+        };
+        let response = routes.denied_response(
+            alloc,
+            denied,
+            asked.head.target.as_slice(),
+            false,
+            true,
+        )?;
+        let mut want = Text::new(alloc);
+        want.put(
+            b"HTTP/1.1 405 Method Not Allowed\r\nContent-Type: text/plain\r\nContent-Length: 13\r\nAllow: ",
+        )?;
+        want.put(methods)?;
+        want.put(b"\r\n\r\n")?;
+        assert_eq!(rt; response.as_slice(), want.bytes());
+    }
+    Ok(())
+}

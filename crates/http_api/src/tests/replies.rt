@@ -5,7 +5,7 @@ use book_model::LimitFault;
 use book_text::{BookFault, BookKind};
 use desk_words::{FullOf, Missing, Reply};
 use parts_usage::OrderFault;
-use pb_base::{Body, Id, Text, number_within};
+use pb_base::{Body, Id, Text};
 use std::alloc::Global;
 use std::test::Fail;
 
@@ -130,7 +130,11 @@ fn whole(alloc: Global, status: &[u8], kind: &[u8], body: &[u8]) -> Result<Text,
     text.put_number(body.len() as u64)?;
     text.put(b"\r\n\r\n")?;
     for byte in body {
-        text.put(if *byte == b'^' { b"\n" } else { std::slice::from_ref(byte) })?;
+        text.put(if *byte == b'^' {
+            b"\n"
+        } else {
+            std::slice::from_ref(byte)
+        })?;
     }
     Ok(text)
 }
@@ -142,9 +146,58 @@ fn each_reply_has_its_response(rt: HostRuntime) -> Result<(), Fail> {
         let mut fields = row.split(|b| *b == b'|');
         let status = fields.next().ok_or("a status")?;
         let body = fields.next().ok_or("a body")?;
-        let kind = if place == 4 { b"text/csv".as_slice() } else { b"text/plain".as_slice() };
+        let kind = if place == 4 {
+            b"text/csv".as_slice()
+        } else {
+            b"text/plain".as_slice()
+        };
         let response = response_of(alloc, &reply_at(alloc, place)?, false, false)?;
-        assert_eq!(rt; response.as_slice(), whole(alloc, status, kind, body)?.bytes());
+        assert_eq!(rt;
+            response.as_slice(),
+            whole(alloc, status, kind, body)?.bytes()
+        );
+    }
+    Ok(())
+}
+
+#[test]
+fn want_of_memory_has_its_response_ready(rt: HostRuntime) -> Result<(), Fail> {
+    let alloc = rt.alloc();
+    for (close, bare) in [(false, false), (false, true), (true, false), (true, true)] {
+        let response = response_of(alloc, &Reply::Memory, close, bare)?;
+        assert_eq!(rt; response.as_slice(), memory_response(close, bare));
+    }
+    Ok(())
+}
+
+#[test]
+fn what_is_no_message_closes_the_connection(rt: HostRuntime) -> Result<(), Fail> {
+    let alloc = rt.alloc();
+    for (status, want) in [
+        (
+            400,
+            "400 Bad Request\r\nContent-Type: text/plain\r\nContent-Length: 12\r\nConnection: close\r\n\r\nbad request\n",
+        ),
+        (
+            413,
+            "413 Content Too Large\r\nContent-Type: text/plain\r\nContent-Length: 15\r\nConnection: close\r\n\r\nbody too large\n",
+        ),
+        (
+            431,
+            "431 Request Header Fields Too Large\r\nContent-Type: text/plain\r\nContent-Length: 15\r\nConnection: close\r\n\r\nhead too large\n",
+        ),
+        (
+            501,
+            "501 Not Implemented\r\nContent-Type: text/plain\r\nContent-Length: 18\r\nConnection: close\r\n\r\ntransfer encoding\n",
+        ),
+    ] {
+        if status == 400 || status == 413 || status == 431 || status == 501 {
+            let response = bad_response(alloc, status)?;
+            assert_eq!(rt;
+                response.as_slice().strip_prefix(b"HTTP/1.1 "),
+                Some(want.as_bytes())
+            );
+        }
     }
     Ok(())
 }
