@@ -9,7 +9,7 @@ use Rattle.pb_base.specs.Rule.{holds}
 use Rattle.pb_base.specs.Sets.{has}
 use Rattle.book_model.specs.Activity.{is_within}
 use Rattle.book_model.specs.Contents.{Contents}
-use Rattle.book_model.specs.Good.{fires, breaks, applies, is_good, is_closed, is_constructible}
+use Rattle.book_model.specs.Good.{fires, breaks, is_met, is_good, is_closed, is_constructible}
 use Rattle.book_model.specs.Parts.{variants_of, is_selected, is_selected_at}
 use Rattle.book_model.specs.Sound.{permits, is_fit, are_fit_from, is_sound}
 use Rattle.book_model.specs.Slices.{periods_of, days_from_to, days_in, AreAlike, IsSteady}
@@ -42,7 +42,7 @@ any_breaks : (d e : ℕ) (x : List Bool) (cs : List Construct) → AllByRecursio
     → list_any (breaks d x) cs ≡ list_any (breaks e x) cs
 any_breaks d e x [] h = refl
 any_breaks d e x (c ∷ cs) h =
-    ap (λ t. (t && applies c.on x && not (holds c.rule x)) || list_any (breaks d x) cs) h.0 ∙ ap (λ t. breaks e x c || t) (any_breaks d e x cs h.1)
+    ap (λ t. (t && not (is_met x c.demand)) || list_any (breaks d x) cs) h.0 ∙ ap (λ t. breaks e x c || t) (any_breaks d e x cs h.1)
 
 selected_at_alike : (d e : ℕ) (x : List Bool) (vs : List Variant) (k : ℕ) → AllByRecursion (IsAlike d e) (map (λ v. days_from_to v.from v.until) vs)
     → option_map_or (is_selected d x) (slice_get vs k) false ≡ option_map_or (is_selected e x) (slice_get vs k) false

@@ -1,3 +1,4 @@
+pub mod BookLimits
 pub mod GroupLemmas
 mod DayOrder
 mod Runs

@@ -4,12 +4,13 @@ use Rattle.std.specs.List.{range_with_len}
 use Rattle.pb_base.specs.Rule.{always}
 use Rattle.book_model.specs.Contents.{Contents}
 use Rattle.book_model.specs.Slices.{days_from_to, slices_of}
+use Rattle.book_model.specs.declared.demand.Demand.TheVariants as demand
 use Rattle.book_model.specs.declared.record.Construct.{Construct}
 use Rattle.book_model.specs.declared.slicing.LimitFault.TheVariants.{Slices}
 
 -- a rule of these days
 abbrev rule_of : ℕ → ℕ → Construct
-rule_of first last = record { id = []; on = None; rule = always; from = first; until = last }
+rule_of first last = record { id = []; demand = demand.Rule None always; from = first; until = last }
 
 -- a book of the days 1 to 100 with these rules
 abbrev book_with : List Construct → Contents

@@ -3,11 +3,12 @@ use Rattle.std.proofs.Common.{◌≡◌, ℕ, zero, suc, Bool, true, false, List
 use Rattle.std.specs.List.{list_all}
 use Rattle.std.specs.Prelude.{codes}
 use Rattle.book_model.specs.Contents.{Contents}
-use Rattle.book_model.specs.Good.{is_closed, is_constructible, is_good}
+use Rattle.book_model.specs.Good.{is_closed, is_met, is_constructible, is_good}
 use Rattle.book_model.specs.Parts.{parts, selected}
 use Rattle.book_model.specs.Sound.{is_sound}
 use Rattle.book_model.specs.Slices.{days_from_to, slices_of}
-use Rattle.book_model.specs.WorkedBook.{an_engine, a_gearbox, one_gearbox, motor, motor_position, m1, m2, book_with, book_t, set_t}
+use Rattle.book_model.specs.declared.demand.Demand.TheVariants.{One, Most}
+use Rattle.book_model.specs.WorkedBook.{an_engine, a_gearbox, one_gearbox, motor, motor_position, m1, m2, book_with, book_t, book_tg, set_t}
 
 -- all sets of n codes
 abbrev sets_of : ℕ → List (List Bool)
@@ -26,6 +27,20 @@ good_sets =
 -- of the 32 sets these eight are good
 eight_good_sets : filter (is_good book_t 1) (sets_of 5) ≡ good_sets
 eight_good_sets = refl
+
+-- groups say the same of them
+the_same_good_sets : filter (is_good book_tg 1) (sets_of 5) ≡ good_sets
+the_same_good_sets = refl
+
+-- of three codes none, one, two and all are present: exactly one, and at most one
+abbrev of_three : List (List Bool)
+of_three = set_t false false false false true ∷ set_t false true false true false ∷ set_t true false true true true ∷ set_t true true true true false ∷ []
+
+exactly_one : map (λ x. is_met x (One (0 ∷ 1 ∷ 2 ∷ []))) of_three ≡ false ∷ true ∷ false ∷ false ∷ []
+exactly_one = refl
+
+at_most_one : map (λ x. is_met x (Most (0 ∷ 1 ∷ 2 ∷ []))) of_three ≡ true ∷ true ∷ false ∷ false ∷ []
+at_most_one = refl
 
 -- the first engine without a gearbox is not closed, with five gears it is; two engines are closed and not constructible
 not_closed : is_closed book_t 1 (set_t true false false false false) ≡ false

@@ -1,8 +1,11 @@
 -- How the contents of a book are told apart: each record by the tuple of its fields.
-use Rattle.std.specs.Prelude.{ℕ, Bool, List, Option, refl}
-use Rattle.std.specs.Coded.{Coded, code_by, coded×, coded_list, coded_option, coded_bool, coded_ℕ}
+use Rattle.std.specs.Prelude.{◌≡◌, ◌⊎◌, ℕ, Bool, List, Option, refl}
+use Rattle.std.proofs.Common.{inl, inr}
+use Rattle.std.specs.Coded.{Coded, code_by, coded×, coded⊎, coded_list, coded_option, coded_bool, coded_ℕ}
 use Rattle.pb_base.specs.Rule.{Rule, rule_code}
 use Rattle.book_model.specs.Contents.{Contents}
+use Rattle.book_model.specs.declared.demand.Demand.{Demand}
+use Rattle.book_model.specs.declared.demand.Demand.TheVariants as demand
 use Rattle.book_model.specs.declared.record.Supplement.{Supplement}
 use Rattle.book_model.specs.declared.record.Construct.{Construct}
 use Rattle.book_model.specs.declared.record.Module.{Module}
@@ -23,11 +26,35 @@ supplement_code =
     (λ t. record { id = t.0; rank = t.1.0; code = t.1.1.0; rule = t.1.1.1.0; from = t.1.1.1.1.0; until = t.1.1.1.1.1 })
     (λ _. refl)
 
+-- a rule with its code, or else the codes of one of the two kinds of groups
+abbrev DemandParts : Type 0
+DemandParts = (Option ℕ × Rule) ⊎ (List ℕ ⊎ List ℕ)
+
+abbrev parts_of : Demand → DemandParts
+parts_of (demand.Rule on f) = inl (on, f)
+parts_of (demand.One group) = inr (inl group)
+parts_of (demand.Most group) = inr (inr group)
+
+abbrev demand_of : DemandParts → Demand
+demand_of (inl r) = demand.Rule r.0 r.1
+demand_of (inr (inl group)) = demand.One group
+demand_of (inr (inr group)) = demand.Most group
+
+pub demand_of-parts_of : (d : Demand) → demand_of (parts_of d) ≡ d
+demand_of-parts_of (demand.Rule on f) = refl
+demand_of-parts_of (demand.One group) = refl
+demand_of-parts_of (demand.Most group) = refl
+
+abbrev pub demand_code : Coded Demand
+demand_code =
+    code_by DemandParts (coded⊎ (coded× (coded_option coded_ℕ) rule_code) (coded⊎ (coded_list coded_ℕ) (coded_list coded_ℕ)))
+    parts_of demand_of demand_of-parts_of
+
 abbrev pub construct_code : Coded Construct
 construct_code =
-    code_by (List ℕ × (Option ℕ × (Rule × (ℕ × ℕ)))) (coded× name_code (coded× (coded_option coded_ℕ) ruled_code))
-    (λ c. (c.id, (c.on, (c.rule, (c.from, c.until)))))
-    (λ t. record { id = t.0; on = t.1.0; rule = t.1.1.0; from = t.1.1.1.0; until = t.1.1.1.1 })
+    code_by (List ℕ × (Demand × (ℕ × ℕ))) (coded× name_code (coded× demand_code (coded× coded_ℕ coded_ℕ)))
+    (λ c. (c.id, (c.demand, (c.from, c.until))))
+    (λ t. record { id = t.0; demand = t.1.0; from = t.1.1.0; until = t.1.1.1 })
     (λ _. refl)
 
 abbrev pub module_code : Coded Module

@@ -2,7 +2,8 @@
 --     variants_of place vs       the places of a position's variants, in record order
 --     is_selected day x v        the variant is active and its formula is true
 --     is_selected_at b day x v   the same of the variant at the place v
---     selected b day x place     the selected variants of a position: none where it is not active
+--     selected_of b day x place  the selected variants of a position that is active
+--     selected b day x place p   the same of any position: none where it is not active
 --     parts b day x              all of them, as lines of position and variant
 use Rattle.std.specs.Prelude.{ℕ, suc, Bool, false, ◌&&◌, ◌==◌, List, [], ◌∷◌, ◌++◌, filter, map, slice_get, if◌then◌else◌}
 use Rattle.std.specs.Option.{option_map_or}
@@ -29,8 +30,11 @@ is_selected_at b day x v = option_map_or (is_selected day x) (slice_get b.varian
 abbrev pub is_active_position : ℕ → Position → Bool
 is_active_position day p = is_within p.from p.until day
 
+abbrev pub selected_of : Contents → ℕ → List Bool → ℕ → List ℕ
+selected_of b day x place = filter (is_selected_at b day x) (variants_of place b.variants)
+
 abbrev pub selected : Contents → ℕ → List Bool → ℕ → Position → List ℕ
-selected b day x place p = if is_active_position day p then filter (is_selected_at b day x) (variants_of place b.variants) else []
+selected b day x place p = if is_active_position day p then selected_of b day x place else []
 
 -- a line of a parts list: the places of a position and of its variant
 pub record PartsLine : Type 0 where

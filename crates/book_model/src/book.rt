@@ -1,6 +1,6 @@
 //! A book that meets its condition.
-ghost use Rattle.std.specs.Prelude.{◌≡◌, ◌<◌, ◌≤◌, length, All, IsTrue};
-ghost use Rattle.pb_base.specs.declared.limits.TheConstants.{MOST_SUPPLEMENTS, MOST_CONSTRUCTS, MOST_MODULES, MOST_POSITIONS, MOST_VARIANTS, MOST_CHOICES};
+ghost use Rattle.std.specs.Prelude.{◌≡◌, ◌+◌, ◌<◌, ◌≤◌, length, All, IsTrue};
+ghost use Rattle.pb_base.specs.declared.limits.TheConstants.{MOST_SUPPLEMENTS, MOST_CONSTRUCTS, MOST_GROUPS, MOST_MODULES, MOST_POSITIONS, MOST_VARIANTS, MOST_CHOICES};
 ghost use Rattle.book_model.specs.BookParts.{contents_of, AreWhole};
 ghost use Rattle.book_model.specs.Book.{IsBook, SupplementFits, ConstructFits, PositionFits, VariantFits};
 ghost use Rattle.book_model.specs.Parts.{variants_of};
@@ -96,11 +96,11 @@ impl Book {
         &self.parts.supplements
     }
 
-    /// The constructibility rules, in record order.
+    /// The constructibility rules, groups among them, in record order.
     pub fn constructs(&self) -> &[Construct]
         ensures value { result.now ≡ self.now.constructs }
         ensures fit { All (ConstructFits (length self.now.codes)) result.now }
-        ensures limit { length result.now ≤ MOST_CONSTRUCTS }
+        ensures limit { length result.now ≤ MOST_CONSTRUCTS + MOST_GROUPS }
     {
         &self.parts.constructs
     }

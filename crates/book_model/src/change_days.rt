@@ -1,9 +1,7 @@
 //! The days on which the active records of a book change.
-ghost use Rattle.std.specs.Prelude.{◌≡◌, ◌≤◌, ◌<◌, ◌+◌, ◌*◌, ◌-◌, ◌^◌, ◌&&◌, suc, ℕ, [], IfOk, OnOk, length, filter, vec_len};
-ghost use Rattle.std.specs.List.{range_with_len};
-ghost use Rattle.book_model.specs.Activity.{is_within};
-ghost use Rattle.book_model.specs.Slices.{changes_at};
-ghost use Rattle.book_model.specs.DayLists.{AddsDays, is_day_of, turns_within};
+ghost use Rattle.std.specs.Prelude.{◌≡◌, ◌≤◌, ◌+◌, ◌*◌, [], IfOk, OnOk, length, filter, vec_len};
+ghost use Rattle.book_model.specs.Slices.{changes_at, days_in};
+ghost use Rattle.book_model.specs.DayLists.{AddsDays, is_day_of, turns_within, changes_within};
 
 use crate::activity::active;
 use crate::record::Slice;
@@ -13,7 +11,7 @@ use std::alloc::Global;
 /// The days of a term, in order, on which one of these periods begins or has ended the day before, and the first day of the term.
 pub fn change_days(alloc: Global, term: Slice, periods: &[Slice]) -> Result<Vec<Day>, Memory>
     requires { term.first ≤ term.last }
-    ensures days { IfOk result (λ days. days.items ≡ filter (changes_at term.first periods.now) (range_with_len term.first (suc (term.last - term.first)))) }
+    ensures days { IfOk result (λ days. days.items ≡ filter (changes_at term.first periods.now) (days_in term)) }
     ensures count { IfOk result (λ days. vec_len days ≤ 2 * length periods.now + 1) }
 {
     let mut days = turning_days(alloc, term, periods)?;
@@ -25,7 +23,8 @@ pub fn change_days(alloc: Global, term: Slice, periods: &[Slice]) -> Result<Vec<
 // The same days in no order, some of them more than once.
 fn turning_days(alloc: Global, term: Slice, periods: &[Slice]) -> Result<Vec<Day>, Memory>
     requires { term.first ≤ term.last }
-    ensures { IfOk result (λ days. AddsDays [] days.items (2 * length periods.now + 1) (λ day. is_within term.first term.last day && changes_at term.first periods.now day)) }
+    ensures { let most = 2 * length periods.now + 1 in
+        IfOk result (λ days. AddsDays [] days.items most (changes_within term periods.now)) }
 {
     let mut days = Vec::new(alloc);
     days.push(term.first)?;

@@ -1,8 +1,8 @@
 //! Which sets of codes a book allows on a day.
-ghost use Rattle.std.specs.Prelude.{◌≡◌, not, ◌<◌, length, All, IfSome};
+ghost use Rattle.std.specs.Prelude.{◌≡◌, length, All};
 ghost use Rattle.std.specs.List.{list_any};
 ghost use Rattle.book_model.specs.Book.{SupplementFits, ConstructFits};
-ghost use Rattle.book_model.specs.Good.{fires, breaks, applies, is_good};
+ghost use Rattle.book_model.specs.Good.{fires, breaks, is_good};
 
 use crate::activity::active;
 use crate::book::Book;
@@ -43,22 +43,10 @@ pub fn fires(supplement: &Supplement, day: Day, set: &CodeSet) -> bool
         && !set.has(supplement.code)
 }
 
-/// Whether a set breaks a constructibility rule: it is active, its code is present or it is a rule of no code, and its formula is false.
+/// Whether a set breaks a constructibility rule: it is active, and its demand is not met.
 pub fn breaks(construct: &Construct, day: Day, set: &CodeSet) -> bool
     requires { ConstructFits (length set.now) construct.now }
     ensures { result ≡ breaks day set.now construct.now }
 {
-    active(construct.from, construct.until, day)
-        && applies(construct.on, set)
-        && !construct.rule.holds(set)
-}
-
-fn applies(on: Option<u32>, set: &CodeSet) -> bool
-    requires { IfSome on (λ code. code < length set.now) }
-    ensures { result ≡ applies on set.now }
-{
-    match on {
-        Some(code) => set.has(code),
-        None => true,
-    }
+    active(construct.from, construct.until, day) && !construct.demand.is_met(set)
 }

@@ -4,16 +4,20 @@
 mod activity;
 mod book;
 mod change_days;
+mod demand;
 mod good;
 mod groups;
 mod periods;
+mod places;
 mod record;
 mod slicing;
 
 pub use activity::active;
 pub use book::{Book, BookParts};
+pub use demand::Demand;
 pub use good::{breaks, fires, is_good};
 pub use groups::VariantGroups;
+pub use places::Places;
 pub use record::{Construct, Module, Position, Slice, Supplement, Variant};
 pub use slicing::{LimitFault, SliceList, slices};
 

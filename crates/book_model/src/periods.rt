@@ -1,6 +1,6 @@
 //! The days of the records of a book.
 ghost use Rattle.std.specs.Prelude.{◌≡◌, ◌≤◌, ◌+◌, IfOk, map, vec_len};
-ghost use Rattle.pb_base.specs.declared.limits.TheConstants.{MOST_SUPPLEMENTS, MOST_CONSTRUCTS, MOST_POSITIONS, MOST_VARIANTS};
+ghost use Rattle.pb_base.specs.declared.limits.TheConstants.{MOST_SUPPLEMENTS, MOST_CONSTRUCTS, MOST_GROUPS, MOST_POSITIONS, MOST_VARIANTS};
 ghost use Rattle.book_model.specs.Slices.{days_from_to, periods_of};
 
 use crate::book::Book;
@@ -11,7 +11,8 @@ use std::alloc::Global;
 /// The days of each record that has days, in the order of supplementing rules, constructibility rules, positions and variants.
 pub fn periods_of(alloc: Global, book: &Book) -> Result<Vec<Slice>, Memory>
     ensures value { IfOk result (λ periods. periods.items ≡ periods_of book.now) }
-    ensures limit { IfOk result (λ periods. vec_len periods ≤ MOST_SUPPLEMENTS + MOST_CONSTRUCTS + MOST_POSITIONS + MOST_VARIANTS) }
+    ensures limit { let most_rules = MOST_SUPPLEMENTS + MOST_CONSTRUCTS + MOST_GROUPS in
+        IfOk result (λ periods. vec_len periods ≤ most_rules + MOST_POSITIONS + MOST_VARIANTS) }
 {
     let mut periods = supplement_days(alloc, book.supplements())?;
     let constructs = construct_days(alloc, book.constructs())?;

@@ -1,5 +1,6 @@
 //! The records of a book. Places are counted from 0 in the order of a book's text; days are inclusive at both ends.
 
+use crate::demand::Demand;
 use pb_base::{Day, Formula, Id, Part};
 
 /// A supplementing rule: where it is active and its formula is true, its code is added to an order that lacks it.
@@ -15,13 +16,11 @@ pub struct Supplement {
     pub until: Day,
 }
 
-/// A constructibility rule: where it is active and its code is present, its formula has to hold.
+/// A constructibility rule, which is a rule of a code, a rule of no code or a group of codes: where it is active, its demand has to be met.
 #[derive(Drop)]
 pub struct Construct {
     pub id: Id,
-    /// The place of the code whose presence asks for the formula, or None where the formula has to hold always.
-    pub on: Option<u32>,
-    pub rule: Formula,
+    pub demand: Demand,
     pub from: Day,
     pub until: Day,
 }

@@ -1,5 +1,5 @@
 -- What was done where no fault was found, and what holds at the end of passes without a fault.
-use Rattle.std.proofs.Common.{◌≡◌, ◌+◌, ℕ, List, [], ◌∷◌, Result, Ok, Err, refl, ap, subst}
+use Rattle.std.proofs.Common.{◌≡◌, ◌+◌, ℕ, Bool, true, false, if◌then◌else◌, List, [], ◌∷◌, Result, Ok, Err, refl, ap, subst}
 use Rattle.book_text.specs.Rows.{Row}
 use Rattle.pb_base.specs.Results.{and_then}
 use Rattle.book_text.specs.Fault.{at_row}
@@ -14,6 +14,23 @@ and_then-Ok (Err fault) f b h = cc
 pub at_row-Ok : {A : Type 0} (n : ℕ) (r : Result A BookKind) (a : A) → at_row n r ≡ Ok a → r ≡ Ok a
 at_row-Ok n (Ok a) b h = let same : a ≡ b = cc in ap (λ v. Ok v) same
 at_row-Ok n (Err kind) b h = cc
+
+-- what is true of the value, if there is no fault
+abbrev pub Says : {A : Type 0} → (A → Type 0) → Result A BookKind → Type 0
+Says P (Ok value) = P value
+Says P (Err kind) = Unit {0}
+
+pub says-then : {A B : Type 0} (P : B → Type 0) (r : Result A BookKind) (f : A → Result B BookKind) → ((a : A) → r ≡ Ok a → Says P (f a)) → Says P (and_then r f)
+says-then P (Ok a) f h = h a refl
+says-then P (Err kind) f h = tt
+
+pub says-if : {A : Type 0} (P : A → Type 0) (b : Bool) (said : Result A BookKind) (kind : BookKind) → Says P said → Says P (if b then said else Err kind)
+says-if P true said kind h = h
+says-if P false said kind h = tt
+
+pub says-else : {A : Type 0} (P : A → Type 0) (b : Bool) (said : Result A BookKind) (kind : BookKind) → (b ≡ false → Says P said) → Says P (if b then Err kind else said)
+says-else P true said kind h = tt
+says-else P false said kind h = h refl
 
 -- what holds of a state and stays so at each row holds at the end
 pub pass-keeps : {S : Type 0} (step : S → Row → Result S BookKind) (P : S → Type 0)

@@ -2,6 +2,9 @@ pub mod RowsLemmas
 pub mod FieldLemmas
 pub mod PassLemmas
 pub mod ChoiceLemmas
+pub mod GroupLemmas
+pub mod PlaceLemmas
+pub mod GroupLaw
 mod Worked
 pub mod DistinctLemmas
 pub mod Faultless

@@ -7,11 +7,11 @@ use Rattle.pb_base.specs.Results.{and_then}
 use Rattle.pb_base.specs.declared.limits.TheConstants.{MOST_TEXT_BYTES}
 use Rattle.book_text.specs.Fault.{at_row}
 use Rattle.book_text.specs.Pass.{pass}
-use Rattle.book_text.specs.Entry.{entry_of, rule_text_of}
+use Rattle.book_text.specs.Entry.{entry_of, text_of}
 use Rattle.book_text.specs.Records.{Records}
 use Rattle.book_text.specs.Said.{AreSaid, said_pass}
 use Rattle.book_text.specs.SecondPass.{resolved, resolved_row}
-use Rattle.book_text.specs.declared.fields.Days.{Days}
+use Rattle.book_text.specs.declared.entry.Heading.{Heading}
 use Rattle.book_text.specs.declared.names.Names.{Names}
 use Rattle.book_text.specs.declared.entry.Entry.{Entry}
 use Rattle.book_text.specs.declared.entry.Entry.TheVariants as e
@@ -38,43 +38,43 @@ same-after n (Ok state) f g h = h state
 same-after n (Err kind) f g h = refl
 
 -- the second pass over the rows is that over what they say
-pub rows-said : (term : Days) (names : Names) (n : ℕ) (r : Records) (rows : List Row) (entries : List Entry) (texts : List (List ℕ)) → AreSaid term rows entries texts
-    → pass (resolved_row term names) n r rows ≡ said_pass names n r entries texts
+pub rows-said : (heading : Heading) (names : Names) (n : ℕ) (r : Records) (rows : List Row) (entries : List Entry) (texts : List (List ℕ)) → AreSaid heading rows entries texts
+    → pass (resolved_row heading names) n r rows ≡ said_pass names n r entries texts
 unfolding pass AreSaid
-rows-said term names n r [] [] [] h = refl
-rows-said term names n r [] [] (text ∷ texts) h = absurd h
-rows-said term names n r [] (entry ∷ entries) texts h = absurd h
-rows-said term names n r (row ∷ rows) [] texts h = absurd h
-rows-said term names n r (row ∷ rows) (entry ∷ entries) [] h = absurd h
-rows-said term names n r (row ∷ rows) (entry ∷ entries) (text ∷ texts) (said, is, more) =
+rows-said heading names n r [] [] [] h = refl
+rows-said heading names n r [] [] (text ∷ texts) h = absurd h
+rows-said heading names n r [] (entry ∷ entries) texts h = absurd h
+rows-said heading names n r (row ∷ rows) [] texts h = absurd h
+rows-said heading names n r (row ∷ rows) (entry ∷ entries) [] h = absurd h
+rows-said heading names n r (row ∷ rows) (entry ∷ entries) (text ∷ texts) (said, is, more) =
     rw (said, is) (
-    same-after n (resolved names r entry (rule_text_of entry row))
-    (λ next. pass (resolved_row term names) (n + 1) next rows)
+    same-after n (resolved names r entry (text_of entry row))
+    (λ next. pass (resolved_row heading names) (n + 1) next rows)
     (λ next. said_pass names (n + 1) next entries texts)
-    (λ next. rows-said term names (n + 1) next rows entries texts more))
+    (λ next. rows-said heading names (n + 1) next rows entries texts more))
 
 -- the rows say as many records, with as many texts
-pub said-counts : (term : Days) (rows : List Row) (entries : List Entry) (texts : List (List ℕ)) → AreSaid term rows entries texts
+pub said-counts : (heading : Heading) (rows : List Row) (entries : List Entry) (texts : List (List ℕ)) → AreSaid heading rows entries texts
     → (length entries ≡ length rows) × (length texts ≡ length rows)
 unfolding AreSaid
-said-counts term [] [] [] h = (refl, refl)
-said-counts term [] [] (text ∷ texts) h = absurd h
-said-counts term [] (entry ∷ entries) texts h = absurd h
-said-counts term (row ∷ rows) [] texts h = absurd h
-said-counts term (row ∷ rows) (entry ∷ entries) [] h = absurd h
-said-counts term (row ∷ rows) (entry ∷ entries) (text ∷ texts) (said, is, more) =
-    let rest = said-counts term rows entries texts more in (omega (arith, rest.0), omega (arith, rest.1))
+said-counts heading [] [] [] h = (refl, refl)
+said-counts heading [] [] (text ∷ texts) h = absurd h
+said-counts heading [] (entry ∷ entries) texts h = absurd h
+said-counts heading (row ∷ rows) [] texts h = absurd h
+said-counts heading (row ∷ rows) (entry ∷ entries) [] h = absurd h
+said-counts heading (row ∷ rows) (entry ∷ entries) (text ∷ texts) (said, is, more) =
+    let rest = said-counts heading rows entries texts more in (omega (arith, rest.0), omega (arith, rest.1))
 
 -- one row more, and what it says
-pub said-push : (term : Days) (rows : List Row) (entries : List Entry) (texts : List (List ℕ)) (row : Row) (entry : Entry)
-    → AreSaid term rows entries texts → entry_of term row ≡ Ok entry → AreSaid term (rows ++ row ∷ []) (entries ++ entry ∷ []) (texts ++ rule_text_of entry row ∷ [])
+pub said-push : (heading : Heading) (rows : List Row) (entries : List Entry) (texts : List (List ℕ)) (row : Row) (entry : Entry)
+    → AreSaid heading rows entries texts → entry_of heading row ≡ Ok entry → AreSaid heading (rows ++ row ∷ []) (entries ++ entry ∷ []) (texts ++ text_of entry row ∷ [])
 unfolding AreSaid
-said-push term [] [] [] row entry h is = (is, refl, tt)
-said-push term [] [] (t ∷ texts) row entry h is = absurd h
-said-push term [] (x ∷ entries) texts row entry h is = absurd h
-said-push term (r ∷ rows) [] texts row entry h is = absurd h
-said-push term (r ∷ rows) (x ∷ entries) [] row entry h is = absurd h
-said-push term (r ∷ rows) (x ∷ entries) (t ∷ texts) row entry (said, text, more) is = (said, text, said-push term rows entries texts row entry more is)
+said-push heading [] [] [] row entry h is = (is, refl, tt)
+said-push heading [] [] (t ∷ texts) row entry h is = absurd h
+said-push heading [] (x ∷ entries) texts row entry h is = absurd h
+said-push heading (r ∷ rows) [] texts row entry h is = absurd h
+said-push heading (r ∷ rows) (x ∷ entries) [] row entry h is = absurd h
+said-push heading (r ∷ rows) (x ∷ entries) (t ∷ texts) row entry (said, text, more) is = (said, text, said-push heading rows entries texts row entry more is)
 
 -- what is left of two lists, side by side, from a place in both on
 zip-drop : {X Y : Type 0} (xs : List X) (ys : List Y) (k : ℕ) (x : X) (y : Y) → k < length xs → k < length ys
@@ -112,11 +112,12 @@ module _ (names : Names) (k : ℕ) (r : Records) (entries : List Entry) (texts :
       ap (λ (said : List (Entry × List ℕ)). pass (λ state said. resolved names state said.0 said.1) (k + 2) r said) none
       ∙ pass-end (λ state (said : Entry × List ℕ). resolved names state said.0 said.1) (k + 2) r
 
--- the text of a rule is as short as the fields of its row
-pub rule_text-short : (entry : Entry) (row : Row) → IsShort row → length (rule_text_of entry row) ≤ MOST_TEXT_BYTES
-rule_text-short (e.Code name) row h = omega arith
-rule_text-short (e.Supplement id rank code days) row h = h 4
-rule_text-short (e.Construct id on days) row h = h 3
-rule_text-short (e.Module id) row h = omega arith
-rule_text-short (e.Position id group mandatory days) row h = omega arith
-rule_text-short (e.Variant id position part quantity days) row h = h 5
+-- the text beside a record is as short as the fields of its row
+pub text-short : (entry : Entry) (row : Row) → IsShort row → length (text_of entry row) ≤ MOST_TEXT_BYTES
+text-short (e.Code name) row h = omega arith
+text-short (e.Supplement id rank code days) row h = h 4
+text-short (e.Construct id on days) row h = h 3
+text-short (e.Group id kind days) row h = h 3
+text-short (e.Module id) row h = omega arith
+text-short (e.Position id group mandatory days) row h = omega arith
+text-short (e.Variant id position part quantity days) row h = h 5

@@ -21,8 +21,8 @@ use Rattle.book_text.specs.declared.fault.BookKind.TheVariants.{TooLarge, NotUtf
 -- the book of a heading and the rows behind it
 abbrev pub book_behind : Heading → List Row → Result Contents BookFault
 book_behind heading rows =
-    and_then (first_pass heading.term rows) (λ names.
-    and_then (second_pass heading.term names rows) (λ records.
+    and_then (first_pass heading rows) (λ names.
+    and_then (second_pass heading names rows) (λ records.
     Ok (book_with heading names records)))
 
 abbrev pub book_of_rows : List Row → Result Contents BookFault

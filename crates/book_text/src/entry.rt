@@ -1,13 +1,14 @@
-//! What a row says by itself: the record of its kind, with names in place of what they stand for. A rule's text stands beside it.
+//! What a row says by itself: the record of its kind, with names in place of what they stand for. The text of a rule, or of a group's codes, stands beside it.
 ghost use Rattle.std.specs.Prelude.{◌≡◌};
 ghost use Rattle.csv.specs.Records.{fields_of};
-ghost use Rattle.book_text.specs.Entry.{heading_of, entry_of, rule_text_of, code_in, supplement_in, construct_in, module_record_in, position_in, variant_in};
+ghost use Rattle.book_text.specs.Entry.{heading_of, entry_of, text_of, code_in, supplement_in, construct_in, group_in, module_record_in, position_in, variant_in};
 
 use crate::fault::BookKind;
 use crate::fields::{
-    Days, code_name_in, code_or_star_in, days_in, field, is_mandatory_in, is_width, module_in,
-    name_in, number_in, part_in, term_in,
+    Days, Form, GroupKind, code_name_in, code_or_star_in, day_in, days_in, field, form_in,
+    group_kind_in, is_mandatory_in, is_width, module_in, name_in, number_in, part_in, term_of,
 };
+use crate::group::is_group;
 use crate::kind::{Kind, kind_of};
 use csv::ByteRecord;
 use pb_base::{CodeName, Id, Part};
@@ -17,6 +18,7 @@ use pb_base::{CodeName, Id, Part};
 pub struct Heading {
     pub name: Id,
     pub term: Days,
+    pub form: Form,
 }
 
 /// A record other than the `book` record.
@@ -34,6 +36,11 @@ pub enum Entry {
     Construct {
         id: Id,
         on: Option<CodeName>,
+        days: Days,
+    },
+    Group {
+        id: Id,
+        kind: GroupKind,
         days: Days,
     },
     Module {
@@ -62,37 +69,45 @@ pub fn heading_of(row: &ByteRecord) -> Result<Heading, BookKind>
         Some(Kind::Book) => {}
         _ => return Err(BookKind::NoBookRecord),
     }
-    if !is_width(row, 4) {
+    if !is_width(row, 4) && !is_width(row, 5) {
         return Err(BookKind::FieldCount);
     }
     let name = name_in(field(row, 1))?;
-    let term = term_in(field(row, 2), field(row, 3))?;
-    Ok(Heading { name, term })
+    let from = day_in(field(row, 2))?;
+    let until = day_in(field(row, 3))?;
+    let form = form_in(field(row, 4))?;
+    let term = term_of(from, until)?;
+    Ok(Heading { name, term, form })
 }
 
-/// The record of a further row, in a book of this term.
-pub fn entry_of(term: Days, row: &ByteRecord) -> Result<Entry, BookKind>
-    ensures { result ≡ entry_of term (fields_of row.now) }
+/// The record of a further row, in a book of this heading.
+pub fn entry_of(heading: &Heading, row: &ByteRecord) -> Result<Entry, BookKind>
+    ensures { result ≡ entry_of heading.now (fields_of row.now) }
 {
+    let term = heading.term;
     match kind_of(field(row, 0)) {
         None => Err(BookKind::UnknownKind),
         Some(Kind::Book) => Err(BookKind::SecondBookRecord),
         Some(Kind::Code) => code_in(row),
         Some(Kind::Supplement) => supplement_in(term, row),
         Some(Kind::Construct) => construct_in(term, row),
+        Some(Kind::Group) => match heading.form {
+            Form::One => Err(BookKind::UnknownKind),
+            Form::Two => group_in(term, row),
+        },
         Some(Kind::Module) => module_record_in(row),
         Some(Kind::Position) => position_in(term, row),
         Some(Kind::Variant) => variant_in(term, row),
     }
 }
 
-/// The text of the rule that stands in a row beside its record; an empty one where a record of the kind has no rule.
-pub fn rule_text_of<'r>(entry: &Entry, row: &'r ByteRecord) -> &'r [u8]
-    ensures { result.now ≡ rule_text_of entry.now (fields_of row.now) }
+/// The text that stands in a row beside its record: of its rule, or of a group's codes; an empty one where a record of the kind has neither.
+pub fn text_of<'r>(entry: &Entry, row: &'r ByteRecord) -> &'r [u8]
+    ensures { result.now ≡ text_of entry.now (fields_of row.now) }
 {
     match entry {
         Entry::Supplement { .. } => field(row, 4),
-        Entry::Construct { .. } => field(row, 3),
+        Entry::Construct { .. } | Entry::Group { .. } => field(row, 3),
         Entry::Variant { .. } => field(row, 5),
         Entry::Code { .. } | Entry::Module { .. } | Entry::Position { .. } => &[],
     }
@@ -136,6 +151,21 @@ fn construct_in(term: Days, row: &ByteRecord) -> Result<Entry, BookKind>
     let on = code_or_star_in(field(row, 2))?;
     let days = days_in(term, field(row, 4), field(row, 5))?;
     Ok(Entry::Construct { id, on, days })
+}
+
+fn group_in(term: Days, row: &ByteRecord) -> Result<Entry, BookKind>
+    ensures { result ≡ group_in term (fields_of row.now) }
+{
+    if !is_width(row, 6) {
+        return Err(BookKind::FieldCount);
+    }
+    let id = name_in(field(row, 1))?;
+    let kind = group_kind_in(field(row, 2))?;
+    if !is_group(field(row, 3)) {
+        return Err(BookKind::BadName);
+    }
+    let days = days_in(term, field(row, 4), field(row, 5))?;
+    Ok(Entry::Group { id, kind, days })
 }
 
 fn module_record_in(row: &ByteRecord) -> Result<Entry, BookKind>

@@ -49,6 +49,7 @@ pub enum Which {
     Codes,
     Supplements,
     Constructs,
+    Groups,
     Modules,
     Positions,
     Variants,

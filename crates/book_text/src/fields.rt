@@ -1,7 +1,7 @@
 //! The fields of a row, each read by its form.
 ghost use Rattle.std.specs.Prelude.{◌≡◌};
 ghost use Rattle.csv.specs.Records.{fields_of};
-ghost use Rattle.book_text.specs.Fields.{name_in, code_name_in, code_or_star_in, part_in, module_in, is_mandatory_in, number_in, day_in, day_or, term_in, days_in, field, is_width};
+ghost use Rattle.book_text.specs.Fields.{name_in, code_name_in, code_or_star_in, part_in, module_in, is_mandatory_in, group_kind_in, form_in, number_in, day_in, day_or, term_of, days_in, field, is_width};
 
 use crate::fault::BookKind;
 use csv::ByteRecord;
@@ -13,6 +13,20 @@ use pb_base::{CodeName, Id, Part, short_number};
 pub struct Days {
     pub from: u32,
     pub until: u32,
+}
+
+/// The form of a book's text. Groups of codes come with the second.
+#[derive(Clone, Copy)]
+pub enum Form {
+    One,
+    Two,
+}
+
+/// What a group demands: that exactly one of its codes is present, or at most one.
+#[derive(Clone, Copy)]
+pub enum GroupKind {
+    One,
+    Most,
 }
 
 /// The field at a place, counted from 0; an empty one where the row ends before it.
@@ -101,6 +115,31 @@ pub fn is_mandatory_in(text: &[u8]) -> Result<bool, BookKind>
     }
 }
 
+pub fn group_kind_in(text: &[u8]) -> Result<GroupKind, BookKind>
+    ensures { result ≡ group_kind_in text.now }
+{
+    if text == b"one".as_slice() {
+        Ok(GroupKind::One)
+    } else if text == b"most".as_slice() {
+        Ok(GroupKind::Most)
+    } else {
+        Err(BookKind::BadName)
+    }
+}
+
+/// The form of a book, which is the first for an empty field.
+pub fn form_in(text: &[u8]) -> Result<Form, BookKind>
+    ensures { result ≡ form_in text.now }
+{
+    if text.is_empty() || text == b"1".as_slice() {
+        Ok(Form::One)
+    } else if text == b"2".as_slice() {
+        Ok(Form::Two)
+    } else {
+        Err(BookKind::BadNumber)
+    }
+}
+
 /// A number of 1 to 5 digits from `low` to `high`.
 pub fn number_in(low: u32, high: u32, text: &[u8]) -> Result<u32, BookKind>
     ensures { result ≡ number_in low high text.now }
@@ -127,12 +166,10 @@ pub fn day_or(other: u32, text: &[u8]) -> Result<u32, BookKind>
     day_in(text)
 }
 
-/// The term of a book.
-pub fn term_in(first: &[u8], last: &[u8]) -> Result<Days, BookKind>
-    ensures { result ≡ term_in first.now last.now }
+/// The term of a book with these days.
+pub fn term_of(from: u32, until: u32) -> Result<Days, BookKind>
+    ensures { result ≡ term_of from until }
 {
-    let from = day_in(first)?;
-    let until = day_in(last)?;
     if until < from {
         return Err(BookKind::BadDays);
     }

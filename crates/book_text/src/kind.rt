@@ -8,6 +8,7 @@ pub enum Kind {
     Code,
     Supplement,
     Construct,
+    Group,
     Module,
     Position,
     Variant,
@@ -29,6 +30,8 @@ pub fn kind_of(word: &[u8]) -> Option<Kind>
         Some(Kind::Code)
     } else if word == b"module".as_slice() {
         Some(Kind::Module)
+    } else if word == b"group".as_slice() {
+        Some(Kind::Group)
     } else if word == b"book".as_slice() {
         Some(Kind::Book)
     } else {

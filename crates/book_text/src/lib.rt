@@ -1,9 +1,11 @@
 //! Reads the text of a book: the whole book, or its first fault.
 #![tactic(auto)]
 
+mod construct_ids;
 mod entry;
 mod fault;
 mod fields;
+mod group;
 mod kind;
 mod names;
 mod partial_book;

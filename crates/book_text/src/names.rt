@@ -1,15 +1,14 @@
 //! The names that the rows of a text give, each told apart from those before it.
-ghost use Rattle.std.specs.Prelude.{◌≡◌, ◌+◌, ◌<◌, ◌^◌, is_some, if◌then◌else◌};
-ghost use Rattle.pb_base.specs.Answers.{Leaves};
+ghost use Rattle.std.specs.Prelude.{◌≡◌, ◌+◌, ◌<◌, ◌^◌, false, Ok, OnErr, is_some, length, if◌then◌else◌};
+ghost use Rattle.pb_base.specs.Answers.{Answers, Leaves};
 ghost use Rattle.pb_base.specs.Names.{place_in};
 ghost use Rattle.pb_base.specs.declared.limits.TheConstants.{MOST_CODES};
-ghost use Rattle.book_text.specs.Names.{no_names, added, entered};
+ghost use Rattle.book_text.specs.Names.{no_names, added, added_where, beside, entered};
 
+use crate::construct_ids::ConstructIds;
 use crate::entry::Entry;
 use crate::fault::{BookKind, Which};
-use pb_base::limits::{
-    MOST_CODES, MOST_CONSTRUCTS, MOST_MODULES, MOST_POSITIONS, MOST_SUPPLEMENTS, MOST_VARIANTS,
-};
+use pb_base::limits::{MOST_CODES, MOST_MODULES, MOST_POSITIONS, MOST_SUPPLEMENTS, MOST_VARIANTS};
 use pb_base::{CodeName, CodeTable, Fail, Id, Table};
 use std::alloc::Global;
 
@@ -18,7 +17,8 @@ use std::alloc::Global;
 pub struct Names {
     pub codes: CodeTable,
     pub supplements: Table<Id>,
-    pub constructs: Table<Id>,
+    /// Groups are among them.
+    pub constructs: ConstructIds,
     pub modules: Table<Id>,
     pub positions: Table<Id>,
     pub variants: Table<Id>,
@@ -31,7 +31,7 @@ impl Names {
         Names {
             codes: CodeTable::new(alloc),
             supplements: Table::new(alloc),
-            constructs: Table::new(alloc),
+            constructs: ConstructIds::new(alloc),
             modules: Table::new(alloc),
             positions: Table::new(alloc),
             variants: Table::new(alloc),
@@ -45,7 +45,7 @@ impl Names {
         match entry {
             Entry::Code { name } => add_code(&mut self.codes, *name),
             Entry::Supplement { id, .. } => {
-                if is_taken(&self.constructs, id) {
+                if self.constructs.has(id) {
                     return Err(Fail::Refused(BookKind::Duplicate));
                 }
                 add_id(
@@ -56,15 +56,12 @@ impl Names {
                 )
             }
             Entry::Construct { id, .. } => {
-                if is_taken(&self.supplements, id) {
-                    return Err(Fail::Refused(BookKind::Duplicate));
-                }
-                add_id(
-                    &mut self.constructs,
-                    *id,
-                    MOST_CONSTRUCTS,
-                    Which::Constructs,
-                )
+                new_beside(&self.supplements, id)?;
+                self.constructs.add_rule(*id)
+            }
+            Entry::Group { id, .. } => {
+                new_beside(&self.supplements, id)?;
+                self.constructs.add_group(*id)
             }
             Entry::Module { id } => add_id(&mut self.modules, *id, MOST_MODULES, Which::Modules),
             Entry::Position { id, .. } => {
@@ -97,7 +94,22 @@ fn add_id(ids: &mut Table<Id>, id: Id, limit: usize, which: Which) -> Result<(),
     requires { limit + 1 < 2 ^ 32 }
     ensures { Leaves result ids.new (added limit which ids.old id) }
 {
-    if ids.len() as usize >= limit {
+    let is_full = ids.len() as usize >= limit;
+    add_where(ids, id, is_full, which)
+}
+
+/// Adds an id that is new, unless there is no room for another.
+pub fn add_where(
+    ids: &mut Table<Id>,
+    id: Id,
+    is_full: bool,
+    which: Which,
+) -> Result<(), Fail<BookKind>>
+    requires { is_full ≡ false → length ids.old + 1 < 2 ^ 32 }
+    ensures value { Leaves result ids.new (added_where is_full which ids.old id) }
+    ensures kept { OnErr result (ids.new ≡ ids.old) }
+{
+    if is_full {
         return Err(Fail::Refused(full(is_taken(ids, &id), which)));
     }
     match ids.add(id) {
@@ -106,7 +118,18 @@ fn add_id(ids: &mut Table<Id>, id: Id, limit: usize, which: Which) -> Result<(),
     }
 }
 
-fn is_taken(ids: &Table<Id>, id: &Id) -> bool
+// Refuses an id that others have.
+fn new_beside(others: &Table<Id>, id: &Id) -> Result<(), Fail<BookKind>>
+    ensures { Answers result (beside others.now id.now (Ok tt)) }
+{
+    if is_taken(others, id) {
+        return Err(Fail::Refused(BookKind::Duplicate));
+    }
+    Ok(())
+}
+
+/// Whether an id is there already.
+pub fn is_taken(ids: &Table<Id>, id: &Id) -> bool
     ensures { result ≡ is_some (place_in ids.now id.now) }
 {
     ids.place_of(id).is_some()

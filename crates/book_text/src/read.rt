@@ -82,7 +82,7 @@ fn book_behind(
     requires term { heading.term.from ≤ heading.term.until }
     ensures { Answers result (book_behind heading rows.old) }
 {
-    let survey = first_pass(alloc, heading.term, rows, row)?;
+    let survey = first_pass(alloc, &heading, rows, row)?;
     let partial = second_pass(alloc, &survey)?;
     Ok(whole_book(heading, survey.names, partial))
 }

@@ -5,18 +5,19 @@ ghost use Rattle.csv.specs.Records.{fields_of};
 ghost use Rattle.book_model.specs.Groups.{AreGroups};
 ghost use Rattle.book_text.specs.PartialBook.{records_of, IsGrouped};
 ghost use Rattle.pb_base.specs.declared.limits.TheConstants.{MOST_TEXT_BYTES};
-ghost use Rattle.book_text.specs.SecondPass.{place_of, place_if_named, rule_in, supplement_of, construct_of, position_of, variant_of, with_variant, resolved};
+ghost use Rattle.book_text.specs.SecondPass.{place_of, places_of, place_if_named, rule_in, supplement_of, construct_of, demand_of, group_of, position_of, variant_of, with_variant, resolved};
+ghost use Rattle.book_text.specs.Group.{names_in};
 ghost use Rattle.book_text.specs.Said.{said_pass};
 ghost use Rattle.book_text.specs.Records.{no_records};
 ghost use Rattle.book_text.specs.Rows.{IsShort};
 
 use crate::entry::Entry;
 use crate::fault::{BookFault, BookKind, Which};
-use crate::fields::{Days, field};
+use crate::fields::{Days, GroupKind, field};
 use crate::names::Names;
 use crate::partial_book::PartialBook;
 use crate::survey::Survey;
-use book_model::{Construct, Module, Position, Supplement, Variant, VariantGroups};
+use book_model::{Construct, Demand, Module, Places, Position, Supplement, Variant, VariantGroups};
 use csv::ByteRecord;
 use pb_base::limits::MOST_CHOICES;
 use pb_base::{CodeName, CodeTable, Fail, Formula, Id, Part, Table};
@@ -42,7 +43,7 @@ pub fn second_pass(alloc: Global, survey: &Survey) -> Result<PartialBook, Fail<B
     Ok(book)
 }
 
-// Adds the records that the rows behind the heading say, with the texts of their rules.
+// Adds the records that the rows behind the heading say, with the texts beside them.
 fn resolve_all(
     alloc: Global,
     book: &mut PartialBook,
@@ -71,7 +72,7 @@ fn resolve_all(
     Ok(())
 }
 
-// Adds the record that a row says, whose rule has this text.
+// Adds the record that a row says, with this text beside it.
 fn resolve(
     alloc: Global,
     book: &mut PartialBook,
@@ -100,6 +101,11 @@ fn resolve(
         }
         Entry::Construct { id, on, days } => {
             let record = construct_of(alloc, &names.codes, *id, on, *days, text)?;
+            book.constructs.push(record)?;
+            Ok(())
+        }
+        Entry::Group { id, kind, days } => {
+            let record = group_of(alloc, &names.codes, *id, *kind, *days, text)?;
             book.constructs.push(record)?;
             Ok(())
         }
@@ -205,11 +211,63 @@ fn construct_of(
     let rule = rule_in(alloc, codes, text)?;
     Ok(Construct {
         id,
-        on,
-        rule,
+        demand: Demand::Rule { on, rule },
         from: days.from,
         until: days.until,
     })
+}
+
+fn group_of(
+    alloc: Global,
+    codes: &CodeTable,
+    id: Id,
+    kind: GroupKind,
+    days: Days,
+    text: &[u8],
+) -> Result<Construct, Fail<BookKind>>
+    ensures { Answers result (group_of codes.now id kind days text.now) }
+{
+    let places = places_in(alloc, codes, text)?;
+    Ok(Construct {
+        id,
+        demand: demand_of(kind, places),
+        from: days.from,
+        until: days.until,
+    })
+}
+
+fn demand_of(kind: GroupKind, places: Places) -> Demand
+    ensures { result ≡ demand_of kind places }
+{
+    match kind {
+        GroupKind::One => Demand::One(places),
+        GroupKind::Most => Demand::Most(places),
+    }
+}
+
+// The places of the codes that a group's text names.
+fn places_in(alloc: Global, codes: &CodeTable, text: &[u8]) -> Result<Places, Fail<BookKind>>
+    ensures { Answers result (places_of codes.now (names_in text.now)) }
+{
+    let mut places = Vec::new(alloc);
+    for name in text.split(|b| *b == b'/') {
+        places.push(place_of(codes, name)?)?;
+    }
+    Ok(Places::of(places))
+}
+
+fn place_of(codes: &CodeTable, name: &[u8]) -> Result<u32, Fail<BookKind>>
+    ensures { Answers result (place_of codes.now name.now) }
+{
+    // No code has a name that is none of a code's.
+    let _form = codes.len();
+    let Some(name) = CodeName::of(name) else {
+        return Err(Fail::Refused(BookKind::UnknownName));
+    };
+    match codes.place_of(&name) {
+        Some(place) => Ok(place),
+        None => Err(Fail::Refused(BookKind::UnknownName)),
+    }
 }
 
 fn position_of(

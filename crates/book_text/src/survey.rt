@@ -9,9 +9,8 @@ ghost use Rattle.book_text.specs.Pass.{pass};
 ghost use Rattle.book_text.specs.Rows.{IsShort};
 ghost use Rattle.book_text.specs.Said.{AreSaid};
 
-use crate::entry::{Entry, entry_of, rule_text_of};
+use crate::entry::{Entry, Heading, entry_of, text_of};
 use crate::fault::{BookFault, BookKind};
-use crate::fields::Days;
 use crate::names::Names;
 use crate::row_reader::RowReader;
 use csv::ByteRecord;
@@ -24,26 +23,26 @@ pub struct Survey {
     pub names: Names,
     /// The record of each row.
     pub entries: Vec<Entry>,
-    /// The text of each row's rule. A `csv` record holds them one behind the other, in one buffer.
+    /// The text beside each record: of its rule, or of a group's codes. A `csv` record holds them one behind the other, in one buffer.
     pub texts: ByteRecord,
 }
 
 /// Reads the rows behind the heading, the first of which is row 2, each in place of the one that `row` holds.
 pub fn first_pass(
     alloc: Global,
-    term: Days,
+    heading: &Heading,
     rows: &mut RowReader<'_>,
     row: &mut ByteRecord,
 ) -> Result<Survey, Fail<BookFault>>
     requires { length rows.old ≤ MOST_TEXT_BYTES }
-    ensures names { Gives result (λ s. s.names) (first_pass term rows.old) }
-    ensures said { IfOk result (λ s. AreSaid term rows.old s.entries.items (fields_of s.texts)) }
+    ensures names { Gives result (λ s. s.names) (first_pass heading.now rows.old) }
+    ensures said { IfOk result (λ s. AreSaid heading.now rows.old s.entries.items (fields_of s.texts)) }
     ensures short { IfOk result (λ s. IsShort (fields_of s.texts)) }
 {
     let mut names = Names::new(alloc);
     let mut entries = Vec::new(alloc);
     let mut texts = ByteRecord::new(alloc);
-    enter_rows(&mut names, &mut entries, &mut texts, term, rows, row)?;
+    enter_rows(&mut names, &mut entries, &mut texts, heading, rows, row)?;
     Ok(Survey {
         names,
         entries,
@@ -55,20 +54,20 @@ fn enter_rows(
     names: &mut Names,
     entries: &mut Vec<Entry>,
     texts: &mut ByteRecord,
-    term: Days,
+    heading: &Heading,
     rows: &mut RowReader<'_>,
     row: &mut ByteRecord,
 ) -> Result<(), Fail<BookFault>>
     requires count { length rows.old ≤ MOST_TEXT_BYTES }
     requires none { (entries.old.items ≡ []) × (fields_of texts.old ≡ []) × (partial_of texts.old ≡ []) }
-    ensures names { Leaves result names.new (pass (entered_row term) 2 names.old rows.old) }
-    ensures said { OnOk result (AreSaid term rows.old entries.new.items (fields_of texts.new)) }
+    ensures names { Leaves result names.new (pass (entered_row heading.now) 2 names.old rows.old) }
+    ensures said { OnOk result (AreSaid heading.now rows.old entries.new.items (fields_of texts.new)) }
     ensures short { OnOk result (IsShort (fields_of texts.new)) }
 {
     'rows: while rows.read(row)? {
-        match enter_row(names, term, row) {
+        match enter_row(names, heading, row) {
             Ok(entry) => {
-                texts.push_field(rule_text_of(&entry, row))?;
+                texts.push_field(text_of(&entry, row))?;
                 entries.push(entry)?;
             }
             Err(Fail::Refused(kind)) => {
@@ -82,11 +81,15 @@ fn enter_rows(
 }
 
 // The record of a row, whose name joins the others.
-fn enter_row(names: &mut Names, term: Days, row: &ByteRecord) -> Result<Entry, Fail<BookKind>>
-    ensures names { Leaves result names.new (entered_row term names.old (fields_of row.now)) }
-    ensures entry { IfOk result (λ entry. entry_of term (fields_of row.now) ≡ Ok entry) }
+fn enter_row(
+    names: &mut Names,
+    heading: &Heading,
+    row: &ByteRecord,
+) -> Result<Entry, Fail<BookKind>>
+    ensures names { Leaves result names.new (entered_row heading.now names.old (fields_of row.now)) }
+    ensures entry { IfOk result (λ entry. entry_of heading.now (fields_of row.now) ≡ Ok entry) }
 {
-    match entry_of(term, row) {
+    match entry_of(heading, row) {
         Ok(entry) => {
             names.enter(&entry)?;
             Ok(entry)

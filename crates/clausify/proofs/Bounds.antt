@@ -9,7 +9,9 @@ use Rattle.pb_base.specs.Rule.{Rule, code, negation, both, either, always, never
 use Rattle.book_model.specs.Contents.{Contents}
 use Rattle.book_model.specs.Activity.{is_within}
 use Rattle.book_model.specs.Parts.{variants_of, is_active_position}
-use Rattle.book_model.specs.Book.{IsBook, RuleFits, SupplementFits, ConstructFits, VariantFits}
+use Rattle.book_model.specs.Book.{IsBook, RuleFits, SupplementFits, ConstructFits, DemandFits, VariantFits}
+use Rattle.book_model.specs.declared.demand.Demand.{Demand}
+use Rattle.book_model.specs.declared.demand.Demand.TheVariants as demand
 use Rattle.book_model.specs.declared.record.Supplement.{Supplement}
 use Rattle.book_model.specs.declared.record.Construct.{Construct}
 use Rattle.book_model.specs.declared.record.Position.{Position}
@@ -17,12 +19,13 @@ use Rattle.book_model.specs.declared.record.Variant.{Variant}
 use Rattle.std.specs.List.{slice_get}
 use Rattle.std.specs.Option.{option_map_or}
 use Rattle.clausify.specs.Formulas.{connectives}
-use Rattle.clausify.specs.Items.{Item, variables_of, supplement_item, construct_item, usage_item, rule_items, usage_items}
+use Rattle.clausify.specs.Items.{Item, variables_of, supplement_item, demand_item, construct_item, usage_item, rule_items, usage_items}
 use Rattle.clausify.specs.Choices.{Choice, choices, choices_from, usage, active_variants, is_active_variant}
-use Rattle.clausify.specs.Questions.{pairs}
+use Rattle.clausify.specs.Pairs.{pairs}
 use Rattle.clausify.specs.Goals.{usages_from, choice_variables, numbered_from, goals_variables}
 use Rattle.clausify.specs.Coded.{usages_start, goals_start, slice_variables}
 use Rattle.clausify.specs.declared.usage.Usage.{Usage}
+use Rattle.book_model.proofs.BookLimits.{constructs_below}
 use Rattle.clausify.proofs.ItemLaws.{variables_of-append}
 use Rattle.clausify.proofs.ListLaws.{all_weaker}
 use Rattle.clausify.proofs.Remaining.{length-usages_from}
@@ -55,20 +58,25 @@ module _ {X : Type 0} where
 fitting_below : (n : ℕ) (f : Rule) → RuleFits n f → connectives f ≤ 512
 fitting_below n f h = omega (arith, connectives_below f, h.size)
 
-rule_items_below : (b : Contents) (day : ℕ) → IsBook b → variables_of (rule_items b day) ≤ 512 * 15000
+demand_item_below : (n : ℕ) (d : Demand) → DemandFits n d → connectives (demand_item d).rule ≤ 512
+demand_item_below n (demand.Rule on rule) h = fitting_below n rule h.rule
+demand_item_below n (demand.One group) h = omega arith
+demand_item_below n (demand.Most group) h = omega arith
+
+rule_items_below : (b : Contents) (day : ℕ) → IsBook b → variables_of (rule_items b day) ≤ 512 * 16000
 rule_items_below b day book =
     let n : ℕ = length b.codes in
     let supplements = variables_below (λ (s : Supplement). is_within s.from s.until day) supplement_item b.supplements
     (all_weaker (SupplementFits n) (λ s. connectives s.rule ≤ 512) (λ s h. fitting_below n s.rule h.rule) b.supplements (recursion_from_All (SupplementFits n) b.supplements book.supplements_fit)) in
     let constructs = variables_below (λ (c : Construct). is_within c.from c.until day) construct_item b.constructs
-    (all_weaker (ConstructFits n) (λ c. connectives c.rule ≤ 512) (λ c h. fitting_below n c.rule h.rule) b.constructs (recursion_from_All (ConstructFits n) b.constructs book.constructs_fit)) in
+    (all_weaker (ConstructFits n) (λ c. connectives (construct_item c).rule ≤ 512) (λ c h. demand_item_below n c.demand h.demand) b.constructs (recursion_from_All (ConstructFits n) b.constructs book.constructs_fit)) in
     omega (
       arith,
       variables_of-append (map supplement_item (filter (λ s. is_within s.from s.until day) b.supplements)) (map construct_item (filter (λ c. is_within c.from c.until day) b.constructs)),
       supplements,
       constructs,
       book.supplements_limit,
-      book.constructs_limit,
+      constructs_below b book,
     )
 
 usage_below_at : (n m : ℕ) (vs : List Variant) (k : ℕ) → AllByRecursion (VariantFits n m) vs → connectives (option_map_or (λ v. v.rule) (slice_get vs k) never) ≤ 512

@@ -7,7 +7,8 @@ use Rattle.book_model.specs.Contents.{Contents}
 use Rattle.book_model.specs.declared.record.Position.{Position}
 use Rattle.clausify.specs.Choices.{Choice, choices, choices_from}
 use Rattle.clausify.proofs.Remaining.{choices_left}
-use Rattle.clausify.specs.Questions.{pairs, choice_questions, uncovered_question, code_questions_from, questions}
+use Rattle.clausify.specs.Questions.{choice_questions, uncovered_question, code_questions_from, questions}
+use Rattle.clausify.specs.Pairs.{pairs}
 use Rattle.clausify.specs.declared.question.Question.{Question}
 use Rattle.clausify.specs.declared.question.Question.TheVariants.{Superfluous, Ambiguous}
 

@@ -19,7 +19,8 @@ use Rattle.clause_pool.proofs.LiteralLaws.{is_true-complement}
 use Rattle.clausify.specs.Formulas.{connectives, both_clauses}
 use Rattle.clausify.specs.Items.{variables_of, usage_item, usage_items}
 use Rattle.clausify.specs.Choices.{Choice, choices, choices_from, usage, active_variants}
-use Rattle.clausify.specs.Questions.{pairs, none_rule, and_none}
+use Rattle.clausify.specs.Questions.{none_rule, and_none}
+use Rattle.clausify.specs.Pairs.{pairs}
 use Rattle.clausify.specs.Goals.{usages_from, pair_clauses, pairs_asked, none_clauses, none_literal, uncovered_clauses, uncovered_literal, choice_variables, choice_clauses, superfluous_asked, choice_asked, numbered_from, goals_variables, goals_clauses, goals_asked, codes_asked_from}
 use Rattle.clausify.specs.Lifting.{GoalsTrue}
 use Rattle.clausify.specs.declared.question.Question.TheVariants.{Uncovered}

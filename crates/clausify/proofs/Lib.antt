@@ -2,6 +2,7 @@ pub mod ListLaws
 pub mod Truth
 pub mod FormulaLaws
 pub mod NodeLaws
+pub mod GroupLaws
 pub mod ItemLaws
 pub mod GoalLaws
 pub mod SliceLaws
@@ -14,3 +15,4 @@ pub mod QuestionLaws
 pub mod RangeLaws
 pub mod MeetLaws
 mod WorkedSlice
+mod WorkedGroups

@@ -2,7 +2,7 @@
 use Rattle.std.proofs.Common.{Bool, List, [], ◌∷◌, ◌++◌, map, inl, inr, sym, subst}
 use Rattle.std.specs.List.{filter, flat_map, AllByRecursion}
 use Rattle.std.proofs.lemmas.Bool.{cases_Bool, cond-true, cond-false}
-use Rattle.clausify.specs.Questions.{pairs}
+use Rattle.clausify.specs.Pairs.{pairs}
 
 module _ {X : Type 0} where
   pub all-append : (P : X → Type 0) (xs ys : List X) → AllByRecursion P xs → AllByRecursion P ys → AllByRecursion P (xs ++ ys)

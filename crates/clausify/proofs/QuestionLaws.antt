@@ -6,7 +6,8 @@ use Rattle.book_model.specs.Contents.{Contents}
 use Rattle.clausify.specs.Formulas.{connectives}
 use Rattle.clausify.specs.Items.{variables_of, usage_item}
 use Rattle.clausify.specs.Choices.{Choice, choices, usage}
-use Rattle.clausify.specs.Questions.{pairs, questions, choice_questions, uncovered_question, code_questions_from}
+use Rattle.clausify.specs.Questions.{questions, choice_questions, uncovered_question, code_questions_from}
+use Rattle.clausify.specs.Pairs.{pairs}
 use Rattle.clausify.specs.Goals.{usages_from, pairs_asked, superfluous_asked, uncovered_asked, choice_asked, choice_variables, numbered_from, goals_asked, codes_asked_from}
 use Rattle.clausify.specs.Coded.{usages_start, goals_start, slice_asked}
 use Rattle.clausify.specs.declared.question.Asked.{Asked}

@@ -9,13 +9,14 @@ use Rattle.book_model.specs.Parts.{variants_from, variants_of, is_active_positio
 use Rattle.book_model.specs.declared.record.Position.{Position}
 use Rattle.book_model.specs.declared.record.Variant.{Variant}
 use Rattle.clause_pool.specs.Literal.{literal, complement}
-use Rattle.clause_pool.specs.Clause.{AreBelow}
+use Rattle.clause_pool.specs.Clause.{IsBelow, AreBelow}
 use Rattle.clause_pool.proofs.LiteralLaws.{even_or_odd, complement-even, complement-odd}
 use Rattle.clause_pool.proofs.ClauseLaws.{IsBelow-clause_of}
 use Rattle.clausify.specs.Formulas.{connectives, formula_literal, formula_clauses, both_clauses, either_clauses}
-use Rattle.clausify.specs.Items.{Demand, adds, needed_by, needed, free, Item, demand_clauses, variables_of, item_clauses, own_clauses, usage_item, rule_items, usage_items, items}
+use Rattle.clausify.specs.Items.{Claim, adds, needed_by, needed, one_of, most_of, free, Item, any_clause, apart_clause, apart_clauses, claim_clauses, variables_of, item_clauses, own_clauses, usage_item, rule_items, usage_items, items}
 use Rattle.clausify.specs.Choices.{Choice, choices, choices_from, usage, active_variants, is_active_variant}
-use Rattle.clausify.specs.Questions.{pairs, QuestionFits, code_questions_from, choice_questions, uncovered_question}
+use Rattle.clausify.specs.Questions.{QuestionFits, code_questions_from, choice_questions, uncovered_question}
+use Rattle.clausify.specs.Pairs.{pairs}
 use Rattle.clausify.specs.Goals.{usages_from, pair_clauses, pairs_asked, none_clauses, none_literal, uncovered_clauses, uncovered_literal, uncovered_asked, choice_variables, choice_clauses, choice_asked, superfluous_asked, numbered_from, goals_variables, goals_clauses, goals_asked, codes_asked_from}
 use Rattle.clausify.specs.Coded.{usages_start, goals_start, numbered_choices, slice_clauses, slice_variables, slice_asked, IsCoded}
 use Rattle.clausify.specs.Ranges.{IsInRange}
@@ -24,8 +25,9 @@ use Rattle.clausify.specs.declared.question.Asked.{Asked}
 use Rattle.clausify.specs.declared.question.Coded.{Coded}
 use Rattle.clausify.specs.declared.question.Question.{Question}
 use Rattle.clausify.specs.declared.question.Question.TheVariants.{Superfluous, Ambiguous}
-use Rattle.clausify.proofs.ListLaws.{all-append, all-map, all_mapped, all_pairs, all_filtered}
-use Rattle.clausify.proofs.ItemLaws.{AllFit, demand_fits, rule_items_fit, variables_of-append}
+use Rattle.clausify.proofs.ListLaws.{all-append, all-map, all_mapped, all_pairs, all_filtered, all_weaker}
+use Rattle.clausify.proofs.GroupLaws.{AreCodes, below_all}
+use Rattle.clausify.proofs.ItemLaws.{AllFit, claim_fits, rule_items_fit, variables_of-append}
 use Rattle.clausify.proofs.GoalLaws.{UsagesFit, usages_fit, all_usage_items_fit}
 use Rattle.clausify.proofs.QuestionLaws.{asked_in_order}
 
@@ -91,23 +93,40 @@ formula_below n v m (either f g) fit h k =
 formula_below n v m always fit h k = tt
 formula_below n v m never fit h k = tt
 
-demand_below : (n m l : ℕ) (d : Demand) → demand_fits n d ≡ true → n < m → l < 2 * m → AreBelow (2 * m) (demand_clauses d l)
-demand_below n m l (adds place) fit h k =
+-- the clauses of a group of codes
+any_below : (n m : ℕ) (group : List ℕ) → AreCodes n group → n < m → IsBelow (2 * m) (any_clause group)
+any_below n m group codes h =
+    IsBelow-clause_of (2 * m) (map (λ code. literal code true) group)
+    (all-map (λ l. l < 2 * m) (λ code. literal code true) group
+    (all_weaker (λ code. code < n) (λ code. literal code true < 2 * m) (λ code below. positive_below code m (omega arith)) group codes))
+
+apart_below : (n m : ℕ) (group : List ℕ) → AreCodes n group → n < m → AreBelow (2 * m) (apart_clauses group)
+apart_below n m group codes h =
+    all-map (IsBelow (2 * m)) apart_clause (pairs group)
+    (all_weaker (λ (p : ℕ × ℕ). (p.0 < n) × (p.1 < n)) (λ p. IsBelow (2 * m) (apart_clause p))
+    (λ p below. IsBelow-clause_of (2 * m) (literal p.0 false ∷ literal p.1 false ∷ [])
+    (negative_below p.0 m (omega (arith, below.0)), (negative_below p.1 m (omega (arith, below.1)), tt)))
+    (pairs group) (all_pairs (λ code. code < n) group codes))
+
+claim_below : (n m l : ℕ) (d : Claim) → claim_fits n d ≡ true → n < m → l < 2 * m → AreBelow (2 * m) (claim_clauses d l)
+claim_below n m l (adds place) fit h k =
     let below = ltb-true place n fit in
     (IsBelow-clause_of (2 * m) (complement l ∷ literal place true ∷ []) (complement_below l m k, (positive_below place m (omega arith), tt)), tt)
-demand_below n m l (needed_by place) fit h k =
+claim_below n m l (needed_by place) fit h k =
     let below = ltb-true place n fit in
     (IsBelow-clause_of (2 * m) (literal place false ∷ l ∷ []) (negative_below place m (omega arith), (k, tt)), tt)
-demand_below n m l needed fit h k = (IsBelow-clause_of (2 * m) (l ∷ []) (k, tt), tt)
-demand_below n m l free fit h k = tt
+claim_below n m l needed fit h k = (IsBelow-clause_of (2 * m) (l ∷ []) (k, tt), tt)
+claim_below n m l (one_of group) fit h k = (any_below n m group (below_all n group fit) h, apart_below n m group (below_all n group fit) h)
+claim_below n m l (most_of group) fit h k = apart_below n m group (below_all n group fit) h
+claim_below n m l free fit h k = tt
 
 items_below : (n v m : ℕ) (is : List Item) → AllFit n is → n < v → v + variables_of is ≤ m → AreBelow (2 * m) (item_clauses n v is)
 items_below n v m [] fit h k = tt
 items_below n v m (i ∷ is) fit h k =
-    let fits = and_parts (codes_below n i.rule) (demand_fits n i.demand) fit.0 in
+    let fits = and_parts (codes_below n i.rule) (claim_fits n i.claim) fit.0 in
     all-append _ (own_clauses n v i) (item_clauses n (v + connectives i.rule) is)
     (all-append _ (formula_clauses n v i.rule) _ (formula_below n v m i.rule fits.0 h (omega arith))
-    (demand_below n m (formula_literal n v i.rule) i.demand fits.1 (omega arith) (literal_below n v m i.rule fits.0 h (omega arith))))
+    (claim_below n m (formula_literal n v i.rule) i.claim fits.1 (omega arith) (literal_below n v m i.rule fits.0 h (omega arith))))
     (items_below n (v + connectives i.rule) m is fit.1 (omega arith) (omega arith))
 
 -- the goals of usages whose literals are of variables below m

@@ -11,7 +11,7 @@ use Rattle.book_model.specs.declared.record.Position.{Position}
 use Rattle.clausify.specs.Items.{Item, item_clauses, variables_of, usage_item, usage_items}
 use Rattle.clausify.specs.Choices.{Choice, choices_from, active_variants, usage}
 use Rattle.clause_pool.specs.Literal.{literal}
-use Rattle.clausify.specs.Questions.{pairs}
+use Rattle.clausify.specs.Pairs.{pairs}
 use Rattle.clausify.specs.Goals.{usages_from, all_usages, codes_asked_from, pair_clauses, pairs_asked, choice_variables, choice_clauses, choice_asked, numbered_from, goals_variables, goals_clauses, goals_asked}
 use Rattle.clausify.specs.declared.question.Asked.{Asked}
 use Rattle.clausify.specs.declared.question.Question.TheVariants.{Necessary, Inadmissible, Ambiguous}
@@ -106,11 +106,11 @@ codes_step asked asked' asked'' all i absent present names within is_absent is_p
     ∙ ap (λ (ns : List (List ℕ)). asked ++ codes_asked_from i ns) (sym (drop-cons names i [] within))
     ∙ left
 
--- the pairs of the usage at place i with later ones, and those of the later ones
-pub pairs_next : (us : List Usage) (i : ℕ) (u : Usage) → i < length us → u ≡ get_or us i u → pairs (drop i us) ≡ map (λ (y : Usage). (u, y)) (drop (i + 1) us) ++ pairs (drop (i + 1) us)
-pairs_next us i u within read =
-    ap pairs (drop-cons us i u within ∙ ap (λ (y : Usage). y ∷ drop (suc i) us) (sym read))
-    ∙ ap (λ (k : ℕ). map (λ (y : Usage). (u, y)) (drop k us) ++ pairs (drop k us)) (let s : suc i ≡ i + 1 = omega arith in s)
+-- the pairs of the element at place i with later ones, and those of the later ones
+pub pairs_next : {X : Type 0} (xs : List X) (i : ℕ) (x : X) → i < length xs → x ≡ get_or xs i x → pairs (drop i xs) ≡ map (λ (y : X). (x, y)) (drop (i + 1) xs) ++ pairs (drop (i + 1) xs)
+pairs_next {X} xs i x within read =
+    ap pairs (drop-cons xs i x within ∙ ap (λ (y : X). y ∷ drop (suc i) xs) (sym read))
+    ∙ ap (λ (k : ℕ). map (λ (y : X). (x, y)) (drop k xs) ++ pairs (drop k xs)) (let s : suc i ≡ i + 1 = omega arith in s)
 
 pub pair_clauses_split : (v : ℕ) (ps qs : List (Usage × Usage)) → pair_clauses v (ps ++ qs) ≡ pair_clauses v ps ++ pair_clauses (v + length ps) qs
 pair_clauses_split v [] qs = ap (λ (w : ℕ). pair_clauses w qs) (let e : v ≡ v + 0 = omega arith in e)

@@ -80,7 +80,7 @@ goal_names b day x a h =
     subst (λ (k : ℕ). Names a x (length b.codes + 1 + k) (choices_named b (length b.codes) (usages_start b day) (choices b day))) (length-items_named (items b day))
     (names_last a x (length b.codes + 1) (items_named (items b day)) _ h)
 
--- a usage demands nothing
+-- of a usage nothing is claimed
 usage_met : (b : Contents) (x : List Bool) (variants : List ℕ) → AllMeet x (map (usage_item b) variants)
 usage_met b x [] = tt
 usage_met b x (variant ∷ variants) = (refl, usage_met b x variants)

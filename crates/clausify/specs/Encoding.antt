@@ -1,5 +1,6 @@
 -- What the encoder has made so far, and what a node of a formula or a whole step adds to it.
 --     Encodes old new more taken     so many clauses more at the end, and so many variables taken
+--     EncodesAlone old new more      clauses more, and no variable taken
 --     EncodesItems old new is        the clauses and the variables of these items
 --     with_node n node m             the node joins the literals of the parts before it
 use Rattle.std.specs.Prelude.{◌≡◌, ℕ, ◌+◌, true, false, List, [], ◌∷◌, ◌++◌, length}
@@ -16,6 +17,9 @@ pub record Encodes (old new : Encoder) (more : List (List ℕ)) (taken : ℕ) : 
   pub clauses : new.pool.clauses ≡ old.pool.clauses ++ more
   pub next : new.next ≡ old.next + taken
   pub truth : new.truth ≡ old.truth
+
+abbrev pub EncodesAlone : Encoder → Encoder → List (List ℕ) → Type 0
+EncodesAlone old new more = Encodes old new more 0
 
 -- the items, one of them, and pairs of variants are encoded
 abbrev pub EncodesItems : Encoder → Encoder → List Item → Type 0

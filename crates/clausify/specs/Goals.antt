@@ -7,7 +7,7 @@ use Rattle.clause_pool.specs.Literal.{literal, complement}
 use Rattle.clausify.specs.Formulas.{connectives, formula_literal, both_clauses}
 use Rattle.clausify.specs.Items.{variables_of, usage_item}
 use Rattle.clausify.specs.Choices.{Choice, usage}
-use Rattle.clausify.specs.Questions.{pairs}
+use Rattle.clausify.specs.Pairs.{pairs}
 use Rattle.clausify.specs.declared.question.Asked.{Asked}
 use Rattle.clausify.specs.declared.question.Question.TheVariants.{Void, Necessary, Inadmissible, Superfluous, Ambiguous, Uncovered}
 use Rattle.clausify.specs.declared.usage.Usage.{Usage}

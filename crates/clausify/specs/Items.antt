@@ -1,61 +1,89 @@
--- The formulas of a slice, in the order in which they are given their literals, and the clause that follows each.
+-- The formulas of a slice, in the order in which they are given their literals, and the clauses that follow each. A group
+-- has no formula of its own, and stands with the one that is always true.
 --     items b day                the formulas of the records that are active on the day
+--     apart_clauses codes        no two of the codes are present
 --     item_clauses n v is        their clauses, where v is the first variable that they take
 --     variables_of is            how many variables they take
 use Rattle.std.specs.Prelude.{ℕ, ◌+◌, true, false, List, [], ◌∷◌, ◌++◌, Option, None, Some, filter, map}
 use Rattle.std.specs.List.{flat_map}
-use Rattle.pb_base.specs.Rule.{Rule}
+use Rattle.pb_base.specs.Rule.{Rule, always}
 use Rattle.book_model.specs.Activity.{is_within}
 use Rattle.book_model.specs.Contents.{Contents}
+use Rattle.book_model.specs.declared.demand.Demand.{Demand}
+use Rattle.book_model.specs.declared.demand.Demand.TheVariants as demand
 use Rattle.book_model.specs.declared.record.Supplement.{Supplement}
 use Rattle.book_model.specs.declared.record.Construct.{Construct}
 use Rattle.clause_pool.specs.Literal.{literal, complement}
 use Rattle.clause_pool.specs.Clause.{clause_of}
 use Rattle.clausify.specs.Formulas.{connectives, formula_literal, formula_clauses}
+use Rattle.clausify.specs.Pairs.{pairs}
 use Rattle.clausify.specs.Choices.{Choice, choices, usage}
 
--- what is demanded of a formula
-pub data Demand : Type 0 where
-  adds : ℕ → Demand  -- where it is true, the code is present
-  needed_by : ℕ → Demand  -- where the code is present, it is true
-  needed : Demand  -- it is true
-  free : Demand  -- nothing
+-- what is claimed of a formula, or of the codes of a group
+pub data Claim : Type 0 where
+  adds : ℕ → Claim  -- where it is true, the code is present
+  needed_by : ℕ → Claim  -- where the code is present, it is true
+  needed : Claim  -- it is true
+  one_of : List ℕ → Claim  -- exactly one of the codes is present
+  most_of : List ℕ → Claim  -- at most one of them is
+  free : Claim  -- nothing
 
 pub record Item : Type 0 where
   pub rule : Rule
-  pub demand : Demand
+  pub claim : Claim
 
--- the clause of a demand on a formula with the literal l
-abbrev pub demand_clauses : Demand → ℕ → List (List ℕ)
-demand_clauses (adds code) l = clause_of (complement l ∷ literal code true ∷ []) ∷ []
-demand_clauses (needed_by code) l = clause_of (literal code false ∷ l ∷ []) ∷ []
-demand_clauses needed l = clause_of (l ∷ []) ∷ []
-demand_clauses free l = []
+-- one of the codes is present
+abbrev pub any_clause : List ℕ → List ℕ
+any_clause group = clause_of (map (λ code. literal code true) group)
+
+-- two codes are not present together
+abbrev pub apart_clause : ℕ × ℕ → List ℕ
+apart_clause p = clause_of (literal p.0 false ∷ literal p.1 false ∷ [])
+
+abbrev pub apart_clauses : List ℕ → List (List ℕ)
+apart_clauses group = map apart_clause (pairs group)
+
+-- the clauses of a claim, where l is the literal of the formula
+abbrev pub claim_clauses : Claim → ℕ → List (List ℕ)
+claim_clauses (adds code) l = clause_of (complement l ∷ literal code true ∷ []) ∷ []
+claim_clauses (needed_by code) l = clause_of (literal code false ∷ l ∷ []) ∷ []
+claim_clauses needed l = clause_of (l ∷ []) ∷ []
+claim_clauses (one_of group) l = any_clause group ∷ apart_clauses group
+claim_clauses (most_of group) l = apart_clauses group
+claim_clauses free l = []
 
 abbrev pub variables_of : List Item → ℕ
 variables_of [] = 0
 variables_of (i ∷ is) = connectives i.rule + variables_of is
 
--- the clauses of a formula and of what is demanded of it
+-- the clauses of a formula and of what is claimed
 abbrev pub own_clauses : ℕ → ℕ → Item → List (List ℕ)
-own_clauses n v i = formula_clauses n v i.rule ++ demand_clauses i.demand (formula_literal n v i.rule)
+own_clauses n v i = formula_clauses n v i.rule ++ claim_clauses i.claim (formula_literal n v i.rule)
 
 abbrev pub item_clauses : ℕ → ℕ → List Item → List (List ℕ)
 item_clauses n v [] = []
 item_clauses n v (i ∷ is) = own_clauses n v i ++ item_clauses n (v + connectives i.rule) is
 
-abbrev pub demand_on : Option ℕ → Demand
-demand_on None = needed
-demand_on (Some code) = needed_by code
+abbrev pub claim_on : Option ℕ → Claim
+claim_on None = needed
+claim_on (Some code) = needed_by code
 
 abbrev pub supplement_item : Supplement → Item
-supplement_item s = record { rule = s.rule; demand = adds s.code }
+supplement_item s = record { rule = s.rule; claim = adds s.code }
+
+abbrev pub rule_item : Option ℕ → Rule → Item
+rule_item on rule = record { rule = rule; claim = claim_on on }
+
+abbrev pub demand_item : Demand → Item
+demand_item (demand.Rule on rule) = rule_item on rule
+demand_item (demand.One group) = record { rule = always; claim = one_of group }
+demand_item (demand.Most group) = record { rule = always; claim = most_of group }
 
 abbrev pub construct_item : Construct → Item
-construct_item c = record { rule = c.rule; demand = demand_on c.on }
+construct_item c = demand_item c.demand
 
 abbrev pub usage_item : Contents → ℕ → Item
-usage_item b variant = record { rule = usage b variant; demand = free }
+usage_item b variant = record { rule = usage b variant; claim = free }
 
 -- the supplementing rules that are active on the day, and the constructibility rules
 abbrev pub supplement_items : Contents → ℕ → List Item

@@ -1,4 +1,5 @@
 pub mod Formulas
+pub mod Pairs
 pub mod Items
 pub mod Choices
 pub mod Questions

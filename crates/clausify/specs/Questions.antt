@@ -1,5 +1,4 @@
 -- What is asked of a slice, in order, and the goal of each question.
---     pairs xs              each element with each later one, ordered by the earlier and then by the later
 --     questions b day       Void, then two for each code, then those of each choice
 --     goal b day q          the formula that a good set has to meet
 --     HasSet b s q          on some day of the slice some good set meets the goal
@@ -12,12 +11,9 @@ use Rattle.book_model.specs.Contents.{Contents}
 use Rattle.book_model.specs.Good.{is_good}
 use Rattle.book_model.specs.declared.record.Slice.{Slice}
 use Rattle.clausify.specs.Choices.{Choice, choices, usage, active_variants}
+use Rattle.clausify.specs.Pairs.{pairs}
 use Rattle.clausify.specs.declared.question.Question.{Question}
 use Rattle.clausify.specs.declared.question.Question.TheVariants.{Void, Necessary, Inadmissible, Superfluous, Ambiguous, Uncovered}
-
-abbrev pub pairs : {X : Type 0} → List X → List (X × X)
-pairs [] = []
-pairs (x ∷ xs) = map (λ y. (x, y)) xs ++ pairs xs
 
 abbrev pub uncovered_question : Bool → ℕ → List Question
 uncovered_question mandatory place = if mandatory then Uncovered place ∷ [] else []

@@ -1,7 +1,7 @@
 //! The goals of the questions of a slice, each with its literal.
 ghost use Rattle.std.specs.Prelude.{◌≡◌, ◌+◌, ◌-◌, ◌^◌, ◌<◌, [], ◌∷◌, ◌++◌, IfOk, OnOk, map, length};
 ghost use Rattle.clausify.specs.Choices.{choices};
-ghost use Rattle.clausify.specs.Questions.{pairs};
+ghost use Rattle.clausify.specs.Pairs.{pairs};
 ghost use Rattle.clausify.specs.Goals.{pair_clauses, pairs_asked, none_clauses, none_literal, uncovered_clauses, uncovered_literal, choice_variables, choice_clauses, superfluous_asked, choice_asked, all_usages, goals_variables, goals_clauses, goals_asked, codes_asked_from};
 ghost use Rattle.clausify.specs.Coded.{usages_start, numbered_at};
 ghost use Rattle.clausify.specs.Encoding.{Encodes, EncodesPairs};

@@ -1,13 +1,14 @@
-//! The formulas of the records that are active on a day, each given its literal and the clause that is demanded of it.
-ghost use Rattle.std.specs.Prelude.{◌+◌, ◌^◌, ◌<◌, OnOk};
+//! The formulas of the records that are active on a day, each given its literal and the clauses that follow, and the clauses of groups.
+ghost use Rattle.std.specs.Prelude.{◌≡◌, ◌+◌, ◌^◌, ◌<◌, OnOk, length};
+ghost use Rattle.book_model.specs.Book.{DemandFits};
 ghost use Rattle.clausify.specs.Formulas.{connectives};
-ghost use Rattle.clausify.specs.Items.{variables_of, supplement_item, construct_item, supplement_items, construct_items, rule_items};
+ghost use Rattle.clausify.specs.Items.{variables_of, supplement_item, rule_item, demand_item, supplement_items, construct_items, rule_items};
 ghost use Rattle.clausify.specs.Encoding.{EncodesItem, EncodesItems};
 
 use crate::encoder::Encoder;
-use book_model::{Book, Construct, Supplement, active};
+use book_model::{Book, Demand, Supplement, active};
 use clause_pool::Lit;
-use pb_base::{Day, Memory};
+use pb_base::{Day, Formula, Memory};
 
 impl Encoder {
     /// Where the rule's formula is true, its code is present.
@@ -21,13 +22,29 @@ impl Encoder {
         Ok(())
     }
 
-    /// Where the rule's code is present, or always where it has none, its formula is true.
-    fn construct(&mut self, construct: &Construct) -> Result<(), Memory>
-        requires { self.old.next + connectives construct.now.rule < 2 ^ 32 }
-        ensures { OnOk result (EncodesItem self.old self.new (construct_item construct.now)) }
+    /// What a constructibility rule demands: of its formula, or where it is a group, of its codes.
+    fn demand(&mut self, demand: &Demand) -> Result<(), Memory>
+        requires fits { DemandFits self.old.truth demand.now }
+        requires room { self.old.next + connectives (demand_item demand.now).rule < 2 ^ 32 }
+        ensures { OnOk result (EncodesItem self.old self.new (demand_item demand.now)) }
     {
-        let rule = self.literal(&construct.rule)?;
-        match construct.on {
+        match demand {
+            Demand::Rule { on, rule } => self.rule_on(*on, rule),
+            Demand::One(group) => {
+                self.any_of(group.codes())?;
+                self.apart(group.codes())
+            }
+            Demand::Most(group) => self.apart(group.codes()),
+        }
+    }
+
+    /// Where the code is present, or always where there is none, the formula is true.
+    fn rule_on(&mut self, on: Option<u32>, rule: &Formula) -> Result<(), Memory>
+        requires { self.old.next + connectives rule.now < 2 ^ 32 }
+        ensures { OnOk result (EncodesItem self.old self.new (rule_item on rule.now)) }
+    {
+        let rule = self.literal(rule)?;
+        match on {
             None => self.pool.add(&[rule])?,
             Some(code) => self.pool.add(&[Lit::new(code, false), rule])?,
         };
@@ -50,12 +67,13 @@ fn add_supplements(encoder: &mut Encoder, book: &Book, day: Day) -> Result<(), M
 
 /// The constructibility rules.
 fn add_constructs(encoder: &mut Encoder, book: &Book, day: Day) -> Result<(), Memory>
-    requires { encoder.old.next + variables_of (construct_items book.now day) < 2 ^ 32 }
+    requires truth { encoder.old.truth ≡ length book.now.codes }
+    requires room { encoder.old.next + variables_of (construct_items book.now day) < 2 ^ 32 }
     ensures { OnOk result (EncodesItems encoder.old encoder.new (construct_items book.now day)) }
 {
     for construct in book.constructs() {
         if active(construct.from, construct.until, day) {
-            encoder.construct(construct)?;
+            encoder.demand(&construct.demand)?;
         }
     }
     Ok(())
@@ -64,7 +82,8 @@ fn add_constructs(encoder: &mut Encoder, book: &Book, day: Day) -> Result<(), Me
 /// The supplementing rules, then the constructibility rules.
 #[tactic(auto, using(crate::proofs::ItemLaws::variables_more))]
 pub(crate) fn add_rules(encoder: &mut Encoder, book: &Book, day: Day) -> Result<(), Memory>
-    requires { encoder.old.next + variables_of (rule_items book.now day) < 2 ^ 32 }
+    requires truth { encoder.old.truth ≡ length book.now.codes }
+    requires room { encoder.old.next + variables_of (rule_items book.now day) < 2 ^ 32 }
     ensures { OnOk result (EncodesItems encoder.old encoder.new (rule_items book.now day)) }
 {
     add_supplements(encoder, book, day)?;

@@ -6,6 +6,7 @@ mod coding;
 mod counting;
 mod encoder;
 mod goals;
+mod group;
 mod items;
 mod parts;
 mod question;

@@ -11,7 +11,8 @@ use Rattle.book_model.specs.Sound.{permits, is_fit, are_fit_from, is_sound}
 use Rattle.book_model.specs.declared.record.Position.{Position}
 use Rattle.book_model.specs.declared.record.Variant.{Variant}
 use Rattle.clausify.specs.Choices.{Choice, usage, is_active_variant, active_variants, choices_from, choices}
-use Rattle.clausify.specs.Questions.{pairs, and_none, none_rule, uncovered_question, choice_questions, code_questions_from, questions}
+use Rattle.clausify.specs.Pairs.{pairs}
+use Rattle.clausify.specs.Questions.{and_none, none_rule, uncovered_question, choice_questions, code_questions_from, questions}
 use Rattle.clausify.specs.declared.question.Question.{Question}
 use Rattle.clausify.specs.declared.question.Question.TheVariants.{Superfluous, Ambiguous, Uncovered}
 use Rattle.clausify.proofs.ListLaws.{all_first, all_last}

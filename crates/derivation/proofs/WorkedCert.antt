@@ -1,7 +1,7 @@
 -- The definitions on the certificate of the worked book, and on texts near to it.
 use Rattle.std.proofs.Common.{◌≡◌, ℕ, List, ◌++◌, Some, Ok, codes, refl}
 use Rattle.book_model.specs.Slices.{slices_of}
-use Rattle.book_model.specs.WorkedBook.{book_t}
+use Rattle.book_model.specs.WorkedBook.{book_t, book_tg}
 use Rattle.derivation.specs.declared.fault.CertKind.{CertKind}
 use Rattle.derivation.specs.declared.fault.CertKind.TheVariants.{NoSuchStep, NoPivot, NotClosed, BadSet}
 use Rattle.derivation.specs.Certificate.{cert_answer, cert_fault}
@@ -12,6 +12,16 @@ opened = codes "partsbook certificate 1\nbook T 1\nslice 0\nset M1 G5\n"
 worked_is_accepted : cert_answer book_t (opened ++ codes "step 9 -0 15 -1 16\nclose 13 21\nstep 8 +7 5 +0 18 +1 19\nclose 14 22\nend\n") ≡ Ok (record { slices = 1; steps = 2 })
 unfolding slices_of
 worked_is_accepted = refl
+
+-- the same of the book whose rules are two groups: an engine beside another is refuted by the clause of the pair, and none by that of all
+groups_are_accepted : cert_answer book_tg (opened ++ codes "step 6 -0 9 -1 10\nclose 13 15\nstep 5 +0 12 +1 13\nclose 14 16\nend\n") ≡ Ok (record { slices = 1; steps = 2 })
+unfolding slices_of
+groups_are_accepted = refl
+
+-- the certificate of the one book is none of the other
+of_the_other_book : cert_fault book_tg (opened ++ codes "step 9 -0 15 -1 16\n") ≡ Some (record { line = 5; kind = NoSuchStep })
+unfolding slices_of
+of_the_other_book = refl
 
 -- these lines behind the set line have this fault
 abbrev HasFault : List ℕ → ℕ → CertKind → Type 0

@@ -10,7 +10,7 @@ use Rattle.book_text.specs.declared.fault.BookFault.{BookFault}
 use Rattle.book_text.specs.declared.fault.BookKind.{BookKind}
 use Rattle.book_text.specs.declared.fault.BookKind.TheVariants.{TooLarge, NotUtf8, NoBookRecord, SecondBookRecord, UnknownKind, FieldCount, BadName, BadNumber, BadDays, Duplicate, UnknownName, BadRule, Limit}
 use Rattle.book_text.specs.declared.fault.Which.{Which}
-use Rattle.book_text.specs.declared.fault.Which.TheVariants.{Codes, Supplements, Constructs, Modules, Positions, Variants, Choices}
+use Rattle.book_text.specs.declared.fault.Which.TheVariants.{Codes, Supplements, Constructs, Modules, Positions, Variants, Choices, Groups}
 use Rattle.parts_usage.specs.Fault.{fault_number as order_number}
 use Rattle.parts_usage.specs.declared.fault.OrderFault.{OrderFault}
 use Rattle.parts_usage.specs.declared.fault.OrderFault.TheVariants.{DayOutsideTerm, UnknownCode as UnknownOrdered, RepeatedCode}
@@ -36,6 +36,7 @@ which_text Modules = codes " modules"
 which_text Positions = codes " positions"
 which_text Variants = codes " variants"
 which_text Choices = codes " choices"
+which_text Groups = codes " groups"
 
 -- what stands behind the number of a kind
 abbrev pub kind_detail : BookKind → List ℕ

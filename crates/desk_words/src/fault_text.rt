@@ -61,6 +61,7 @@ fn which_text(which: &Which) -> &'static [u8]
         Which::Positions => b" positions",
         Which::Variants => b" variants",
         Which::Choices => b" choices",
+        Which::Groups => b" groups",
     }
 }
 

@@ -1,7 +1,7 @@
 -- What orders of the worked book come to.
 use Rattle.std.proofs.Common.{◌≡◌, true, false, [], ◌∷◌, Ok, Err, refl}
 use Rattle.std.specs.Prelude.{codes}
-use Rattle.book_model.specs.WorkedBook.{an_engine, a_gearbox, one_gearbox, motor, m1, m2, book_with, book_t, set_t}
+use Rattle.book_model.specs.WorkedBook.{an_engine, a_gearbox, one_gearbox, motor, m1, m2, book_with, book_t, book_tg, set_t}
 use Rattle.supplement.specs.Completion.{completion_by}
 use Rattle.parts_usage.specs.Outcome.{outcome_of}
 use Rattle.parts_usage.specs.declared.fault.OrderFault.TheVariants.{DayOutsideTerm, UnknownCode, RepeatedCode}
@@ -28,6 +28,23 @@ two_engines = refl
 no_gearbox : outcome_of book_t 1 (codes "M2" ∷ []) ≡ Ok (Refused 2)
 unfolding completion_by
 no_gearbox = refl
+
+-- groups refuse the same orders, and each is named by its own place
+seven_gears_in_groups : outcome_of book_tg 1 (codes "M1" ∷ codes "G7" ∷ []) ≡ outcome_of book_t 1 (codes "M1" ∷ codes "G7" ∷ [])
+unfolding completion_by
+seven_gears_in_groups = refl
+
+two_engines_in_a_group : outcome_of book_tg 1 (codes "M1" ∷ codes "M2" ∷ []) ≡ Ok (Refused 0)
+unfolding completion_by
+two_engines_in_a_group = refl
+
+no_engine_in_a_group : outcome_of book_tg 1 [] ≡ Ok (Refused 0)
+unfolding completion_by
+no_engine_in_a_group = refl
+
+no_gearbox_in_a_group : outcome_of book_tg 1 (codes "M2" ∷ []) ≡ Ok (Refused 1)
+unfolding completion_by
+no_gearbox_in_a_group = refl
 
 -- days outside the term, a code that the book doesn't have, a code ordered twice
 day_0 : outcome_of book_t 0 (codes "M1" ∷ []) ≡ Err DayOutsideTerm

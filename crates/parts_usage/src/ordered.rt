@@ -17,7 +17,8 @@ pub fn ordered_set(
     day: Day,
     names: &[CodeName],
 ) -> Result<CodeSet, Fail<OrderFault>>
-    ensures { Answers result (unless (order_fault book.now day names.now) (Ok (named book.now.codes names.now))) }
+    ensures { let set = named book.now.codes names.now in
+        Answers result (unless (order_fault book.now day names.now) (Ok set)) }
 {
     let term = book.term();
     if !active(term.first, term.last, day) {

@@ -1,6 +1,6 @@
 //! Parts lists: which variant stands at which position.
-ghost use Rattle.std.specs.Prelude.{◌≡◌, ◌<◌, ◌++◌, IfOk, OnOk, length, filter};
-ghost use Rattle.book_model.specs.Parts.{parts, lines_at, is_selected_at, variants_of};
+ghost use Rattle.std.specs.Prelude.{◌≡◌, ◌<◌, ◌++◌, IfOk, OnOk, length};
+ghost use Rattle.book_model.specs.Parts.{parts, lines_at, selected_of};
 
 use crate::selected::is_selected_at;
 use book_model::{Book, active};
@@ -54,7 +54,8 @@ fn push_lines(
 ) -> Result<(), Memory>
     requires codes { length set.now ≡ length book.now.codes }
     requires in_range { place < length book.now.positions }
-    ensures { OnOk result (lines.new.items ≡ lines.old.items ++ lines_at place (filter (is_selected_at book.now day set.now) (variants_of place book.now.variants))) }
+    ensures { let selected = selected_of book.now day set.now place in
+        OnOk result (lines.new.items ≡ lines.old.items ++ lines_at place selected) }
 {
     for variant in book.variants_of(place) {
         if is_selected_at(book, day, set, *variant) {

@@ -1,6 +1,6 @@
 //! The positions of which a set of codes selects a number of variants that isn't permitted.
-ghost use Rattle.std.specs.Prelude.{◌≡◌, ◌<◌, ◌≤◌, length, filter};
-ghost use Rattle.book_model.specs.Parts.{is_selected_at, variants_of};
+ghost use Rattle.std.specs.Prelude.{◌≡◌, ◌<◌, length};
+ghost use Rattle.book_model.specs.Parts.{selected_of};
 ghost use Rattle.book_model.specs.Sound.{permits};
 ghost use Rattle.parts_usage.specs.Unfit.{first_unfit_of};
 
@@ -51,7 +51,7 @@ fn permits(position: &Position, count: u32) -> bool
 fn count_selected(book: &Book, day: Day, set: &CodeSet, place: u32) -> u32
     requires codes { length set.now ≡ length book.now.codes }
     requires in_range { place < length book.now.positions }
-    ensures { result ≡ length (filter (is_selected_at book.now day set.now) (variants_of place book.now.variants)) }
+    ensures { result ≡ length (selected_of book.now day set.now place) }
 {
     let mut count = 0;
     for variant in book.variants_of(place) {

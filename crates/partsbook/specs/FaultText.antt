@@ -8,7 +8,7 @@ use Rattle.book_text.specs.declared.fault.BookFault.{BookFault}
 use Rattle.book_text.specs.declared.fault.BookKind.{BookKind}
 use Rattle.book_text.specs.declared.fault.BookKind.TheVariants.{TooLarge, NotUtf8, NoBookRecord, SecondBookRecord, UnknownKind, FieldCount, BadName, BadNumber, BadDays, Duplicate, UnknownName, BadRule, Limit}
 use Rattle.book_text.specs.declared.fault.Which.{Which}
-use Rattle.book_text.specs.declared.fault.Which.TheVariants.{Codes, Supplements, Constructs, Modules, Positions, Variants, Choices}
+use Rattle.book_text.specs.declared.fault.Which.TheVariants.{Codes, Supplements, Constructs, Groups, Modules, Positions, Variants, Choices}
 use Rattle.parts_usage.specs.Fault.{fault_number as order_number}
 use Rattle.parts_usage.specs.declared.fault.OrderFault.{OrderFault}
 use Rattle.parts_usage.specs.declared.fault.OrderFault.TheVariants.{DayOutsideTerm, UnknownCode as UnknownOrdered, RepeatedCode}
@@ -30,6 +30,7 @@ abbrev pub which_text : Which → List ℕ
 which_text Codes = codes " codes"
 which_text Supplements = codes " supplements"
 which_text Constructs = codes " constructs"
+which_text Groups = codes " groups"
 which_text Modules = codes " modules"
 which_text Positions = codes " positions"
 which_text Variants = codes " variants"

@@ -15,10 +15,10 @@ use pb_base::limits::MOST_TEXT_BYTES;
 use pb_outside::{Files, OutError, Source, read_up_to};
 use std::alloc::Global;
 
-/// One byte more than a book's text may have shows that it is too large.
+// One byte more than a book's text may have shows that it is too large.
 const INPUT_LIMIT: usize = MOST_TEXT_BYTES + 1;
 
-/// The numbers of the source and the files in the log.
+// The numbers of the source and the files in the log.
 const SOURCE: u8 = 1;
 
 const FILES: u8 = 2;

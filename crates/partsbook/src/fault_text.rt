@@ -59,6 +59,7 @@ fn which_text(which: &Which) -> &'static [u8]
         Which::Codes => b" codes",
         Which::Supplements => b" supplements",
         Which::Constructs => b" constructs",
+        Which::Groups => b" groups",
         Which::Modules => b" modules",
         Which::Positions => b" positions",
         Which::Variants => b" variants",

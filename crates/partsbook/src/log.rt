@@ -60,11 +60,10 @@ impl RunLog {
     }
 
     /// Moves notes behind the others. On want of memory the log is as before.
-    pub fn append(&mut self, notes: Vec<Note>) -> Result<(), Memory>
+    pub fn append(&mut self, mut notes: Vec<Note>) -> Result<(), Memory>
         ensures ok { OnOk result (self.new ≡ self.old ++ notes.items) }
         ensures err { OnErr result (self.new ≡ self.old) }
     {
-        let mut notes = notes;
         self.notes.append(&mut notes)?;
         Ok(())
     }

@@ -35,7 +35,7 @@ fn main(rt: HostRuntime) -> ExitCode {
     ExitCode::from(run_given(alloc, words, &mut source, &mut sink, &mut files, &mut log))
 }
 
-/// The words after the program's name.
+// The words after the program's name.
 fn given_words(rt: &HostRuntime) -> io::Result<Vec<String>> {
     let mut words = env::args(rt)?;
     let _program = words.next();

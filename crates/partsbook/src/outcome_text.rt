@@ -50,7 +50,7 @@ fn put_accepted(text: &mut Text, book: &Book, set: &CodeSet, list: &PartsList) -
     Ok(())
 }
 
-/// The names of the codes in the set, each behind a space.
+// The names of the codes in the set, each behind a space.
 fn put_names(text: &mut Text, codes: &CodeTable, set: &CodeSet) -> Result<(), Memory>
     ensures { OnOk result (text.new ≡ text.old ++ names_from 0 set.now codes.now) }
 {
@@ -62,7 +62,8 @@ fn put_names(text: &mut Text, codes: &CodeTable, set: &CodeSet) -> Result<(), Me
 
 fn put_name(text: &mut Text, codes: &CodeTable, set: &CodeSet, place: u32) -> Result<(), Memory>
     requires { place < length codes.now }
-    ensures { OnOk result (IfSome (slice_get codes.now place) (λ name. text.new ≡ text.old ++ named set.now place name)) }
+    ensures { let found = slice_get codes.now place in
+        OnOk result (IfSome found (λ name. text.new ≡ text.old ++ named set.now place name)) }
 {
     if !is_in(set, place) {
         return Ok(());
@@ -87,7 +88,7 @@ fn put_parts(text: &mut Text, book: &Book, lines: &[Line]) -> Result<(), Memory>
     Ok(())
 }
 
-/// `MODULE,POSITION,PART,QUANTITY`.
+// `MODULE,POSITION,PART,QUANTITY`.
 fn put_parts_line(text: &mut Text, book: &Book, line: &Line) -> Result<(), Memory>
     ensures { OnOk result (text.new ≡ text.old ++ parts_line book.now line.now) }
 {
@@ -130,7 +131,7 @@ fn position_id(book: &Book, position: u32) -> &[u8]
     }
 }
 
-/// The module in which a position stands, or `-` for none.
+// The module in which a position stands, or `-` for none.
 fn module_id(book: &Book, position: u32) -> &[u8]
     ensures { result.now ≡ module_id book.now position }
 {

@@ -10,6 +10,7 @@ use crate::due::due_reply;
 use crate::log::RunLog;
 use crate::tell::{tell, tell_usage, tell_want_of_memory};
 use crate::words::command_in;
+use pb_base::Memory;
 use pb_outside::{Files, Sink, Source};
 use std::alloc::Global;
 
@@ -63,7 +64,7 @@ fn do_words<S: Source, K: Sink, F: Files>(
     match command_in(alloc, words) {
         Ok(Some(command)) => answer(alloc, &command, source, sink, files, log),
         Ok(None) => tell_usage(sink, log),
-        Err(_) => tell_want_of_memory(sink, log),
+        Err(Memory) => tell_want_of_memory(sink, log),
     }
 }
 
@@ -81,6 +82,6 @@ fn answer<S: Source, K: Sink, F: Files>(
 {
     match due_reply(alloc, command, source, files) {
         Ok(reply) => tell(reply, sink, log),
-        Err(_) => tell_want_of_memory(sink, log),
+        Err(Memory) => tell_want_of_memory(sink, log),
     }
 }

@@ -6,6 +6,7 @@ ghost use Rattle.partsbook.specs.Tells.{IsWritten, Tells};
 
 use crate::log::{Note, RunLog};
 use crate::run_reply::RunReply;
+use pb_base::Memory;
 use pb_outside::Sink;
 
 const USAGE: u8 = 2;
@@ -14,7 +15,7 @@ const WRITE_FAULT: u8 = 5;
 
 const WANT_OF_MEMORY: u8 = 9;
 
-/// The number of the sink in the log.
+// The number of the sink in the log.
 const SINK: u8 = 3;
 
 /// Notes what the reply rests on, writes its text, and gives its status.
@@ -26,7 +27,7 @@ pub fn tell<K: Sink>(reply: RunReply, sink: &mut K, log: &mut RunLog) -> u8
     let (text, status, notes) = reply.into_parts();
     match log.append(notes) {
         Ok(()) => write(text.bytes(), status, sink, log),
-        Err(_) => tell_want_of_memory(sink, log),
+        Err(Memory) => tell_want_of_memory(sink, log),
     }
 }
 
@@ -53,8 +54,8 @@ pub fn tell_want_of_memory<K: Sink>(sink: &mut K, log: &mut RunLog) -> u8
     write(b"want of memory\n", WANT_OF_MEMORY, sink, log)
 }
 
-/// Writes a text, and gives its status. Where the sink fails, its counts are noted, and the status is that of a write fault,
-/// or of want of memory for the note.
+// Writes a text, and gives its status. Where the sink fails, its counts are noted, and the status is that of a write fault,
+// or of want of memory for the note.
 fn write<K: Sink>(text: &[u8], status: u8, sink: &mut K, log: &mut RunLog) -> u8
     ensures { let before = outputs (K.output sink.old) log.old in
         let after = outputs (K.output sink.new) log.new in
@@ -72,6 +73,6 @@ fn write<K: Sink>(text: &[u8], status: u8, sink: &mut K, log: &mut RunLog) -> u8
     };
     match log.push(note) {
         Ok(()) => WRITE_FAULT,
-        Err(_) => WANT_OF_MEMORY,
+        Err(Memory) => WANT_OF_MEMORY,
     }
 }

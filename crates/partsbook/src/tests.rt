@@ -1,47 +1,54 @@
-//! The answers of `run`, as a person would check them by hand.
+//! The answers of `run`, as a person would check them by hand, and the calls of the crates below with ample memory and at
+//! their limits.
+//!
+//! A table of cases is one text, a row a line: `~` parts the fields of a row, and `^` in a field stands for the end of a line.
 
+mod books;
 mod certificates;
+mod clauses;
+mod fault_texts;
+mod groups;
+mod orders;
 mod outside;
 
 use crate::log::RunLog;
 use crate::run::run;
-use pb_base::short_number;
+use book_model::Book;
+use book_text::read_book;
+use pb_base::{Memory, Text, number_within};
 use pb_outside::{MemoryFiles, MemorySink, MemorySource, NamedFile};
 use std::alloc::Global;
 use std::process::Abort;
 use std::test::Fail;
 
-/// A book of two engines and two gears. An engine that is ordered brings the gears that fit it.
-const ENGINE: [&str; 14] = [
-    "book,T,1,1000",
-    "code,M1,engine one",
-    "code,M2,engine two",
-    "code,G5,five gears",
-    "code,G7,seven gears",
-    "code,AC,air",
-    "construct,C1,*,M1/M2,,",
-    "construct,C2,M1,-M2,,",
-    "construct,C3,*,G5/G7,,",
-    "construct,C4,G5,-G7,,",
-    "supplement,S1,10,G5,M1+-G7,,",
-    "module,MOT,motor",
-    "position,P1,MOT,mandatory,,",
-    "variant,V1,P1,A100,1,M1,,\nvariant,V2,P1,A200,1,M2,,",
-];
+// A book of two engines and two gears. An engine that is ordered brings the gears that fit it.
+const ENGINE: &[u8] = b"book,T,1,1000\n\
+code,M1,engine one\n\
+code,M2,engine two\n\
+code,G5,five gears\n\
+code,G7,seven gears\n\
+code,AC,air\n\
+construct,C1,*,M1/M2,,\n\
+construct,C2,M1,-M2,,\n\
+construct,C3,*,G5/G7,,\n\
+construct,C4,G5,-G7,,\n\
+supplement,S1,10,G5,M1+-G7,,\n\
+module,MOT,motor\n\
+position,P1,MOT,mandatory,,\n\
+variant,V1,P1,A100,1,M1,,\n\
+variant,V2,P1,A200,1,M2,,";
 
 const USAGE: &str = "usage: order DAY CODE.. | verify CERTFILE\n";
 
-/// The text of these lines, each ended by `end`.
-fn joined(alloc: Global, lines: &[&str], end: &str) -> Result<Vec<u8>, Fail> {
-    let mut text = Vec::new(alloc);
-    for line in lines {
-        text.extend_from_slice(line.as_bytes())?;
-        text.extend_from_slice(end.as_bytes())?;
-    }
-    Ok(text)
+// The book of a text that says one.
+fn book_of(alloc: Global, text: &[u8]) -> Result<Book, Fail> {
+    let Ok(book) = read_book(alloc, text) else {
+        return Err(Fail::from("no book"));
+    };
+    Ok(book)
 }
 
-/// The words of a command line that are parted by spaces.
+// The words of a command line that are parted by spaces.
 fn words_of(alloc: Global, line: &str) -> Result<Vec<String>, Fail> {
     let mut words = Vec::new(alloc);
     for word in line.split(' ') {
@@ -50,28 +57,7 @@ fn words_of(alloc: Global, line: &str) -> Result<Vec<String>, Fail> {
     Ok(words)
 }
 
-/// Asserts what a run with these words writes for this input, where these files are there, and its status.
-fn answers(
-    rt: &impl Abort,
-    alloc: Global,
-    input: Vec<u8>,
-    files: Vec<NamedFile>,
-    words: &str,
-    want: (u8, &str),
-) -> Result<(), Fail> {
-    let all = words_of(alloc, words)?;
-    let pieces = [7, 0, 100].to_vec(alloc)?;
-    let mut source = MemorySource::new(input, pieces, Vec::new(alloc));
-    let mut sink = MemorySink::new(alloc, 1000, Vec::new(alloc))?;
-    let mut files = MemoryFiles::new(files, Vec::new(alloc));
-    let mut log = RunLog::new(alloc);
-    let status = run(alloc, &all, &mut source, &mut sink, &mut files, &mut log);
-    assert_eq!(rt; sink.taken(), want.1.as_bytes(), "text of {words}");
-    assert_eq!(rt; status, want.0, "status of {words}");
-    Ok(())
-}
-
-/// The text of a field of a table, in which `^` stands for the end of a line.
+// The text of a field of a table.
 fn unfolded(alloc: Global, field: &[u8]) -> Result<Vec<u8>, Fail> {
     let mut text = Vec::new(alloc);
     for b in field {
@@ -80,11 +66,13 @@ fn unfolded(alloc: Global, field: &[u8]) -> Result<Vec<u8>, Fail> {
     Ok(text)
 }
 
-/// Asserts what a run with these words writes for this input, and its status, each as a field of a table.
-fn fields_answer(
+// Asserts what a run with these words writes for this input, where these files are there, and its status. Words, status
+// and output are fields of a table.
+fn answers(
     rt: &impl Abort,
     alloc: Global,
     input: Vec<u8>,
+    files: Vec<NamedFile>,
     words: &[u8],
     status: &[u8],
     output: &[u8],
@@ -94,37 +82,60 @@ fn fields_answer(
     };
     let all = words_of(alloc, words)?;
     let want = unfolded(alloc, output)?;
-    let mut source = MemorySource::new(input, Vec::new(alloc), Vec::new(alloc));
-    let mut sink = MemorySink::new(alloc, 1000, Vec::new(alloc))?;
-    let mut files = MemoryFiles::new(Vec::new(alloc), Vec::new(alloc));
+    let pieces = [7, 0, 1000].to_vec(alloc)?;
+    let mut source = MemorySource::new(input, pieces, Vec::new(alloc));
+    let mut sink = MemorySink::new(alloc, 9999, Vec::new(alloc))?;
+    let mut files = MemoryFiles::new(files, Vec::new(alloc));
     let mut log = RunLog::new(alloc);
     let found = run(alloc, &all, &mut source, &mut sink, &mut files, &mut log);
     assert_eq!(rt; sink.taken(), want.as_slice(), "text of {words}");
     assert_eq!(rt;
-        Some(u32::from(found)),
-        short_number(status),
+        Some(u64::from(found)),
+        number_within(status, 1),
         "status of {words}"
     );
     Ok(())
 }
 
-/// The engine book's text with another line at this place, or as it is where there is no such place.
-fn engine_with(alloc: Global, place: &[u8], line: &[u8], end: &str) -> Result<Vec<u8>, Fail> {
-    let changed = short_number(place);
+// Asserts a row `TEXT~WORDS~STATUS~OUTPUT` of a table, over this text with that of the row behind it.
+fn row_answers(rt: &impl Abort, alloc: Global, front: &[u8], row: &[u8]) -> Result<(), Fail> {
+    let mut fields = row.split(|b| *b == b'~');
+    let (Some(text), Some(words)) = (fields.next(), fields.next()) else {
+        return Err("a text and words".into());
+    };
+    let (Some(status), Some(output)) = (fields.next(), fields.next()) else {
+        return Err("a status and an output".into());
+    };
+    let mut input = front.to_vec(alloc)?;
+    input.append(&mut unfolded(alloc, text)?)?;
+    answers(rt, alloc, input, Vec::new(alloc), words, status, output)
+}
+
+// Asserts each row of such a table.
+fn table_answers(rt: &impl Abort, alloc: Global, front: &[u8], table: &[u8]) -> Result<(), Fail> {
+    for row in table.split(|b| *b == b'\n') {
+        row_answers(rt, alloc, front, row)?;
+    }
+    Ok(())
+}
+
+// The engine book's text with another line at this place, or as it is where there is no such place.
+fn engine_with(alloc: Global, place: &[u8], line: &[u8], end: &[u8]) -> Result<Vec<u8>, Fail> {
+    let changed = number_within(place, 2);
     let mut text = Vec::new(alloc);
-    for (at, own) in ENGINE.iter().enumerate() {
-        if Some(at as u32) == changed {
+    for (at, own) in ENGINE.split(|b| *b == b'\n').enumerate() {
+        if Some(at as u64) == changed {
             text.append(&mut unfolded(alloc, line)?)?;
         } else {
-            text.extend_from_slice(own.as_bytes())?;
+            text.extend_from_slice(own)?;
         }
-        text.extend_from_slice(end.as_bytes())?;
+        text.extend_from_slice(end)?;
     }
     Ok(text)
 }
 
-/// Asserts a row `PLACE~LINE~WORDS~STATUS~OUTPUT` of a table, over the engine book with that line at that place.
-fn engine_row_answers(rt: &impl Abort, alloc: Global, end: &str, row: &[u8]) -> Result<(), Fail> {
+// Asserts a row `PLACE~LINE~WORDS~STATUS~OUTPUT` of a table, over the engine book with that line at that place.
+fn engine_row_answers(rt: &impl Abort, alloc: Global, end: &[u8], row: &[u8]) -> Result<(), Fail> {
     let mut fields = row.split(|b| *b == b'~');
     let (Some(place), Some(line)) = (fields.next(), fields.next()) else {
         return Err("a place and a line".into());
@@ -134,18 +145,65 @@ fn engine_row_answers(rt: &impl Abort, alloc: Global, end: &str, row: &[u8]) -> 
         return Err("words, a status and an output".into());
     };
     let input = engine_with(alloc, place, line, end)?;
-    fields_answer(rt, alloc, input, words, status, output)
+    answers(rt, alloc, input, Vec::new(alloc), words, status, output)
 }
 
-/// Asserts each row of a table over the engine book.
-fn engine_answers(rt: &impl Abort, alloc: Global, end: &str, table: &[u8]) -> Result<(), Fail> {
+// Asserts each row of a table over the engine book.
+fn engine_answers(rt: &impl Abort, alloc: Global, end: &[u8], table: &[u8]) -> Result<(), Fail> {
     for row in table.split(|b| *b == b'\n') {
         engine_row_answers(rt, alloc, end, row)?;
     }
     Ok(())
 }
 
-/// Orders against the engine book.
+// The text of a book of so many codes, with a position for each letter: whether it is mandatory, and how many variants
+// it has, say `position_of`.
+fn text_with(alloc: Global, codes: u32, positions: &[u8]) -> Result<Text, Memory> {
+    let mut text = Text::new(alloc);
+    text.put(b"book,L,1,9\n")?;
+    for code in 0..codes {
+        text.put(b"code,K")?;
+        text.put_number(u64::from(code))?;
+        text.put(b",\n")?;
+    }
+    for (place, letter) in positions.iter().enumerate() {
+        put_position(&mut text, place as u64, *letter)?;
+    }
+    Ok(text)
+}
+
+// Whether the position of a letter is mandatory, and how many variants it has.
+fn position_of(letter: u8) -> (bool, u32) {
+    match letter {
+        b'F' => (true, 200),
+        b'M' => (true, 173),
+        b'E' => (true, 8),
+        _ => (false, 1),
+    }
+}
+
+fn put_position(text: &mut Text, place: u64, letter: u8) -> Result<(), Memory> {
+    let (mandatory, variants) = position_of(letter);
+    text.put(b"position,P")?;
+    text.put_number(place)?;
+    text.put(if mandatory {
+        b",,mandatory,,\n"
+    } else {
+        b",,optional,,\n"
+    })?;
+    for variant in 0..variants {
+        text.put(b"variant,P")?;
+        text.put_number(place)?;
+        text.put(b"V")?;
+        text.put_number(u64::from(variant))?;
+        text.put(b",P")?;
+        text.put_number(place)?;
+        text.put(b",X,1,K0,,\n")?;
+    }
+    Ok(())
+}
+
+// Orders against the engine book.
 const ORDERS: &[u8] = b"99~~order 1 M1~0~accepted^codes M1 G5^MOT,P1,A100,1^\n\
 99~~order 1~1~refused C1^\n\
 99~~order 1 M1 M2~1~refused C2^\n\
@@ -161,7 +219,7 @@ const ORDERS: &[u8] = b"99~~order 1 M1~0~accepted^codes M1 G5^MOT,P1,A100,1^\n\
 12~position,P1,,mandatory,,~order 1 M1~0~accepted^codes M1 G5^-,P1,A100,1^\n\
 12~position,P1,MOT,optional,,^variant,V0,P1,A050,7,AC,,~order 1 M1 AC~1~unfit P1 2^";
 
-/// Words that are of no form.
+// Words that are of no form.
 const FORMLESS: &[u8] = b"99~~order~2~usage: order DAY CODE.. | verify CERTFILE^\n\
 99~~order x M1~2~usage: order DAY CODE.. | verify CERTFILE^\n\
 99~~order 000001 M1~2~usage: order DAY CODE.. | verify CERTFILE^\n\
@@ -172,7 +230,7 @@ const FORMLESS: &[u8] = b"99~~order~2~usage: order DAY CODE.. | verify CERTFILE^
 99~~verify -C~2~usage: order DAY CODE.. | verify CERTFILE^\n\
 99~~verify C D~2~usage: order DAY CODE.. | verify CERTFILE^";
 
-/// The form of the text: a byte order mark, a padded row, and the first fault.
+// The form of the text: a byte order mark, a padded row, and the first fault.
 const FORMS: &[u8] =
     b"0~\xef\xbb\xbfbook,T,1,1000~order 1 M1~0~accepted^codes M1 G5^MOT,P1,A100,1^\n\
 0~book,T,1,1000,,,,~order 1 M1~0~accepted^codes M1 G5^MOT,P1,A100,1^\n\
@@ -180,47 +238,23 @@ const FORMS: &[u8] =
 2~code,M1,x~order 1 M1~3~book fault 3 10^\n\
 6~construct,C1,*,M1+,,~order 1 M1~3~book fault 7 12 4 3^";
 
+// Rules that supplement by rank, and at one rank by the earlier record.
+const RANKS: &[u8] =
+    b"supplement,S1,1,C,B,,^supplement,S2,2,B,A,,^construct,C1,A,C,,^~order 1 A~0~accepted^codes A B C^\n\
+supplement,S1,1,B,A+-C,,^supplement,S2,2,C,A+-B,,^~order 1 A~0~accepted^codes A B^\n\
+supplement,S1,2,B,A+-C,,^supplement,S2,1,C,A+-B,,^~order 1 A~0~accepted^codes A C^\n\
+supplement,S1,1,B,A+-C,,^supplement,S2,1,C,A+-B,,^~order 1 A~0~accepted^codes A B^";
+
 #[test]
 fn orders_against_the_engine_book(rt: HostRuntime) -> Result<(), Fail> {
     let alloc = rt.alloc();
-    engine_answers(&rt, alloc, "\n", ORDERS)?;
-    engine_answers(&rt, alloc, "\n", FORMLESS)?;
-    engine_answers(&rt, alloc, "\r\n", FORMS)
+    engine_answers(&rt, alloc, b"\n", ORDERS)?;
+    engine_answers(&rt, alloc, b"\n", FORMLESS)?;
+    engine_answers(&rt, alloc, b"\r\n", FORMS)
 }
 
 #[test]
 fn rules_that_supplement_by_rank(rt: HostRuntime) -> Result<(), Fail> {
-    let alloc = rt.alloc();
-    for (first, second, rule, text) in [
-        (
-            "supplement,S1,1,C,B,,",
-            "supplement,S2,2,B,A,,",
-            "construct,C1,A,C,,",
-            "accepted\ncodes A B C\n",
-        ),
-        (
-            "supplement,S1,1,B,A+-C,,",
-            "supplement,S2,2,C,A+-B,,",
-            "",
-            "accepted\ncodes A B\n",
-        ),
-        (
-            "supplement,S1,2,B,A+-C,,",
-            "supplement,S2,1,C,A+-B,,",
-            "",
-            "accepted\ncodes A C\n",
-        ),
-        (
-            "supplement,S1,1,B,A+-C,,",
-            "supplement,S2,1,C,A+-B,,",
-            "",
-            "accepted\ncodes A B\n",
-        ),
-    ] {
-        let front = ["book,U,1,10", "code,A,", "code,B,", "code,C,"];
-        let mut input = joined(alloc, &front, "\n")?;
-        input.append(&mut joined(alloc, &[first, second, rule], "\n")?)?;
-        answers(&rt, alloc, input, Vec::new(alloc), "order 1 A", (0, text))?;
-    }
-    Ok(())
+    let front = b"book,U,1,10\ncode,A,\ncode,B,\ncode,C,\n";
+    table_answers(&rt, rt.alloc(), front, RANKS)
 }

@@ -1,4 +1,5 @@
 pub mod NamedSets
+mod NameBytes
 mod NameFaults
 mod DigitRoom
 pub mod Nodes

@@ -43,7 +43,7 @@ impl CodeTable {
         requires { length self.old + 1 < 2 ^ 32 }
         ensures { AddsName self.old name self.new result }
     {
-        let _form = name.bytes();
+        name.form_law();
         self.names.add(name)
     }
 
@@ -69,6 +69,14 @@ impl CodeTable {
         ensures form { list_all is_code_name self.now ≡ true }
     {
         self.names.len()
+    }
+
+    /// What is known of every table; the call does nothing. No two codes have one name, and each name is that of a code.
+    pub fn names_law(&self)
+        ensures distinct { IsDistinct same_name self.now }
+        ensures form { list_all is_code_name self.now ≡ true }
+    {
+        let _names = self.names.len();
     }
 
     /// Whether there are no codes.

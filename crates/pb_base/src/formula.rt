@@ -1,13 +1,12 @@
 //! Formulas over the codes of a book.
-ghost use Rattle.std.specs.Prelude.{◌≡◌, ◌+◌, ◌++◌, ◌∷◌, [], replicate, IsTrue, IfOk, OnOk, length};
-ghost use Rattle.pb_base.specs.Rule.{code, negation, both, either, always, never, holds, codes_below, negated};
-ghost use Rattle.pb_base.specs.Node.{nodes_of, rule_of, rule_of_leaf, leaf_node};
+ghost use Rattle.std.specs.Prelude.{◌≡◌, ◌++◌, ◌∷◌, [], IsTrue, IfOk, OnOk, length};
+ghost use Rattle.pb_base.specs.Rule.{code, negation, both, either, always, never, holds, codes_below};
+ghost use Rattle.pb_base.specs.Node.{nodes_of, rule_of};
 ghost use Rattle.pb_base.specs.Shape.{rule_of_shape};
-ghost use Rattle.pb_base.specs.declared.node.Node.TheVariants.{Not};
 
 use crate::answer::Memory;
 use crate::code_set::CodeSet;
-use crate::node::{Leaf, Node};
+use crate::node::Node;
 use crate::part::{FormulaPart, Shape};
 use std::alloc::Global;
 use std::marker::Model;
@@ -65,15 +64,6 @@ impl Formula {
         Ok(self)
     }
 
-    /// The formula under this many minus signs.
-    #[inline(always)]
-    pub fn negated(mut self, signs: u32) -> Result<Formula, Memory>
-        ensures { IfOk result (λ f. f ≡ negated signs self) }
-    {
-        push_signs(&mut self.nodes, signs)?;
-        Ok(self)
-    }
-
     /// The formula that is true where both are, written `+` in a rule. A side of 2^32 nodes counts as want of memory.
     pub fn and(mut self, right: Formula) -> Result<Formula, Memory>
         ensures { IfOk result (λ f. f ≡ both self right) }
@@ -99,40 +89,6 @@ impl Formula {
             &right.nodes,
             Node::Or(size),
         )?;
-        Ok(self)
-    }
-
-    /// A word under this many minus signs.
-    #[inline(always)]
-    pub fn leaf(alloc: Global, leaf: Leaf, signs: u32) -> Result<Formula, Memory>
-        ensures { IfOk result (λ f. f ≡ negated signs (rule_of_leaf leaf)) }
-    {
-        let mut nodes = Vec::new(alloc);
-        push_leaf(&mut nodes, leaf, signs)?;
-        Ok(Formula { nodes })
-    }
-
-    /// The formula and a word under this many minus signs, joined in place.
-    #[inline(always)]
-    pub fn and_leaf(mut self, leaf: Leaf, signs: u32) -> Result<Formula, Memory>
-        ensures { IfOk result (λ f. f ≡ both self (negated signs (rule_of_leaf leaf))) }
-    {
-        let size = size_of_leaf(signs)?;
-        self.nodes.push(Node::WhenTrue(size))?;
-        push_leaf(&mut self.nodes, leaf, signs)?;
-        self.nodes.push(Node::And(size))?;
-        Ok(self)
-    }
-
-    /// The formula or a word under this many minus signs, joined in place.
-    #[inline(always)]
-    pub fn or_leaf(mut self, leaf: Leaf, signs: u32) -> Result<Formula, Memory>
-        ensures { IfOk result (λ f. f ≡ either self (negated signs (rule_of_leaf leaf))) }
-    {
-        let size = size_of_leaf(signs)?;
-        self.nodes.push(Node::WhenFalse(size))?;
-        push_leaf(&mut self.nodes, leaf, signs)?;
-        self.nodes.push(Node::Or(size))?;
         Ok(self)
     }
 
@@ -190,17 +146,6 @@ fn size_of(nodes: &[Node]) -> Result<u32, Memory>
     u32::try_from(nodes.len()).map_err(|_| Memory)
 }
 
-// The number of nodes of a word under this many minus signs.
-#[inline(always)]
-fn size_of_leaf(signs: u32) -> Result<u32, Memory>
-    ensures { IfOk result (λ size. size ≡ signs + 1) }
-{
-    match signs.checked_add(1) {
-        Some(size) => Ok(size),
-        None => Err(Memory),
-    }
-}
-
 // Puts the right side of a connective behind the others, between its jump and the connective.
 fn push_side(nodes: &mut Vec<Node>, jump: Node, side: &[Node], join: Node) -> Result<(), Memory>
     ensures { OnOk result (nodes.new.items ≡ nodes.old.items ++ jump ∷ (side.now ++ join ∷ [])) }
@@ -209,25 +154,5 @@ fn push_side(nodes: &mut Vec<Node>, jump: Node, side: &[Node], join: Node) -> Re
     nodes.push(jump)?;
     nodes.extend_from_slice(side)?;
     nodes.push(join)?;
-    Ok(())
-}
-
-// Puts a word and its minus signs behind the others.
-#[inline(always)]
-fn push_leaf(nodes: &mut Vec<Node>, leaf: Leaf, signs: u32) -> Result<(), Memory>
-    ensures { OnOk result (nodes.new.items ≡ nodes.old.items ++ leaf_node leaf ∷ replicate signs Not) }
-{
-    nodes.push(leaf.node())?;
-    push_signs(nodes, signs)
-}
-
-// Puts this many minus signs behind the others.
-#[inline(always)]
-fn push_signs(nodes: &mut Vec<Node>, signs: u32) -> Result<(), Memory>
-    ensures { OnOk result (nodes.new.items ≡ nodes.old.items ++ replicate signs Not) }
-{
-    for _ in 0..signs {
-        nodes.push(Node::Not)?;
-    }
     Ok(())
 }

@@ -24,7 +24,7 @@ pub use day::Day;
 pub use digits::{number_within, short_number};
 pub use formula::Formula;
 pub use named_set::NameFault;
-pub use names::{CodeName, Id, Part};
+pub use names::{CodeName, Id, Part, is_name_byte};
 pub use node::{Leaf, Node};
 pub use part::{FormulaPart, Shape};
 pub use sequence::{Body, CodeList, Sequence};

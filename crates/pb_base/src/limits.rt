@@ -11,8 +11,17 @@ pub const MOST_CODES: usize = 2_000;
 /// The most supplementing rules of a book.
 pub const MOST_SUPPLEMENTS: usize = 5_000;
 
-/// The most constructibility rules of a book.
+/// The most constructibility rules of a book that are no groups.
 pub const MOST_CONSTRUCTS: usize = 10_000;
+
+/// The most groups of codes of a book.
+pub const MOST_GROUPS: usize = 1_000;
+
+/// The fewest codes of one group.
+pub const LEAST_GROUP_CODES: usize = 2;
+
+/// The most codes of one group.
+pub const MOST_GROUP_CODES: usize = 64;
 
 /// The most modules of a book.
 pub const MOST_MODULES: usize = 1_000;

@@ -73,11 +73,23 @@ impl CodeName {
         ensures name { IfSome result (λ name. (name ≡ bytes.now) × (is_code_name bytes.now ≡ true)) }
         ensures none { IfNone result (is_code_name bytes.now ≡ false) }
     {
-        if is_word(bytes, 8) && !is_constant(bytes) {
-            Some(CodeName(Padded::of(bytes)))
+        if is_word(bytes, 8) {
+            CodeName::of_word(bytes)
         } else {
             None
         }
+    }
+
+    /// The name of a word, which has only bytes of A to Z and 0 to 9, or None where it is no name.
+    pub fn of_word(word: &[u8]) -> Option<CodeName>
+        requires { list_all is_name_byte word.now ≡ true }
+        ensures name { IfSome result (λ name. (name ≡ word.now) × (is_code_name word.now ≡ true)) }
+        ensures none { IfNone result (is_code_name word.now ≡ false) }
+    {
+        if word.is_empty() || word.len() > 8 || is_constant(word) {
+            return None;
+        }
+        Some(CodeName(Padded::of(word)))
     }
 
     /// The bytes of the name.
@@ -86,6 +98,13 @@ impl CodeName {
         ensures form { is_code_name self.now ≡ true }
     {
         self.0.bytes()
+    }
+
+    // What is known of every name of a code; the call does nothing.
+    pub(crate) fn form_law(&self)
+        ensures { is_code_name self.now ≡ true }
+    {
+        let _bytes = &self.0;
     }
 }
 
@@ -155,8 +174,34 @@ fn are_name_bytes(bytes: &[u8]) -> bool
     bytes.iter().all(|b| is_name_byte(*b))
 }
 
-fn is_name_byte(b: u8) -> bool
+/// Whether the byte is one of A to Z and 0 to 9.
+#[inline(always)]
+pub fn is_name_byte(b: u8) -> bool
     ensures { result ≡ is_name_byte b }
 {
-    b.is_ascii_uppercase() || b.is_ascii_digit()
+    NAME_BYTES[b as usize]
 }
+
+// The same of each byte in turn: a look into a table is cheaper than the comparisons.
+const NAME_BYTES: [bool; 256] = [
+    false, false, false, false, false, false, false, false, false, false, false, false, false,
+    false, false, false, false, false, false, false, false, false, false, false, false, false,
+    false, false, false, false, false, false, false, false, false, false, false, false, false,
+    false, false, false, false, false, false, false, false, false, true, true, true, true, true,
+    true, true, true, true, true, false, false, false, false, false, false, false, true, true,
+    true, true, true, true, true, true, true, true, true, true, true, true, true, true, true, true,
+    true, true, true, true, true, true, true, true, false, false, false, false, false, false,
+    false, false, false, false, false, false, false, false, false, false, false, false, false,
+    false, false, false, false, false, false, false, false, false, false, false, false, false,
+    false, false, false, false, false, false, false, false, false, false, false, false, false,
+    false, false, false, false, false, false, false, false, false, false, false, false, false,
+    false, false, false, false, false, false, false, false, false, false, false, false, false,
+    false, false, false, false, false, false, false, false, false, false, false, false, false,
+    false, false, false, false, false, false, false, false, false, false, false, false, false,
+    false, false, false, false, false, false, false, false, false, false, false, false, false,
+    false, false, false, false, false, false, false, false, false, false, false, false, false,
+    false, false, false, false, false, false, false, false, false, false, false, false, false,
+    false, false, false, false, false, false, false, false, false, false, false, false, false,
+    false, false, false, false, false, false, false, false, false, false, false, false, false,
+    false, false, false,
+];

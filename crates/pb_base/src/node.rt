@@ -68,8 +68,9 @@ pub enum Leaf {
 impl Leaf {
     ghost use Rattle.pb_base.specs.Node.{leaf_node};
 
+    /// The node of the word.
     #[inline(always)]
-    pub(crate) fn node(self) -> Node
+    pub fn node(self) -> Node
         ensures { result ≡ leaf_node self }
     {
         match self {

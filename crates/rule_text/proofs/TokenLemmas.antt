@@ -1,6 +1,6 @@
 -- The tokens of a text, one after another.
 use Rattle.std.proofs.Common.{◌≡◌, ℕ, suc, ◌+◌, ◌<◌, ◌≤◌, Bool, true, false, cond, List, [], ◌∷◌, length, length-drop, eqb, take, drop, get_or, refl, sym, ap, subst, ◌∙◌, arith}
-use Rattle.std.specs.List.{prefix_len}
+use Rattle.std.specs.List.{prefix_len, list_all}
 use Rattle.std.proofs.lemmas.List.{at_drop_more, drop-drop}
 use Rattle.std.proofs.lemmas.List.Folds.{length-prefix_len}
 use Rattle.std.proofs.lemmas.List.Sums.{prefix_len-le-length}
@@ -33,6 +33,19 @@ pub in_word-skips : (bytes : List ℕ) (at : ℕ)
     → tokens_from true at bytes ≡ tokens_from false (at + prefix_len is_name_byte bytes) (drop (prefix_len is_name_byte bytes) bytes)
 in_word-skips [] at = refl
 in_word-skips (b ∷ bytes) at = in_word-step b bytes at (is_name_byte b) refl (in_word-skips bytes (at + 1))
+
+word_bytes-step : (b : ℕ) (bytes : List ℕ) (name : Bool) → is_name_byte b ≡ name
+    → list_all is_name_byte (take (prefix_len is_name_byte bytes) bytes) ≡ true
+    → list_all is_name_byte (take (prefix_len is_name_byte (b ∷ bytes)) (b ∷ bytes)) ≡ true
+word_bytes-step b bytes true name rest =
+    let one_more : 1 + prefix_len is_name_byte bytes ≡ suc (prefix_len is_name_byte bytes) = omega arith in
+    rw (name, one_more, name) rest
+word_bytes-step b bytes false name rest = rw name refl
+
+-- a word has word bytes alone
+pub word_bytes : (bytes : List ℕ) → list_all is_name_byte (take (prefix_len is_name_byte bytes) bytes) ≡ true
+word_bytes [] = refl
+word_bytes (b ∷ bytes) = word_bytes-step b bytes (is_name_byte b) refl (word_bytes bytes)
 
 -- whichever mark the tests choose, it is one byte
 chosen_len : (a b c d e f : Bool) → token_len (cond a plus (cond b slash (cond c minus (cond d opening (cond e closing (cond f semicolon other)))))) ≡ 1

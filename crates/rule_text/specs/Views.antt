@@ -1,7 +1,9 @@
 -- What the values of the reader stand for, and what it makes of a token.
-use Rattle.std.specs.Prelude.{ℕ, List, reverse, Result}
+use Rattle.std.specs.Prelude.{◌≡◌, ℕ, List, reverse, Result, true}
+use Rattle.std.specs.List.{list_all}
 use Rattle.pb_base.specs.Answers.{Leaves}
 use Rattle.pb_base.specs.declared.answer.Fail.{Fail}
+use Rattle.pb_base.specs.Names.{is_name_byte}
 use Rattle.rule_text.specs.Token.{Token, Placed, word, plus, slash, minus, opening, closing, semicolon, other}
 use Rattle.rule_text.specs.Steps.{State, step}
 use Rattle.rule_text.specs.declared.fault.RuleFault.{RuleFault}
@@ -20,6 +22,11 @@ token_of Opening = opening
 token_of Closing = closing
 token_of Semicolon = semicolon
 token_of Other = other
+
+-- a word has word bytes alone
+abbrev pub IsLexed : CodeToken → Type 0
+IsLexed (Word w) = list_all is_name_byte w.now ≡ true
+IsLexed token = Unit {0}
 
 -- the fault of a token that may not stand where it is
 abbrev pub misplaced : ℕ → Token → RuleFault

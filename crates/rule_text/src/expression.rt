@@ -1,5 +1,5 @@
 //! What was read of an expression, while the text inside a bracket or outside all brackets is read.
-ghost use Rattle.std.specs.Prelude.{◌≡◌, ◌++◌, ◌∷◌, ◌+◌, replicate, length, IfOk, OnOk};
+ghost use Rattle.std.specs.Prelude.{◌≡◌, ◌≤◌, ◌++◌, ◌∷◌, ◌+◌, replicate, length, vec_len, vec_capacity, IfOk, OnOk};
 ghost use Rattle.pb_base.specs.Rule.{negated};
 ghost use Rattle.pb_base.specs.Node.{nodes_of, rule_of_leaf, leaf_node};
 ghost use Rattle.pb_base.specs.declared.node.Node.TheVariants.{Not};
@@ -71,7 +71,8 @@ impl Expression {
         ensures { OnOk result (self.new ≡ with_factor self.old (negated signs (whole inner))) }
     {
         let mut factor = inner.into_nodes()?;
-        push_signs(&mut factor, signs)?;
+        factor.reserve(signs as usize)?;
+        put_signs(&mut factor, signs);
         match join_nodes(&mut self.nodes, self.start, &factor) {
             Ok(()) => Ok(()),
             Err(memory) => {
@@ -163,13 +164,16 @@ fn join_word(nodes: &mut Vec<Node>, start: usize, leaf: Leaf, signs: u32) -> Res
     ensures { let word = leaf_node leaf ∷ replicate signs Not in
         OnOk result (nodes.new.items ≡ with_nodes start nodes.old.items word) }
 {
-    if nodes.len() <= start {
-        return push_word(nodes, leaf, signs);
-    }
     let word_size = signs.checked_add(1).ok_or(Memory)?;
-    nodes.push(Node::WhenTrue(word_size))?;
-    push_word(nodes, leaf, signs)?;
-    nodes.push(Node::And(word_size))?;
+    // The word and its signs, a jump before them and a connective behind them.
+    nodes.reserve(word_size as usize + 2)?;
+    if nodes.len() <= start {
+        put_word(nodes, leaf, signs);
+    } else {
+        nodes.push_reserved(Node::WhenTrue(word_size));
+        put_word(nodes, leaf, signs);
+        nodes.push_reserved(Node::And(word_size));
+    }
     Ok(())
 }
 
@@ -196,33 +200,27 @@ fn size_of(nodes: &[Node]) -> Result<u32, Memory>
     u32::try_from(nodes.len()).map_err(|_| Memory)
 }
 
-// Puts a word and its minus signs behind the others.
+// Puts a word and its minus signs behind the others. There is room for them.
 #[inline(always)]
-fn push_word(nodes: &mut Vec<Node>, leaf: Leaf, signs: u32) -> Result<(), Memory>
-    ensures { OnOk result (nodes.new.items ≡ nodes.old.items ++ leaf_node leaf ∷ replicate signs Not) }
+fn put_word(nodes: &mut Vec<Node>, leaf: Leaf, signs: u32)
+    requires { vec_len nodes.old + (signs + 1) ≤ vec_capacity nodes.old }
+    ensures items { nodes.new.items ≡ nodes.old.items ++ leaf_node leaf ∷ replicate signs Not }
+    ensures len { vec_len nodes.new ≡ vec_len nodes.old + (signs + 1) }
+    ensures room { vec_capacity nodes.new ≡ vec_capacity nodes.old }
 {
-    nodes.push(node_of(leaf))?;
-    push_signs(nodes, signs)
+    nodes.push_reserved(leaf.node());
+    put_signs(nodes, signs);
 }
 
-// Puts this many minus signs behind the others.
+// Puts this many minus signs behind the others. There is room for them.
 #[inline(always)]
-fn push_signs(nodes: &mut Vec<Node>, signs: u32) -> Result<(), Memory>
-    ensures { OnOk result (nodes.new.items ≡ nodes.old.items ++ replicate signs Not) }
+fn put_signs(nodes: &mut Vec<Node>, signs: u32)
+    requires { vec_len nodes.old + signs ≤ vec_capacity nodes.old }
+    ensures items { nodes.new.items ≡ nodes.old.items ++ replicate signs Not }
+    ensures len { vec_len nodes.new ≡ vec_len nodes.old + signs }
+    ensures room { vec_capacity nodes.new ≡ vec_capacity nodes.old }
 {
     for _ in 0..signs {
-        nodes.push(Node::Not)?;
-    }
-    Ok(())
-}
-
-#[inline(always)]
-fn node_of(leaf: Leaf) -> Node
-    ensures { result ≡ leaf_node leaf }
-{
-    match leaf {
-        Leaf::Code(place) => Node::Code(place),
-        Leaf::Yes => Node::Yes,
-        Leaf::No => Node::No,
+        nodes.push_reserved(Node::Not);
     }
 }

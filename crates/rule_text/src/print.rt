@@ -16,8 +16,8 @@ pub fn print_rule(alloc: Global, rule: &Formula, codes: &CodeTable) -> Result<Bo
     ensures spelled { IfOk result (λ text. IsText codes.now (printed_depth rule.now) (tokens text) rule.now) }
     ensures read_back { IfOk result (λ text. ReadsBack codes.now rule.now text) }
 {
-    // The table tells that its names are words of their own: each is read as its code.
-    let _names = codes.len();
+    // Each name is a word of its own, and is read as its code.
+    codes.names_law();
     let mut text = Vec::new(alloc);
     write_backward(&mut text, rule.part(), codes)?;
     text.reverse();

@@ -1,5 +1,7 @@
 //! The reader of a rule: it takes the tokens from the left, one method for each token that may stand where it is.
-ghost use Rattle.std.specs.Prelude.{◌≡◌, ◌<◌, ◌≤◌, IfOk, zero, List, ℕ, option_map, reverse};
+ghost use Rattle.std.specs.Prelude.{◌≡◌, ◌<◌, ◌≤◌, IfOk, zero, List, ℕ, option_map, reverse, true};
+ghost use Rattle.std.specs.List.{list_all};
+ghost use Rattle.pb_base.specs.Names.{is_name_byte};
 ghost use Rattle.pb_base.specs.Answers.{Answers};
 ghost use Rattle.pb_base.specs.Rule.{Rule, negated};
 ghost use Rattle.pb_base.specs.Node.{rule_of_leaf};
@@ -43,7 +45,7 @@ fn refused(fault: RuleFault) -> Result<(), Fail<RuleFault>>
 }
 
 impl Reader {
-    ghost use Rattle.rule_text.specs.Views.{state_at, state_of, token_of, Takes};
+    ghost use Rattle.rule_text.specs.Views.{state_at, state_of, token_of, IsLexed, Takes};
 
     // A reader with room for this many nodes of a formula.
     pub(crate) fn new(alloc: Global, room: usize) -> Result<Reader, Memory>
@@ -68,6 +70,7 @@ impl Reader {
         token: Token<'_>,
         codes: &CodeTable,
     ) -> Result<(), Fail<RuleFault>>
+        requires { IsLexed token }
         ensures { Takes result self.new codes.now (state_of self.old) (at, token_of token.entry) }
     {
         match self.stage {
@@ -101,6 +104,7 @@ impl Reader {
         token: Token<'_>,
         codes: &CodeTable,
     ) -> Result<(), Fail<RuleFault>>
+        requires { IsLexed token }
         ensures { Takes result self.new codes.now (state_at Awaiting self.old) (at, token_of token.entry) }
     {
         match token {
@@ -113,6 +117,7 @@ impl Reader {
 
     #[inline(always)]
     fn word(&mut self, at: u32, name: &[u8], codes: &CodeTable) -> Result<(), Fail<RuleFault>>
+        requires { list_all is_name_byte name.now ≡ true }
         ensures { Takes result self.new codes.now (state_at Awaiting self.old) (at, word name.now) }
     {
         let Some(leaf) = word_leaf(name, codes) else {
@@ -252,9 +257,10 @@ fn take_signs(pending: &mut ArrayVec<Pending, MOST_NESTING>) -> u32
 
 // What a word means, or None where it is no constant and no code of the table.
 fn word_leaf(word: &[u8], codes: &CodeTable) -> Option<Leaf>
+    requires { list_all is_name_byte word.now ≡ true }
     ensures { option_map rule_of_leaf result ≡ word_rule codes.now word.now }
 {
-    match CodeName::of(word) {
+    match CodeName::of_word(word) {
         Some(name) => Some(Leaf::Code(codes.place_of(&name)?)),
         None => constant(word),
     }

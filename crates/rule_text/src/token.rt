@@ -3,9 +3,10 @@ ghost use Rattle.std.specs.Prelude.{◌≡◌, ◌<◌, ◌≤◌, length, drop,
 ghost use Rattle.std.specs.List.{prefix_len};
 ghost use Rattle.pb_base.specs.Names.{is_name_byte};
 ghost use Rattle.rule_text.specs.Token.{is_blank, mark, token_at, token_len};
-ghost use Rattle.rule_text.specs.Views.{misplaced, token_of};
+ghost use Rattle.rule_text.specs.Views.{misplaced, token_of, IsLexed};
 
 use crate::RuleFault;
+use pb_base::is_name_byte;
 
 /// A token of a rule.
 #[derive(Clone, Copy)]
@@ -31,7 +32,8 @@ pub(crate) fn is_blank(b: u8) -> bool
 // The token that begins at this place, which is no blank.
 pub(crate) fn token_at(text: &[u8], at: usize) -> Token<'_>
     requires { at < length text.now }
-    ensures { token_of result ≡ token_at (drop at text.now) }
+    ensures token { token_of result ≡ token_at (drop at text.now) }
+    ensures lexed { IsLexed result }
 {
     let b = text[at];
     if is_name_byte(b) {
@@ -53,16 +55,6 @@ fn word_len(text: &[u8]) -> usize
         }
     }
     text.len()
-}
-
-fn is_name_byte(b: u8) -> bool
-    ensures { result ≡ is_name_byte b }
-{
-    match b {
-        b'A'..=b'Z' => true,
-        b'0'..=b'9' => true,
-        _ => false,
-    }
 }
 
 // The token of a byte that is neither a blank nor part of a word.

@@ -13,7 +13,7 @@ use Rattle.supplement.specs.declared.firing.Firing.{Firing}
 use Rattle.supplement.specs.declared.occurrences.OccurrenceLists.{OccurrenceLists}
 use Rattle.supplement.specs.Completion.{first_firing}
 use Rattle.supplement.specs.Occurrences.{Lists, AreOccurrences}
-use Rattle.supplement.specs.Worklist.{HoldsFiring, AreCandidates, candidate_of, ComesBefore}
+use Rattle.supplement.specs.Worklist.{HoldsFiring, HoldsFiringBut, HoldsListed, AreCandidates, candidate_of, ComesBefore}
 use Rattle.supplement.proofs.FirstFiring.{ComesFirst, firing_of, first_fires, first_firing-is, first_firing-none}
 use Rattle.supplement.proofs.OccurrenceLemmas.{fires_after}
 
@@ -50,7 +50,7 @@ still_held rules day x old new t s there off moved worklist p r is_rule on =
 
 -- where a rule fires, the candidates of the others that fire are left
 pub others_left : (rules : List Supplement) (day : ℕ) (x : List Bool) (old new : List Candidate) (t : Candidate) → IsPermutation old (t ∷ new) → HoldsFiring rules day x old
-    → (p : ℕ) (r : Supplement) → slice_get rules p ≡ Some r → fires day x r ≡ true → p ≢ t.rule → Contains new (candidate_of p r)
+    → HoldsFiringBut t.rule rules day x new
 others_left rules day x old new t moved worklist p r is_rule on other =
     elim (taken_or_left old new t (candidate_of p r) moved (worklist p r is_rule on)) [
       | inl same ↦ absurd (other (sym (ap (λ (u : Candidate). u.rule) same)))
@@ -96,9 +96,9 @@ none_held rules day x candidates empty worklist =
 
 -- after a code was added and its rules were added, each rule that fires is worklist
 pub held_after : (rules : List Supplement) (day : ℕ) (x : List Bool) (index : OccurrenceLists) (f : Firing) (mid new : List Candidate) → AreOccurrences (length x) rules day index → first_firing rules day x ≡ Some f → f.code < length x
-    → ((p : ℕ) (s : Supplement) → slice_get rules p ≡ Some s → fires day x s ≡ true → p ≢ f.rule → Contains mid (candidate_of p s))
+    → HoldsFiringBut f.rule rules day x mid
     → ((t : Candidate) → Contains mid t → Contains new t)
-    → ((p : ℕ) (s : Supplement) → Lists index f.code p → slice_get rules p ≡ Some s → Contains new (candidate_of p s))
+    → HoldsListed rules index f.code new
     → HoldsFiring rules day (set x f.code true) new
 held_after rules day x index f mid new indexed first within others keeps added p s is_rule on =
     let after = fires_after day x f.code s within on in

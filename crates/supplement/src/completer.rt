@@ -11,7 +11,8 @@ use pb_base::{CodeSet, Day, Memory};
 use std::alloc::Global;
 use std::marker::Model;
 
-/// Completes orders of a book on a day. It is made once, in time that is linear in the book's rules, and then serves any number of orders: each costs what the rules cost that an added code may have changed.
+/// Completes orders of a book on a day. It is made once, in time that is linear in the book's rules, and then serves any
+/// number of orders: each costs what the rules cost that an added code may have changed.
 #[derive(Drop)]
 pub struct Completer<'a> {
     book: &'a Book,

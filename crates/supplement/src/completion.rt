@@ -1,14 +1,13 @@
 //! Completing by trying, after the first time, only the rules in whose formulas an added code occurs.
 //!
-//! Each rule that fires is in the worklist. So the first in it that fires is the rule that fires first of all, and no other needs to be tried.
-ghost use Rattle.std.specs.Prelude.{◌≡◌, ◌≢◌, ◌≤◌, ℕ, true, Some, IfOk, IfSome, length, All, Contains, slice_get};
+//! Each rule that fires is in the worklist. So the first in it that fires is the rule that fires first of all, and no other
+//! needs to be tried.
+ghost use Rattle.std.specs.Prelude.{◌≡◌, ◌≤◌, IfOk, IfSome, length, All};
 ghost use Rattle.pb_base.specs.declared.limits.TheConstants.{MOST_SUPPLEMENTS};
 ghost use Rattle.book_model.specs.Book.{SupplementFits};
-ghost use Rattle.book_model.specs.Good.{fires};
-ghost use Rattle.book_model.specs.declared.record.Supplement.{Supplement};
 ghost use Rattle.supplement.specs.Completion.{completion_by, first_firing};
 ghost use Rattle.supplement.specs.Occurrences.{AreOccurrences};
-ghost use Rattle.supplement.specs.Worklist.{HoldsFiring, AreCandidates, candidate_of};
+ghost use Rattle.supplement.specs.Worklist.{HoldsFiring, HoldsFiringBut, AreCandidates};
 
 use crate::completed::{Added, AddedList, Completed};
 use crate::firing::Firing;
@@ -80,7 +79,7 @@ fn next_firing(
     requires firing { HoldsFiring supplements.now day set.now worklist.old }
     ensures value { result ≡ first_firing supplements.now day set.now }
     ensures candidates { IfSome result (λ _. AreCandidates supplements.now worklist.new) }
-    ensures others { IfSome result (λ f. (p : ℕ) (s : Supplement) → slice_get supplements.now p ≡ Some s → fires day set.now s ≡ true → p ≢ f.rule → Contains worklist.new (candidate_of p s)) }
+    ensures others { IfSome result (λ f. HoldsFiringBut f.rule supplements.now day set.now worklist.new) }
 {
     while let Some(candidate) = worklist.pop() {
         let tried = &supplements[candidate.rule as usize];

@@ -1,13 +1,12 @@
 //! From codes to the rules in whose formulas they occur.
-ghost use Rattle.std.specs.Prelude.{◌≡◌, ◌<◌, ◌≤◌, ℕ, [], length, replicate, slice_get, Contains, IfOk, OnOk, IsTrue, All};
+ghost use Rattle.std.specs.Prelude.{◌≡◌, ◌<◌, ◌≤◌, [], length, replicate, Contains, IfOk, OnOk, IsTrue, All};
 ghost use Rattle.pb_base.specs.Rule.{codes_below};
 ghost use Rattle.pb_base.specs.Node.{is_below};
 ghost use Rattle.pb_base.specs.declared.limits.TheConstants.{MOST_SUPPLEMENTS};
 ghost use Rattle.book_model.specs.Book.{SupplementFits};
-ghost use Rattle.book_model.specs.declared.record.Supplement.{Supplement};
 ghost use Rattle.supplement.specs.declared.worklist.Candidate.{Candidate};
-ghost use Rattle.supplement.specs.Occurrences.{occurs, is_code, Lists, AreLinked, Notes, AreOccurrences};
-ghost use Rattle.supplement.specs.Worklist.{candidate_of, AreCandidates};
+ghost use Rattle.supplement.specs.Occurrences.{occurs, is_code, AreLinked, Notes, AreOccurrences};
+ghost use Rattle.supplement.specs.Worklist.{AreCandidates, HoldsListed};
 
 use crate::worklist::{Candidate, Worklist};
 use book_model::{Supplement, active};
@@ -23,7 +22,8 @@ pub struct Entry {
     pub next: Option<usize>,
 }
 
-/// For each code the active supplementing rules in whose formulas it occurs. The entries of all codes stand in one vector, those of a code linked from its head.
+/// For each code the active supplementing rules in whose formulas it occurs. The entries of all codes stand in one vector,
+/// those of a code linked from its head.
 #[derive(Drop)]
 pub struct OccurrenceLists {
     /// For each code the place of its first entry.
@@ -64,7 +64,7 @@ impl OccurrenceLists {
         requires candidates { AreCandidates supplements.now worklist.old }
         ensures candidates { OnOk result (AreCandidates supplements.now worklist.new) }
         ensures keeps { OnOk result ((c : Candidate) → Contains worklist.old c → Contains worklist.new c) }
-        ensures added { OnOk result ((p : ℕ) (s : Supplement) → Lists self.now code p → slice_get supplements.now p ≡ Some s → Contains worklist.new (candidate_of p s)) }
+        ensures added { OnOk result (HoldsListed supplements.now self.now code worklist.new) }
     {
         let mut at = self.heads[code as usize];
         while let Some(place) = at {

@@ -9,7 +9,8 @@ use book_model::{Book, Supplement};
 use pb_base::{CodeSet, Day, Memory};
 use std::alloc::Global;
 
-/// Completes a set of the book's codes on a day. It is the slow program of the definition: `Completer` gives the same in less time.
+/// Completes a set of the book's codes on a day. It is the slow program of the definition: `Completer` gives the same in
+/// less time.
 pub fn complete_plainly(
     alloc: Global,
     book: &Book,

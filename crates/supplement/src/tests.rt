@@ -1,4 +1,4 @@
-//! Both bodies of completing over rules that are drawn, and each call once with ample memory.
+//! Both bodies of completing over rules that are drawn, and over a chain at the size of the limits.
 ghost use Rattle.std.specs.Prelude.{◌≡◌, ◌<◌, ◌≤◌, IfOk, IfSome, All, length, vec_len};
 ghost use Rattle.pb_base.specs.declared.limits.TheConstants.{MOST_SUPPLEMENTS};
 ghost use Rattle.book_model.specs.Book.{RuleFits, SupplementFits};
@@ -7,13 +7,13 @@ use crate::completed::{Added, Completed};
 use crate::completion::complete_by_worklist;
 use crate::occurrences::OccurrenceLists;
 use crate::plain::complete_by_trying;
-use crate::{Completer, complete_plainly};
-use book_model::{Book, BookParts, Supplement, VariantGroups, fires};
-use pb_base::{CodeSet, CodeTable, Formula, Id, Leaf, Memory};
+use book_model::{Supplement, fires};
+use pb_base::{CodeSet, Formula, Id, Memory};
 use std::alloc::Global;
 use std::test::Fail;
 
-// A rule over six codes, drawn from a number: one of four shapes over two codes, one of three ranks, its code, and whether it is active on day 1, as three of four are.
+// A rule over six codes, drawn from a number: one of four shapes over two codes, one of three ranks, its code, and whether
+// it is active on day 1, as three of four are.
 fn drawn_rule(alloc: Global, id: Id, draw: u32) -> Result<Supplement, Memory>
     ensures { IfOk result (SupplementFits 6) }
 {
@@ -35,8 +35,8 @@ fn drawn_formula(alloc: Global, shape: u32, a: u32, b: u32) -> Result<Formula, M
 {
     match shape {
         0 => Formula::code(alloc, a),
-        1 => Formula::code(alloc, a)?.and_leaf(Leaf::Code(b), 0),
-        2 => Formula::code(alloc, a)?.or_leaf(Leaf::Code(b), 0),
+        1 => Formula::code(alloc, a)?.and(Formula::code(alloc, b)?),
+        2 => Formula::code(alloc, a)?.or(Formula::code(alloc, b)?),
         _ => without(alloc, a, b),
     }
 }
@@ -47,7 +47,7 @@ fn without(alloc: Global, a: u32, b: u32) -> Result<Formula, Memory>
     requires b_is_code { b < 6 }
     ensures { IfOk result (RuleFits 6) }
 {
-    Formula::code(alloc, a)?.and_leaf(Leaf::Code(b), 1)
+    Formula::code(alloc, a)?.and(Formula::code(alloc, b)?.not()?)
 }
 
 fn drawn_rules(alloc: Global, id: Id, seed: u32) -> Result<Vec<Supplement>, Memory>
@@ -214,7 +214,8 @@ fn the_lower_rank_fires_and_at_one_rank_the_earlier_record(rt: HostRuntime) -> R
     Ok(())
 }
 
-// Of 5,000 rules over 2,000 codes: the first thousand make a chain in which each code adds the next at a lower rank, and each other one is of a code of the chain and one that never comes in.
+// Of 5,000 rules over 2,000 codes: the first thousand make a chain in which each code adds the next at a lower rank, and
+// each other one is of a code of the chain and one that never comes in.
 fn chain_rule(alloc: Global, id: Id, place: u32) -> Result<Supplement, Memory>
     requires { place < MOST_SUPPLEMENTS }
     ensures { IfOk result (SupplementFits 2000) }
@@ -228,7 +229,7 @@ fn chain_rule(alloc: Global, id: Id, place: u32) -> Result<Supplement, Memory>
         rule: if in_chain {
             link
         } else {
-            link.and_leaf(Leaf::Code(1001 + place % 999), 0)?
+            link.and(Formula::code(alloc, 1001 + place % 999)?)?
         },
         from: 1,
         until: 1,
@@ -266,28 +267,5 @@ fn a_chain_of_a_thousand_among_five_thousand_rules(rt: HostRuntime) -> Result<()
     for code in 0..2000u32 {
         assert_eq!(rt; completed.set.has(code), code <= 1000, "the code {code}");
     }
-    Ok(())
-}
-
-#[test]
-fn a_book_without_rules_adds_nothing(rt: HostRuntime) -> Result<(), Fail> {
-    let alloc = rt.alloc();
-    let groups = VariantGroups::of(alloc, 0, &[])?;
-    let book = Book::of(BookParts {
-        name: Id::of(b"U").ok_or("a name")?,
-        first: 1,
-        last: 10,
-        codes: CodeTable::new(alloc),
-        supplements: Vec::new(alloc),
-        constructs: Vec::new(alloc),
-        modules: Vec::new(alloc),
-        positions: Vec::new(alloc),
-        variants: Vec::new(alloc),
-        groups,
-    });
-    let completed = Completer::new(alloc, &book, 1)?.complete(alloc, CodeSet::none(alloc, 0)?)?;
-    assert!(rt; completed.added.as_slice().is_empty());
-    let plainly = complete_plainly(alloc, &book, 1, CodeSet::none(alloc, 0)?)?;
-    assert!(rt; are_same(&plainly, &completed));
     Ok(())
 }

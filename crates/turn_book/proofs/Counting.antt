@@ -34,7 +34,7 @@ module _ {M C R : Type 0} (good : M → List (Entry M C R) → Type 0) (start : 
   -- a seat that is in turn puts a call, its reply and the machine that it holds last in the history
   pub counts : (slots id : ℕ) (me : Sat M C R) (c : C) (a : R) (y : M) (call : Option C) (reply : Option R) → me.0.stage ≡ Turn → me.1 ≡ (0, Some y) ∷ []
       → call ≡ Some c → reply ≡ Some a → (good start me.0.seen → good start (me.0.seen ++ entry c a y ∷ []))
-      → Allows Rule slots id me 2 (λ n. (n + 1) % 18446744073709551616) (Counts call reply (step slots 2 1 0 none) me)
+      → Allows Rule slots id me 2 (λ n. (n + 1) % 18446744073709551616) (Counts (call, reply) (step slots 2 1 0 none) me)
   counts slots id me c a y call reply turn held call_is reply_is extends s r _ at _ =
       let v : V = me.0 in
       let d : ℕ = drawn s in

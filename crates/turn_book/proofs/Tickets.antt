@@ -9,7 +9,7 @@ use Rattle.atomic_table.specs.Table.{State, step, keeps, takes, gives, Allows}
 use Rattle.atomic_table.proofs.Lists.{set_here, set_again}
 use Rattle.turn_book.specs.History.{end_of}
 use Rattle.turn_book.specs.Turning.{HasTicket, InTurn, begun, waiting, made, left_of, owns, AtStage, Knows, Turning}
-use Rattle.turn_book.specs.Steps.{Sat, has_drawn, in_turn, at_rest, Draws, TakesTurn, Looks, PassesOn}
+use Rattle.turn_book.specs.Steps.{Sat, has_drawn, in_turn, at_rest, Draws, TakesTurn, TakesTurnFrom, Looks, PassesOn}
 use Rattle.turn_book.specs.declared.entry.Entry.{Entry}
 use Rattle.turn_book.specs.declared.view.View.{View}
 use Rattle.turn_book.specs.declared.view.Stage.TheVariants.{Idle, Waits, Counted}
@@ -101,7 +101,7 @@ module _ {M C R : Type 0} (good : M → List (Entry M C R) → Type 0) (start : 
 
   -- a waiting seat looks at the ticket that is served
   pub looks : (slots id : ℕ) (me : Sat M C R) → me.0.stage ≡ Waits
-      → Allows Rule slots id me 1 (λ n. n) (Looks good (Some start) (step slots 1 0 0 none) me)
+      → Allows Rule slots id me 1 (λ n. n) (Looks (TakesTurnFrom good (Some start)) (step slots 1 0 0 none) me)
   looks slots id me waits s r _ at _ =
       let v : V = me.0 in
       let d : ℕ = drawn s in
@@ -158,8 +158,8 @@ module _ {M C R : Type 0} (good : M → List (Entry M C R) → Type 0) (start : 
 
   -- the same where the machine at the start has another name
   pub looks_as : (o : Option M) → o ≡ Some start → (slots id : ℕ) (me : Sat M C R) → me.0.stage ≡ Waits
-      → Allows Rule slots id me 1 (λ n. n) (Looks good o (step slots 1 0 0 none) me)
-  looks_as o is slots id me waits = subst (λ (p : Option M). Allows Rule slots id me 1 (λ n. n) (Looks good p (step slots 1 0 0 none) me)) (sym is) (looks slots id me waits)
+      → Allows Rule slots id me 1 (λ n. n) (Looks (TakesTurnFrom good o) (step slots 1 0 0 none) me)
+  looks_as o is slots id me waits = subst (λ (p : Option M). Allows Rule slots id me 1 (λ n. n) (Looks (TakesTurnFrom good p) (step slots 1 0 0 none) me)) (sym is) (looks slots id me waits)
 
   one_home : (hs : List (mathlib.Core.Option.Option (Option M))) (h : mathlib.Core.Option.Option (Option M)) → length hs ≡ 1 → set hs 0 h ≡ h ∷ []
   one_home [] h e = absurd (omega arith)

@@ -66,15 +66,18 @@ module _ {M C R : Type 0} where
     pub room : length me.0.own + 1 < 18446744073709551616
     pub after : me' ≡ (in_turn log me.0, (0, Some (end_of start log)) ∷ me.1)
 
-  -- the seat takes its turn where its ticket is served, and else nothing has changed
-  abbrev pub Looks : (M → List (Entry M C R) → Type 0) → Option M → Step (Option M) → Sat M C R → ℕ → Sat M C R → Type 0
-  Looks good start st me found me' =
-      (found ≡ me.0.ticket → (x : M) × (start ≡ Some x) × TakesTurn good x me me') × (found ≢ me.0.ticket → me' ≡ me)
+  -- the same from the machine at the start, where that is known
+  abbrev pub TakesTurnFrom : (M → List (Entry M C R) → Type 0) → Option M → Sat M C R → Sat M C R → Type 0
+  TakesTurnFrom good start me me' = (x : M) × (start ≡ Some x) × TakesTurn good x me me'
 
-  -- the call stands last in the history, with its reply and the machine that the seat holds
-  abbrev pub Counts : Option C → Option R → Step (Option M) → Sat M C R → ℕ → Sat M C R → Type 0
-  Counts call reply st me found me' =
-      (c : C) (r : R) (y : M) → call ≡ Some c → reply ≡ Some r → Holds me y → me' ≡ (has_counted (entry c r y) me.0, me.1)
+  -- the seat takes its turn in this way where its ticket is served, and else nothing has changed
+  abbrev pub Looks : (Sat M C R → Sat M C R → Type 0) → Step (Option M) → Sat M C R → ℕ → Sat M C R → Type 0
+  Looks takes_turn st me found me' = (found ≡ me.0.ticket → takes_turn me me') × (found ≢ me.0.ticket → me' ≡ me)
+
+  -- the call that was noted stands last in the history, with its reply and the machine that the seat holds
+  abbrev pub Counts : Option C × Option R → Step (Option M) → Sat M C R → ℕ → Sat M C R → Type 0
+  Counts noted st me found me' =
+      (c : C) (r : R) (y : M) → noted.0 ≡ Some c → noted.1 ≡ Some r → Holds me y → me' ≡ (has_counted (entry c r y) me.0, me.1)
 
   abbrev pub PassesOn : Step (Option M) → Sat M C R → ℕ → Sat M C R → Type 0
   PassesOn st me found me' = me' ≡ (at_rest me.0, rest me.1)

@@ -59,9 +59,9 @@ pub struct Look<M, B> {
 
 impl<M: Machine, B: Opens<M>> Play<Option<M>, View<M, M::Call, M::Reply>> for Look<M, B> {
     ghost use Rattle.turn_book.specs.History.{IsRun};
-    ghost use Rattle.turn_book.specs.Steps.{Looks};
+    ghost use Rattle.turn_book.specs.Steps.{Looks, TakesTurnFrom};
 
-    ghost then = { Looks (IsRun M.fits M.legal M.valid) B.start };
+    ghost then = { Looks (TakesTurnFrom (IsRun M.fits M.legal M.valid) B.start) };
 }
 
 pub struct Count<N> {
@@ -71,7 +71,7 @@ pub struct Count<N> {
 impl<M, C, R, N: Noted<C, R>> Play<Option<M>, View<M, C, R>> for Count<N> {
     ghost use Rattle.turn_book.specs.Steps.{Counts};
 
-    ghost then = { Counts N.call N.reply };
+    ghost then = { Counts (N.call, N.reply) };
 }
 
 pub struct PassOn;

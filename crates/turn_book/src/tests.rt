@@ -14,7 +14,7 @@ const CALLS: usize = 60;
 
 const LIMIT: u64 = 1000;
 
-/// Seats are given out in order, as many together as are asked for, while there are enough.
+// Seats are given out in order, as many together as are asked for, while there are enough.
 #[derive(Drop)]
 struct Hall {
     taken: u32,
@@ -53,7 +53,7 @@ impl Machine for Hall {
     ghost stays_fitting = { λ x c r y d v f l g. g };
 }
 
-/// Who takes seats in a thread of its own. Its pass is away only within a call.
+// Who takes seats in a thread of its own. Its pass is away only within a call.
 struct Worker {
     pass: Option<Pass<Hall>>,
     firsts: [u32; CALLS],

@@ -1,6 +1,6 @@
 //! Runs at the limit of their input, with faults of the outside, and with words that are no text.
 
-use super::{ENGINE, USAGE, joined, words_of};
+use super::{ENGINE, USAGE, words_of};
 use crate::given::run_given;
 use crate::log::{Note, RunLog};
 use crate::run::run;
@@ -20,8 +20,8 @@ fn counted(which: u8) -> Note {
     }
 }
 
-/// Asserts what a run against the engine book leaves behind, where the calls of these numbers on the source, the files
-/// and the sink fail: the status with the text, the one note, and the counts of faults of the three.
+// Asserts what a run against the engine book leaves behind, where the calls of these numbers on the source, the files
+// and the sink fail: the status with the text, the one note, and the counts of faults of the three.
 fn leaves(
     rt: &impl Abort,
     alloc: Global,
@@ -32,7 +32,7 @@ fn leaves(
     faults: (u64, u64, u64),
 ) -> Result<(), Fail> {
     let all = words_of(alloc, words)?;
-    let input = joined(alloc, &ENGINE, "\n")?;
+    let input = ENGINE.to_vec(alloc)?;
     let pieces = [3].to_vec(alloc)?;
     let mut source = MemorySource::new(input, pieces, [fails.0].to_vec(alloc)?);
     let mut files = MemoryFiles::new(Vec::new(alloc), [fails.1].to_vec(alloc)?);

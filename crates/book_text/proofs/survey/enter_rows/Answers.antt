@@ -2,11 +2,11 @@ use Rattle.std.proofs.Common.{◌≡◌, ◌+◌, ◌<◌, ◌++◌, [], ◌∷�
 use Rattle.std.proofs.lemmas.List.{append-nil, length_push}
 use Rattle.csv.specs.Records.{fields_of}
 use Rattle.pb_base.specs.declared.limits.TheConstants.{MOST_TEXT_BYTES}
-use Rattle.book_text.specs.Entry.{rule_text_of}
+use Rattle.book_text.specs.Entry.{text_of}
 use Rattle.book_text.specs.FirstPass.{entered_row}
 use Rattle.book_text.specs.Pass.{pass}
 use Rattle.book_text.specs.Said.{AreSaid}
-use Rattle.book_text.proofs.PassLemmas.{pass-more, pass-fault, pass-end, said-push, rule_text-short}
+use Rattle.book_text.proofs.PassLemmas.{pass-more, pass-fault, pass-end, said-push, text-short}
 use Rattle.book_text.proofs.RowsLemmas.{short-push}
 use Rattle.book_text.proofs.survey.enter_rows.Goals as goal
 
@@ -28,9 +28,9 @@ rows-preserved c =
     let row = fields_of c.read.new.row in
     let next : c.rows.rows ≡ row ∷ c.read.new.self = rw c.if-branch.true at c.in_ok-read.ensures.next in
     let short = c.in_ok-read.ensures.short c.if-branch.true in
-    let texts : fields_of c.push_field.new.self ≡ fields_of c.rows.texts ++ rule_text_of c.in-Ok.entry row ∷ [] =
-    rw (inv.whole, c.rule_text_of.ensures) at c.in_ok-push_field-in-Ok.ensures.fields in
-    let step = entered_row c.args.term in
+    let texts : fields_of c.push_field.new.self ≡ fields_of c.rows.texts ++ text_of c.in-Ok.entry row ∷ [] =
+    rw (inv.whole, c.text_of.ensures) at c.in_ok-push_field-in-Ok.ensures.fields in
+    let step = entered_row c.args.heading.now in
     let n = length c.rows.entries.items + 2 in
     let (read, whole, said) = inv.said in
     rw (c.in_ok-push-in-Ok.ensures.items, texts) (record {
@@ -42,10 +42,10 @@ rows-preserved c =
       said = (
         read ++ row ∷ [],
         whole ∙ ap (λ rows. read ++ rows) next ∙ sym (append_assoc read (row ∷ []) c.read.new.self),
-        said-push c.args.term read c.rows.entries.items (fields_of c.rows.texts) row c.in-Ok.entry said c.in-Ok.ensures.entry,
+        said-push c.args.heading.now read c.rows.entries.items (fields_of c.rows.texts) row c.in-Ok.entry said c.in-Ok.ensures.entry,
       );
       few = omega (arith, length_push c.rows.entries.items c.in-Ok.entry, ap length next, inv.few);
-      short = short-push MOST_TEXT_BYTES (fields_of c.rows.texts) (rule_text_of c.in-Ok.entry row) inv.short (rule_text-short c.in-Ok.entry row short);
+      short = short-push MOST_TEXT_BYTES (fields_of c.rows.texts) (text_of c.in-Ok.entry row) inv.short (text-short c.in-Ok.entry row short);
       whole = c.in_ok-push_field-in-Ok.ensures.partial;
     })
 
@@ -59,18 +59,18 @@ pub returns-in-Err-Refused-clause-names : goal.returns-in-Err-Refused-clause-nam
 returns-in-Err-Refused-clause-names c =
     let row = fields_of c.read.new.row in
     let next : c.rows.rows ≡ row ∷ c.read.new.self = rw c.if-branch.true at c.in_ok-read.ensures.next in
-    let step = entered_row c.args.term in
+    let step = entered_row c.args.heading.now in
     let n = length c.rows.entries.items + 2 in
     let fault = rw c.in-Err-Refused.field-0-is at c.in-Err-Refused.ensures.names in
     let count : c.len.result ≡ length c.rows.entries.items = omega (arith, c.len.ensures, c.rows.entries.ok.0) in
-    rw (c.in-Err-Refused.field-0-is, count) (
+    rw count (
     sym c.rows.invariant.rest ∙ ap (pass step n c.rows.names) next
     ∙ pass-fault step n c.rows.names row c.read.new.self c.in-Err-Refused.kind fault)
 
 pub returns-clause-names : goal.returns-clause-names
 returns-clause-names c =
     let none : c.rows.rows ≡ [] = rw c.if-branch.false at c.in_ok-read.ensures.next in
-    let step = entered_row c.args.term in
+    let step = entered_row c.args.heading.now in
     let n = length c.rows.entries.items + 2 in
     sym c.rows.invariant.rest ∙ ap (pass step n c.rows.names) none ∙ pass-end step n c.rows.names
 

@@ -10,8 +10,8 @@ use Rattle.book_text.proofs.survey.enter_rows.Given as goal
 -- the rows are those that were read and those that are left; the pass over the latter gives what the whole pass does
 abbrev pub invariant-rows : goal.invariant-rows
 invariant-rows l = record {
-  rest : pass (entered_row l.term) (length l.entries.items + 2) l.names l.rows ≡ pass (entered_row l.term) 2 l.fn.names l.fn.rows;
-  said : (read : List Row) × (l.fn.rows ≡ read ++ l.rows) × AreSaid l.term read l.entries.items (fields_of l.texts);
+  rest : pass (entered_row l.heading) (length l.entries.items + 2) l.names l.rows ≡ pass (entered_row l.heading) 2 l.fn.names l.fn.rows;
+  said : (read : List Row) × (l.fn.rows ≡ read ++ l.rows) × AreSaid l.heading read l.entries.items (fields_of l.texts);
   few : length l.entries.items + length l.rows ≤ MOST_TEXT_BYTES;
   short : IsShort (fields_of l.texts);
   whole : partial_of l.texts ≡ [];

@@ -10,8 +10,8 @@ use Rattle.clausify.proofs.MeetLaws.{decides_each}
 use Rattle.clausify.proofs.CodedLaws.{begun, rules_room, usages_room, goals_room, usages_are, is_coded}
 use Rattle.clausify.proofs.coding.coded_slice.Goals as goal
 
-pub add_rules-requires : goal.add_rules-requires
-add_rules-requires c =
+pub add_rules-requires-clause-room : goal.add_rules-requires-clause-room
+add_rules-requires-clause-room c =
     rules_room c.args.book.now c.args.slice.now.first c.in_ok-encoder.encoder c.codes-codes.ensures.book
     (begun c.args.book.now c.in_ok-encoder.encoder c.len.result (c.len.ensures.value ∙ ap length c.codes-codes.ensures.value) c.in_ok-encoder.ensures.clauses c.in_ok-encoder.ensures.truth c.in_ok-encoder.ensures.next)
 

@@ -1,5 +1,5 @@
 use Rattle.std.proofs.Common.{drop}
-use Rattle.clausify.specs.Questions.{pairs}
+use Rattle.clausify.specs.Pairs.{pairs}
 use Rattle.clausify.proofs.Remaining.{PairsLeft}
 use Rattle.clausify.proofs.goals.ask_pairs.Given as goal
 

@@ -12,7 +12,7 @@ returns-clause-spelled c =
     let rule = c.args.rule.now in
     let text : c.of.result ≡ printed names rule =
     turned_round names rule c.part.result c.new-text.result.items c.write_backward.new.text.items c.of.result c.part.ensures c.new-text.ensures.items c.in_ok-write_backward.ensures (c.of.ensures ∙ c.reverse.ensures.items) in
-    subst (λ xs. IsText names (printed_depth rule) (tokens xs) rule) (sym text) (prints_in_grammar names rule (c.len-names.ensures.form, c.len-names.ensures.distinct) c.requires)
+    subst (λ xs. IsText names (printed_depth rule) (tokens xs) rule) (sym text) (prints_in_grammar names rule (c.names_law.ensures.form, c.names_law.ensures.distinct) c.requires)
 
 pub returns-clause-read_back : goal.returns-clause-read_back
 returns-clause-read_back c = λ shallow short.
@@ -20,4 +20,4 @@ returns-clause-read_back c = λ shallow short.
     let rule = c.args.rule.now in
     let text : c.of.result ≡ printed names rule =
     turned_round names rule c.part.result c.new-text.result.items c.write_backward.new.text.items c.of.result c.part.ensures c.new-text.ensures.items c.in_ok-write_backward.ensures (c.of.ensures ∙ c.reverse.ensures.items) in
-    ap (rule_of names) text ∙ reads_back names rule (c.len-names.ensures.form, c.len-names.ensures.distinct) c.requires shallow short
+    ap (rule_of names) text ∙ reads_back names rule (c.names_law.ensures.form, c.names_law.ensures.distinct) c.requires shallow short

@@ -32,7 +32,7 @@ returns-in_err-take-clause-answer c =
     let whole = rule_of-read c.args.codes.now text (sym c.is_all_blank.ensures ∙ c.if-is_all_blank.false) in
     rw (p.1, p.2)
     (refuses c.args.codes.now (length text) text c.loop-at.at (state_of c.loop-at.reader) (token_of c.token_at-token.result) _ _ (state_of c.take.new.self)
-    c.loop-at-test.true (sym c.is_blank.ensures ∙ c.if-is_blank.false) c.token_at-token.ensures (c.loop-at.invariant.same ∙ whole) c.in_err-take.ensures)
+    c.loop-at-test.true (sym c.is_blank.ensures ∙ c.if-is_blank.false) c.token_at-token.ensures.token (c.loop-at.invariant.same ∙ whole) c.in_err-take.ensures)
 
 pub returns-in_err-take-clause-fault : goal.returns-in_err-take-clause-fault
 returns-in_err-take-clause-fault c = is_fault c.args.codes.now c.args.text.now c.from_residual-in_err-take.result (returns-in_err-take-clause-answer c)
@@ -53,10 +53,10 @@ pub loop-at-preserved : goal.loop-at-preserved
 loop-at-preserved c =
     let text = c.args.text.now in
     let at = c.loop-at.at in
-    let len : c.len-at.result ≡ token_len (token_at (drop at text)) = c.len-at.ensures ∙ ap token_len c.token_at-token.ensures in
+    let len : c.len-at.result ≡ token_len (token_at (drop at text)) = c.len-at.ensures ∙ ap token_len c.token_at-token.ensures.token in
     let within = token_len-within text at c.loop-at-test.true in
     let on = reads_on c.args.codes.now (length text) text at c.len-at.result (state_of c.loop-at.reader) (state_of c.take.new.self) (token_of c.token_at-token.result)
-    c.loop-at-test.true (sym c.is_blank.ensures ∙ c.if-is_blank.false) c.token_at-token.ensures c.len-at.ensures c.in_ok-take.ensures in
+    c.loop-at-test.true (sym c.is_blank.ensures ∙ c.if-is_blank.false) c.token_at-token.ensures.token c.len-at.ensures c.in_ok-take.ensures in
     record { within = omega (arith, within.1, len); same = sym on ∙ c.loop-at.invariant.same }
 
 pub returns-clause-answer : goal.returns-clause-answer

@@ -1,0 +1,175 @@
+//! The answers of `run` to a book of form 2, whose constructibility rules are groups of codes.
+
+use super::{unfolded, words_of};
+use crate::log::RunLog;
+use crate::run::run;
+use pb_outside::{MemoryFiles, MemorySink, MemorySource, NamedFile};
+use std::alloc::Global;
+use std::process::Abort;
+use std::test::Fail;
+
+// A book of two engines and two gears, of which a group each demands exactly one.
+const GROUPED: &[u8] = b"book,T,1,1000,2\n\
+code,M1,engine one\n\
+code,M2,engine two\n\
+code,G5,five gears\n\
+code,G7,seven gears\n\
+code,AC,air\n\
+group,C1,one,M1/M2,,\n\
+group,C3,one,G5/G7,,\n\
+supplement,S1,10,G5,M1+-G7,,\n\
+module,MOT,motor\n\
+position,P1,MOT,mandatory,,\n\
+variant,V1,P1,A100,1,M1,,\n\
+variant,V2,P1,A200,1,M2,,";
+
+// The certificate of that book, with what stands between its set and its end.
+const FRONT: &[u8] = b"partsbook certificate 1\nbook T 1\nslice 0\nset M1 G5\n";
+
+// Rows `OLD~NEW~WORDS~STATUS~OUTPUT`: the answer to the book with a line in place of another.
+const ORDERS: &[u8] = b"~~order 1 M1~0~accepted^codes M1 G5^MOT,P1,A100,1^\n\
+~~order 1 M1 M2~1~refused C1^\n\
+~~order 1~1~refused C1^\n\
+~~order 1 M2~1~refused C3^\n\
+group,C1,one,M1/M2,,~group,C1,most,M1/M2,,~order 1 M1 M2~1~refused C1^\n\
+group,C1,one,M1/M2,,~group,C1,most,M1/M2,,~order 1 G7~1~unfit P1 0^\n\
+group,C1,one,M1/M2,,~group,C1,one,M1/M2,2,~order 1 M1 M2~1~unfit P1 2^\n\
+group,C3,one,G5/G7,,~construct,C2,*,-M2,,^group,C3,one,G5/G7,,~order 1 M2~1~refused C2^";
+
+// The faults of the form and of groups.
+const FAULTS: &[u8] = b"book,T,1,1000,2~book,T,1,1000,1~order 1 M1~3~book fault 7 5^\n\
+book,T,1,1000,2~book,T,1,1000,,~order 1 M1~3~book fault 7 5^\n\
+book,T,1,1000,2~book,T,9,1,02~order 1 M1~3~book fault 1 8^\n\
+book,T,1,1000,2~book,T,9,1,2~order 1 M1~3~book fault 1 9^\n\
+book,T,1,1000,2~book,T,1,1000,2,x~order 1 M1~3~book fault 1 6^\n\
+group,C1,one,M1/M2,,~group,C1,one,M1/M2,~order 1 M1~3~book fault 7 6^\n\
+group,C1,one,M1/M2,,~group,C1,all,M1/M2,,~order 1 M1~3~book fault 7 7^\n\
+group,C1,one,M1/M2,,~group,C1,one,M1/M1,,~order 1 M1~3~book fault 7 7^\n\
+group,C1,one,M1/M2,,~group,C1,one,M1,,~order 1 M1~3~book fault 7 7^\n\
+group,C1,one,M1/M2,,~group,C1,one,M1/ M2,,~order 1 M1~3~book fault 7 7^\n\
+group,C1,one,M1/M2,,~group,C1,one,M1/M2/,9,1~order 1 M1~3~book fault 7 7^\n\
+group,C1,one,M1/M2,,~group,C1,one,M1/M9,,~order 1 M1~3~book fault 7 11^\n\
+group,C1,one,M1/M2,,~group,S1,one,M1/M9,,~order 1 M1~3~book fault 9 10^\n\
+group,C3,one,G5/G7,,~group,C1,one,G5/G7,,~order 1 M1~3~book fault 8 10^";
+
+// The book with a line in place of another.
+fn grouped_with(alloc: Global, old: &[u8], new: &[u8]) -> Result<Vec<u8>, Fail> {
+    let mut text = Vec::new(alloc);
+    for line in GROUPED.split(|b| *b == b'\n') {
+        if line == old {
+            text.append(&mut unfolded(alloc, new)?)?;
+        } else {
+            text.extend_from_slice(line)?;
+        }
+        text.push(b'\n')?;
+    }
+    Ok(text)
+}
+
+// Asserts what a run with these words writes for this input, where these files are there, and its status.
+fn tells(
+    rt: &impl Abort,
+    alloc: Global,
+    input: Vec<u8>,
+    files: Vec<NamedFile>,
+    words: &[u8],
+    status: &[u8],
+    output: &[u8],
+) -> Result<(), Fail> {
+    let Ok(words) = str::from_utf8(words) else {
+        return Err("words are text".into());
+    };
+    let all = words_of(alloc, words)?;
+    let want = unfolded(alloc, output)?;
+    let mut source = MemorySource::new(input, Vec::new(alloc), Vec::new(alloc));
+    let mut sink = MemorySink::new(alloc, 1000, Vec::new(alloc))?;
+    let mut files = MemoryFiles::new(files, Vec::new(alloc));
+    let mut log = RunLog::new(alloc);
+    let found = run(alloc, &all, &mut source, &mut sink, &mut files, &mut log);
+    let told = found.to_string(alloc)?;
+    assert_eq!(rt; sink.taken(), want.as_slice(), "text of {words}");
+    assert_eq!(rt; told.as_bytes(), status, "status of {words}");
+    Ok(())
+}
+
+// Asserts a row of a table.
+fn row_tells(rt: &impl Abort, alloc: Global, row: &[u8]) -> Result<(), Fail> {
+    let mut fields = row.split(|b| *b == b'~');
+    let (Some(old), Some(new)) = (fields.next(), fields.next()) else {
+        return Err("a line and another".into());
+    };
+    let (Some(words), Some(status), Some(output)) = (fields.next(), fields.next(), fields.next())
+    else {
+        return Err("words, a status and an output".into());
+    };
+    let input = grouped_with(alloc, old, new)?;
+    tells(rt, alloc, input, Vec::new(alloc), words, status, output)
+}
+
+#[test]
+fn orders_against_groups(rt: HostRuntime) -> Result<(), Fail> {
+    let alloc = rt.alloc();
+    for row in ORDERS.split(|b| *b == b'\n') {
+        row_tells(&rt, alloc, row)?;
+    }
+    Ok(())
+}
+
+#[test]
+fn faults_of_groups(rt: HostRuntime) -> Result<(), Fail> {
+    let alloc = rt.alloc();
+    for row in FAULTS.split(|b| *b == b'\n') {
+        row_tells(&rt, alloc, row)?;
+    }
+    Ok(())
+}
+
+#[test]
+fn a_group_too_many(rt: HostRuntime) -> Result<(), Fail> {
+    let alloc = rt.alloc();
+    let mut text = b"book,T,1,1,2\ncode,A,\ncode,B,\n".to_vec(alloc)?;
+    for place in 0_u32..1001 {
+        let number = place.to_string(alloc)?;
+        for piece in ["group,G", &number, ",most,A/B,,\n"] {
+            text.extend_from_slice(piece.as_bytes())?;
+        }
+    }
+    let output = b"book fault 1004 13 groups^";
+    tells(
+        &rt,
+        alloc,
+        text,
+        Vec::new(alloc),
+        b"order 1 A",
+        b"3",
+        output,
+    )
+}
+
+#[test]
+fn a_certificate_over_groups(rt: HostRuntime) -> Result<(), Fail> {
+    let alloc = rt.alloc();
+    // A step that takes the first of two pairs of codes for the second is at fault.
+    for (rest, status, output) in [
+        (
+            "step 6 -0 9 -1 10\nclose 13 15\nstep 5 +0 12 +1 13\nclose 14 16\nend\n",
+            b"0",
+            "verified T slices 1 steps 2^",
+        ),
+        (
+            "step 8 -0 9 -1 10\nclose 13 15\nend\n",
+            b"8",
+            "certificate fault 5 4^",
+        ),
+    ] {
+        let mut content = FRONT.to_vec(alloc)?;
+        content.extend_from_slice(rest.as_bytes())?;
+        let name = String::from_str(alloc, "C")?;
+        let mut files = Vec::new(alloc);
+        files.push(NamedFile { name, content })?;
+        let input = GROUPED.to_vec(alloc)?;
+        let want = output.as_bytes();
+        tells(&rt, alloc, input, files, b"verify C", status, want)?;
+    }
+    Ok(())
+}

@@ -1,0 +1,12 @@
+pub mod QuietLaws
+pub mod AssignmentLaws
+pub mod AssignmentSteps
+pub mod KeepLaws
+pub mod ListLaws
+pub mod WatchLaws
+pub mod LookLaws
+pub mod EngineLaws
+pub mod AttachLaws
+pub mod TakeLaws
+pub mod JoinLaws
+pub mod PlainLaws

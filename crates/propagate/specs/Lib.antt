@@ -1,0 +1,10 @@
+pub mod Trail
+pub mod Quiet
+pub mod Engine
+pub mod Assignment
+pub mod Watching
+pub mod Visiting
+pub mod Running
+pub mod Attaching
+pub mod Joining
+pub mod Plain

@@ -1,0 +1,64 @@
+-- A trail: the literals that are true, in the order in which they became so.
+--     Trail                 what a contract sees of an engine
+--     end_of t n            where the literals of the levels up to n end
+--     upto t n              the literals of the levels up to n
+--     IsTrail t             what a trail keeps
+use Rattle.std.specs.Prelude.{◌≡◌, ℕ, ◌*◌, ◌/◌, ◌<◌, ◌≤◌, true, List, [], Option, Some, None, length, map, nat_eq, take, slice_index, slice_index_or}
+use Rattle.std.specs.List.{IsDistinct}
+use Rattle.clause_pool.specs.Literal.{complement}
+use Rattle.clause_pool.specs.Clause.{has}
+
+pub record Trail : Type 0 where
+  -- the number of variables
+  pub vars : ℕ
+  -- the clauses that were attached, in order
+  pub clauses : List (List ℕ)
+  -- the literals that are true, the earliest first
+  pub lits : List ℕ
+  -- for each of them the place of the clause that made it true, or none where it was assumed
+  pub reasons : List (Option ℕ)
+  -- for each level from 1 on, the number of literals before it
+  pub starts : List ℕ
+
+-- how many levels are open
+abbrev pub level : Trail → ℕ
+level t = length t.starts
+
+-- where the literals of the levels up to n end
+abbrev pub end_of : Trail → ℕ → ℕ
+end_of t n = slice_index_or t.starts n (length t.lits)
+
+-- the literals of the levels up to n
+abbrev pub upto : Trail → ℕ → List ℕ
+upto t n = take (end_of t n) t.lits
+
+-- whether a literal is false over these true ones
+abbrev pub IsFalse : List ℕ → ℕ → Type 0
+IsFalse lits l = has lits (complement l) ≡ true
+
+-- each literal of the clause but x is false
+abbrev pub OthersFalse : List ℕ → List ℕ → ℕ → Type 0
+OthersFalse lits c x = (l : ℕ) → has c l ≡ true → (l ≡ x → ⊥) → IsFalse lits l
+
+-- each literal of the clause is false
+abbrev pub AllFalse : List ℕ → List ℕ → Type 0
+AllFalse lits c = (l : ℕ) → has c l ≡ true → IsFalse lits l
+
+-- a clause made this literal true: it has it, and its others were false before
+pub record IsReason (clauses : List (List ℕ)) (before : List ℕ) (l at : ℕ) : Type 0 where
+  pub attached : at < length clauses
+  pub is_in : has (slice_index_or clauses at []) l ≡ true
+  pub others_false : OthersFalse before (slice_index_or clauses at []) l
+
+pub record IsTrail (t : Trail) : Type 0 where
+  -- no variable is on the trail twice
+  pub apart : IsDistinct nat_eq (map (λ l. l / 2) t.lits)
+  pub below : (l : ℕ) → has t.lits l ≡ true → l < 2 * t.vars
+  pub few_levels : length t.starts ≤ t.vars
+  pub clauses_below : (at l : ℕ) → has (slice_index_or t.clauses at []) l ≡ true → l < 2 * t.vars
+  pub rising : (i j : ℕ) → i ≤ j → j < length t.starts → slice_index t.starts i ≤ slice_index t.starts j
+  pub within : (i : ℕ) → i < length t.starts → slice_index t.starts i ≤ length t.lits
+  pub reasons_counted : length t.reasons ≡ length t.lits
+  pub reasoned : (k at : ℕ) → k < length t.lits → slice_index_or t.reasons k None ≡ Some at → IsReason t.clauses (take k t.lits) (slice_index t.lits k) at
+  -- what was assumed opened a level
+  pub decided : (k : ℕ) → k < length t.lits → slice_index_or t.reasons k None ≡ None → (n : ℕ) × (n < length t.starts) × (slice_index t.starts n ≡ k)

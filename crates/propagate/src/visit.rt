@@ -1,0 +1,169 @@
+//! What the clauses that watch a literal say where it has become false.
+ghost use Rattle.std.specs.Prelude.{◌≡◌, ◌⊎◌, ◌+◌, ◌<◌, ◌≤◌, [], ◌∷◌, ◌++◌, ℕ, List, length, slice_index_or, slice_get, IfOk, IfSome, IfNone, OnOk, OnErr, Ok, Some, None, true, false};
+ghost use Rattle.std.specs.Bool.{OnTrue, OnFalse};
+ghost use Rattle.clause_pool.specs.Literal.{complement};
+ghost use Rattle.clause_pool.specs.Clause.{has};
+ghost use Rattle.propagate.specs.Trail.{OthersFalse, AllFalse, IsReason};
+ghost use Rattle.propagate.specs.Assignment.{IsAssigned};
+ghost use Rattle.propagate.specs.Visiting.{scene, Looks, IsConflict, AreTrueIn, entries_of};
+ghost use Rattle.propagate.specs.Watching.{Grown, AreReasons, Keeps, AreTrue, EntryFits, clause_at, pair_of, list_of};
+
+use crate::assignment::Assignment;
+use crate::watches::WatchedClauses;
+use clause_pool::Lit;
+use pb_base::Memory;
+
+/// What a look at one entry of a list did.
+pub(crate) enum Outcome {
+    /// The entry stays where it is.
+    Kept,
+    /// The clause watches another literal, and the last entry of the list took its place.
+    Moved,
+    /// All literals of the clause are false.
+    Conflict(u32),
+}
+
+/// The literal of a code.
+#[inline(always)]
+pub(crate) fn literal(code: u32) -> Lit
+    ensures { result ≡ code }
+{
+    Lit::new(code / 2, code % 2 == 0)
+}
+
+/// The first literal of a clause that isn't false, and isn't the one that is left out.
+#[inline(always)]
+pub(crate) fn other_open(assignment: &Assignment, codes: &[u32], left_out: u32) -> Option<u32>
+    requires { (l : ℕ) → has codes.now l ≡ true → l < assignment.now.vars + assignment.now.vars }
+    ensures is_in { IfSome result (λ l. has codes.now l ≡ true) }
+    ensures apart { IfSome result (λ l. left_out ≡ l → ⊥) }
+    ensures not_false { IfSome result (λ l. has assignment.now.lits (complement l) ≡ false) }
+    ensures none { IfNone result (OthersFalse assignment.now.lits codes.now left_out) }
+{
+    for code in codes {
+        if *code != left_out && !assignment.is_false(*code) {
+            return Some(*code);
+        }
+    }
+    None
+}
+
+/// Makes true the one literal of a clause that isn't false, unless it is so already.
+#[inline(always)]
+pub(crate) fn put_only(assignment: &mut Assignment, code: u32, clause: u32)
+    requires below { code < assignment.old.vars + assignment.old.vars }
+    requires not_false { has assignment.old.lits (complement code) ≡ false }
+    ensures grown { Grown assignment.old assignment.new }
+    ensures reasoned { (clauses : List (List ℕ)) → IsReason clauses assignment.old.lits code clause
+        → AreReasons clauses assignment.old → AreReasons clauses assignment.new }
+    ensures put { has assignment.new.lits code ≡ true }
+    ensures assigned { IsAssigned assignment.new }
+{
+    if assignment.value(code).is_some() {
+        return;
+    }
+    assignment.put(literal(code), Some(clause));
+}
+
+/// A clause is false but for this literal: it becomes true, unless it is false too.
+#[inline(always)]
+pub(crate) fn put_last(assignment: &mut Assignment, code: u32, clause: u32) -> bool
+    requires { code < assignment.old.vars + assignment.old.vars }
+    ensures grown { Grown assignment.old assignment.new }
+    ensures reasoned { (clauses : List (List ℕ)) → IsReason clauses assignment.old.lits code clause
+        → AreReasons clauses assignment.old → AreReasons clauses assignment.new }
+    ensures put { OnTrue result (has assignment.new.lits code ≡ true) }
+    ensures unchanged { OnFalse result (assignment.new ≡ assignment.old) }
+    ensures is_false { OnFalse result (has assignment.old.lits (complement code) ≡ true) }
+{
+    if assignment.is_false(code) {
+        return false;
+    }
+    put_only(assignment, code, clause);
+    true
+}
+
+/// Looks at one entry of the list of a literal that has become false.
+#[inline(always)]
+pub(crate) fn look(
+    assignment: &mut Assignment,
+    watched: &mut WatchedClauses,
+    code: u32,
+    at: usize,
+) -> Result<Outcome, Memory>
+    requires codes { length watched.old.lists ≡ assignment.old.vars + assignment.old.vars }
+    requires code { code < length watched.old.lists }
+    requires is_false { has assignment.old.lits (complement code) ≡ true }
+    requires there { at < length (list_of watched.old code) }
+    ensures keeps { Keeps assignment.old assignment.new watched.old watched.new }
+    ensures looks { IfOk result (Looks (scene assignment.old watched.old) (scene assignment.new watched.new) code at) }
+{
+    let entry = watched.entry(code, at);
+    if assignment.is_true(entry.blocker) {
+        return Ok(Outcome::Kept);
+    }
+    if !entry.is_binary {
+        return look_further(assignment, watched, code, at);
+    }
+    if put_last(assignment, entry.blocker, entry.clause) {
+        return Ok(Outcome::Kept);
+    }
+    Ok(Outcome::Conflict(entry.clause))
+}
+
+/// The same where the entry alone doesn't tell: looks at the clause.
+fn look_further(
+    assignment: &mut Assignment,
+    watched: &mut WatchedClauses,
+    code: u32,
+    at: usize,
+) -> Result<Outcome, Memory>
+    requires codes { length watched.old.lists ≡ assignment.old.vars + assignment.old.vars }
+    requires code { code < length watched.old.lists }
+    requires is_false { has assignment.old.lits (complement code) ≡ true }
+    requires there { at < length (list_of watched.old code) }
+    ensures keeps { Keeps assignment.old assignment.new watched.old watched.new }
+    ensures looks { IfOk result (Looks (scene assignment.old watched.old) (scene assignment.new watched.new) code at) }
+{
+    let clause = watched.entry(code, at).clause;
+    let other = watched.other_of(clause, code);
+    if assignment.is_true(other) {
+        return Ok(Outcome::Kept);
+    }
+    if let Some(fresh) = other_open(assignment, watched.codes(clause), other) {
+        watched.shift(code, at, other, fresh)?;
+        return Ok(Outcome::Moved);
+    }
+    if put_last(assignment, other, clause) {
+        return Ok(Outcome::Kept);
+    }
+    Ok(Outcome::Conflict(clause))
+}
+
+/// Looks at all entries of a literal that has become false, up to the first clause that is false.
+pub(crate) fn visit(
+    assignment: &mut Assignment,
+    watched: &mut WatchedClauses,
+    code: u32,
+) -> Result<Option<u32>, Memory>
+    requires codes { length watched.old.lists ≡ assignment.old.vars + assignment.old.vars }
+    requires code { code < length watched.old.lists }
+    requires is_false { has assignment.old.lits (complement code) ≡ true }
+    ensures keeps { Keeps assignment.old assignment.new watched.old watched.new }
+    ensures conflict { IfOk result (λ found. IfSome found (IsConflict (scene assignment.new watched.new))) }
+    ensures all_true { result ≡ Ok None → AreTrueIn (scene assignment.new watched.new) code (entries_of (scene assignment.new watched.new) code) }
+{
+    let mut at = 0;
+    while at < watched.len_of(code) {
+        let seen = look(assignment, watched, code, at)?;
+        match seen {
+            Outcome::Kept => {
+                at += 1;
+                continue;
+            }
+            Outcome::Moved => continue,
+            Outcome::Conflict(clause) => return Ok(Some(clause)),
+        }
+    }
+    Ok(None)
+}

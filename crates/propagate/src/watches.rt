@@ -1,0 +1,185 @@
+//! The clauses with what each watches.
+ghost use Rattle.std.specs.Prelude.{◌≡◌, ◌⊎◌, ◌+◌, ◌^◌, ◌<◌, ◌≤◌, All, [], ◌∷◌, ◌++◌, ℕ, length, slice_index_or, slice_get, IfOk, OnOk, OnErr, Some, true, false};
+ghost use Rattle.clause_pool.specs.Clause.{has};
+ghost use Rattle.propagate.specs.Watching.{IsWatching, EntryFits, IsPairIn, Shifted, Watches, IsListed, clause_at, pair_of, list_of};
+ghost use Rattle.propagate.specs.Attaching.{Attached};
+
+use crate::clause_store::ClauseStore;
+use crate::watch::{Watch, WatchLists, Watched};
+use clause_pool::Lit;
+use pb_base::Memory;
+use std::alloc::Global;
+use std::marker::Model;
+
+/// The attached clauses, the two literals that each watches, and for each literal the entries of those that watch it.
+#[derive(Drop)]
+pub(crate) struct WatchedClauses {
+    store: ClauseStore,
+    watched: Vec<Watched>,
+    lists: WatchLists,
+}
+
+impl Model for WatchedClauses {
+    ghost use Rattle.propagate.specs.Watching.{Watching, IsWatching};
+
+    ghost Value = { Watching };
+
+    ghost view = { λ w. record { clauses = w.store; watched = w.watched.items; lists = w.lists } };
+
+    ghost invariant = { λ w. IsWatching (record { clauses = w.store; watched = w.watched.items; lists = w.lists }) };
+}
+
+impl WatchedClauses {
+    /// No clauses, and an empty list for each of so many literals.
+    pub(crate) fn new(alloc: Global, literals: usize) -> Result<WatchedClauses, Memory>
+        ensures clauses { IfOk result (λ w. w.clauses ≡ []) }
+        ensures lists { IfOk result (λ w. length w.lists ≡ literals) }
+    {
+        Ok(WatchedClauses {
+            store: ClauseStore::new(alloc),
+            watched: Vec::new(alloc),
+            lists: WatchLists::new(alloc, literals)?,
+        })
+    }
+
+    /// The number of clauses.
+    pub(crate) fn count(&self) -> usize
+        ensures { result ≡ length self.now.clauses }
+    {
+        self.store.len()
+    }
+
+    /// The number of entries of a literal.
+    #[inline(always)]
+    pub(crate) fn len_of(&self, code: u32) -> usize
+        requires { code < length self.now.lists }
+        ensures { result ≡ length (list_of self.now code) }
+    {
+        self.lists.len_of(code)
+    }
+
+    /// An entry of a literal.
+    #[inline(always)]
+    pub(crate) fn entry(&self, code: u32, at: usize) -> Watch
+        requires list { code < length self.now.lists }
+        requires there { at < length (list_of self.now code) }
+        ensures entry { slice_get (list_of self.now code) at ≡ Some result }
+        ensures fits { EntryFits self.now code result }
+        ensures watching { IsWatching self.now }
+    {
+        self.lists.entry(code, at)
+    }
+
+    /// The literals of a clause.
+    #[inline(always)]
+    pub(crate) fn codes(&self, clause: u32) -> &[u32]
+        requires { clause < length self.now.clauses }
+        ensures codes { result.now ≡ clause_at self.now.clauses clause }
+        ensures below { (l : ℕ) → has result.now l ≡ true → l < length self.now.lists }
+    {
+        self.store.codes(clause)
+    }
+
+    /// What a clause watches beside this literal.
+    #[inline(always)]
+    pub(crate) fn other_of(&self, clause: u32, code: u32) -> u32
+        requires { clause < length self.now.clauses }
+        ensures pair { (result ≡ (pair_of self.now clause).first) ⊎ (result ≡ (pair_of self.now clause).second) }
+        ensures other { ((pair_of self.now clause).first ≡ (pair_of self.now clause).second → ⊥) → result ≡ code → ⊥ }
+    {
+        let pair = self.watched[clause as usize];
+        if pair.first == code {
+            pair.second
+        } else {
+            pair.first
+        }
+    }
+
+    /// A further clause, which has no entries. On want of memory nothing changes.
+    pub(crate) fn push_plain(&mut self, lits: &[Lit]) -> Result<(), Memory>
+        requires below { (l : ℕ) → has lits.now l ≡ true → l < length self.old.lists }
+        requires small { All (λ l. l < 2 ^ 32) lits.now }
+        ensures attached { OnOk result (Attached self.old self.new lits.now (record { first = 0; second = 0 })) }
+        ensures err { OnErr result (self.new ≡ self.old) }
+    {
+        self.watched.reserve(1)?;
+        self.store.push(lits)?;
+        let pair = Watched {
+            first: 0,
+            second: 0,
+        };
+        self.watched.push(pair).unwrap();
+        Ok(())
+    }
+
+    /// A further clause, which watches these two of its literals. On want of memory nothing changes.
+    pub(crate) fn push_pair(&mut self, lits: &[Lit], pair: Watched) -> Result<(), Memory>
+        requires below { (l : ℕ) → has lits.now l ≡ true → l < length self.old.lists }
+        requires small { All (λ l. l < 2 ^ 32) lits.now }
+        requires pair { IsPairIn lits.now pair }
+        requires place { length self.old.clauses < 2 ^ 32 }
+        ensures attached { OnOk result (Attached self.old self.new lits.now pair) }
+        ensures first { OnOk result (IsListed self.new pair.first (length self.old.clauses)) }
+        ensures second { OnOk result (IsListed self.new pair.second (length self.old.clauses)) }
+        ensures err { OnErr result (self.new ≡ self.old) }
+    {
+        let clause = self.store.len() as u32;
+        let is_binary = lits.len() == 2;
+        self.watched.reserve(1)?;
+        self.store.push(lits)?;
+        let first = Watch {
+            clause,
+            blocker: pair.second,
+            is_binary,
+        };
+        let second = Watch {
+            clause,
+            blocker: pair.first,
+            is_binary,
+        };
+        let Ok(()) = self.lists.push_two(pair.first, first, pair.second, second) else {
+            self.store.pop();
+            return Err(Memory);
+        };
+        self.watched.push(pair).unwrap();
+        Ok(())
+    }
+
+    /// A clause watches this literal in place of the one of whose list its entry is. On want of memory nothing changes.
+    #[inline(always)]
+    pub(crate) fn shift(
+        &mut self,
+        code: u32,
+        at: usize,
+        other: u32,
+        fresh: u32,
+    ) -> Result<(), Memory>
+        requires list { code < length self.old.lists }
+        requires there { at < length (list_of self.old code) }
+        requires fresh_list { fresh < length self.old.lists }
+        requires other_in { (e : Watch) → slice_get (list_of self.old code) at ≡ Some e → has (clause_at self.old.clauses e.clause) other ≡ true }
+        requires fresh_in { (e : Watch) → slice_get (list_of self.old code) at ≡ Some e → has (clause_at self.old.clauses e.clause) fresh ≡ true }
+        requires apart { other ≡ fresh → ⊥ }
+        requires not_code { fresh ≡ code → ⊥ }
+        requires other_not_code { other ≡ code → ⊥ }
+        ensures shifted { OnOk result (Shifted self.old self.new code at) }
+        ensures watches { OnOk result ((e : Watch) → slice_get (list_of self.old code) at ≡ Some e → Watches self.old self.new e.clause other fresh) }
+        ensures err { OnErr result (self.new ≡ self.old) }
+    {
+        let clause = self.lists.entry(code, at).clause;
+        self.lists.push(
+            fresh,
+            Watch {
+                clause,
+                blocker: other,
+                is_binary: false,
+            },
+        )?;
+        self.lists.remove(code, at);
+        self.watched[clause as usize] = Watched {
+            first: other,
+            second: fresh,
+        };
+        Ok(())
+    }
+}
