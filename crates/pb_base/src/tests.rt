@@ -85,6 +85,12 @@ fn lists_and_texts_are_written_and_copied_whole(rt: HostRuntime) -> Result<(), F
         b"book,T,0,18446744073709551615".as_slice()
     );
     assert_eq!(rt; Body::of(b"ok".to_vec(alloc)?).as_slice(), b"ok".as_slice());
+    let mut turned = Text::with_room(alloc, 4)?;
+    turned.put(b"backfront")?;
+    turned.rotate_left(4);
+    assert_eq!(rt; turned.bytes(), b"frontback".as_slice());
+    turned.clear();
+    assert_eq!(rt; turned.bytes(), b"".as_slice());
     Ok(())
 }
 

@@ -1,5 +1,5 @@
 //! Texts that are being written.
-ghost use Rattle.std.specs.Prelude.{◌≡◌, ◌++◌, [], OnOk, OnErr};
+ghost use Rattle.std.specs.Prelude.{◌≡◌, ◌≤◌, ◌++◌, [], IfOk, OnOk, OnErr, drop, length, take};
 ghost use Rattle.std.specs.Fmt.{decimal};
 
 use crate::answer::Memory;
@@ -32,6 +32,14 @@ impl Text {
         }
     }
 
+    /// The text without bytes, with room for this many, so that as many are put without a further allocation.
+    pub fn with_room(alloc: Global, room: usize) -> Result<Text, Memory>
+        ensures { IfOk result (λ t. t ≡ []) }
+    {
+        let bytes = Vec::with_capacity(alloc, room)?;
+        Ok(Text { bytes })
+    }
+
     /// Puts bytes behind the others. On want of memory the text is as before.
     pub fn put(&mut self, piece: &[u8]) -> Result<(), Memory>
         ensures ok { OnOk result (self.new ≡ self.old ++ piece.now) }
@@ -48,6 +56,21 @@ impl Text {
     {
         let mut digits = Buffer::new();
         self.put(digits.format(number).as_bytes())
+    }
+
+    /// Puts the bytes from this place on in front of those before it. Places are counted from 0.
+    pub fn rotate_left(&mut self, place: usize)
+        requires { place ≤ length self.old }
+        ensures { self.new ≡ drop place self.old ++ take place self.old }
+    {
+        self.bytes.rotate_left(place);
+    }
+
+    /// Takes all bytes away and keeps their room.
+    pub fn clear(&mut self)
+        ensures { self.new ≡ [] }
+    {
+        self.bytes.clear();
     }
 
     /// The bytes of the text so far.

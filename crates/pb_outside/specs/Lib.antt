@@ -5,5 +5,6 @@ pub mod Files
 pub mod FaultPlan
 pub mod MemorySource
 pub mod MemorySink
+pub mod MemoryLink
 pub mod MemoryFiles
 pub mod NamedFile

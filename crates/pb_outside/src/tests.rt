@@ -1,8 +1,8 @@
 //! The objects in memory with chosen pieces and faults, and the adapters over the system.
 
 use crate::{
-    Files, MemoryFiles, MemorySink, MemorySource, NamedFile, OutError, Sink, Source, StreamSink,
-    StreamSource, SystemFiles, read_up_to,
+    Files, MemoryFiles, MemoryLink, MemorySink, MemorySource, NamedFile, OutError, Sink, Source,
+    StreamSink, StreamSource, SystemFiles, read_up_to,
 };
 use std::io::{Read, Write};
 use std::test::Fail;
@@ -56,6 +56,25 @@ fn a_memory_sink_takes_whole_pieces_while_there_is_room(rt: HostRuntime) -> Resu
     }
     assert_eq!(rt; sink.taken(), b"abcde".as_slice());
     assert_eq!(rt; sink.write_faults(), 2);
+    Ok(())
+}
+
+#[test]
+fn a_link_in_memory_is_read_and_written_apart(rt: HostRuntime) -> Result<(), Fail> {
+    let alloc = rt.alloc();
+    let content = b"abc".to_vec(alloc)?;
+    let source = MemorySource::new(content, Vec::new(alloc), [0].to_vec(alloc)?);
+    let sink = MemorySink::new(alloc, 9, [1].to_vec(alloc)?)?;
+    let mut link = MemoryLink::new(source, sink);
+    let mut into = Vec::new(alloc);
+    assert_eq!(rt; link.write(b"xy"), Ok(()));
+    assert_eq!(rt; link.read(&mut into, 10), Err(OutError::Failed));
+    assert_eq!(rt; (link.read_faults(), link.write_faults()), (1, 0));
+    assert_eq!(rt; link.read(&mut into, 10), Ok(3));
+    assert_eq!(rt; link.write(b"z"), Err(OutError::Failed));
+    assert_eq!(rt; (link.read_faults(), link.write_faults()), (1, 1));
+    assert_eq!(rt; into.as_slice(), b"abc".as_slice());
+    assert_eq!(rt; link.taken(), b"xy".as_slice());
     Ok(())
 }
 

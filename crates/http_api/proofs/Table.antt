@@ -1,0 +1,124 @@
+-- The routes, and the kind that each path finds.
+use Rattle.std.proofs.Common.{◌≡◌, ◌≢◌, ℕ, ◌+◌, ◌<◌, ◌≤◌, List, [], ◌∷◌, ◌++◌, length, Option, Some, None, Bool, true, false, refl, sym, ap, ◌∙◌, arith, option_map, codes, append-nil}
+use Rattle.matchit.specs.Rows.{RowsOf}
+use Rattle.matchit.specs.Seek.{own, step, seek, longest_suffix, with_suffix}
+use Rattle.matchit.specs.Router.{RouteOf}
+use Rattle.http_api.specs.declared.route.Route.{Route}
+use Rattle.http_api.specs.declared.route.Route.TheVariants.{Draft as DraftAt, Book as BookAt, Order as OrderAt}
+use Rattle.http_api.specs.declared.route.Kind.{Kind}
+use Rattle.http_api.specs.declared.route.Kind.TheVariants.{Draft, Book, Order}
+use Rattle.http_api.specs.declared.route.DraftPage.TheVariants.{Text as DraftText, Owner, Check, Release}
+use Rattle.http_api.specs.declared.route.BookPage.TheVariants.{Text as BookText, Certificate, Withdraw}
+use Rattle.http_api.specs.Routes.{Routes, Knows}
+use Rattle.http_api.proofs.Seeking.{IsPlain, behind, next_byte}
+use Rattle.http_api.proofs.Items.{IsItem, name_item, number_item}
+use Rattle.http_api.proofs.Found.{behind_name, at_name, cuts-slash, cuts-plain}
+
+-- a route with one parameter between two texts
+abbrev entry : List ℕ → List ℕ → Kind → RouteOf Kind
+entry front back kind = record {
+  pattern = front ++ 256 ∷ back;
+  text = front ++ codes "{item}" ++ back;
+  names = (length front + 1, length front + 5) ∷ [];
+  value = kind;
+}
+
+abbrev front_books : List ℕ
+front_books = codes "/books/"
+
+abbrev front_drafts : List ℕ
+front_drafts = codes "/drafts/"
+
+abbrev front_orders : List ℕ
+front_orders = codes "/orders/"
+
+-- what stands behind the parameter of the routes of one front
+abbrev book_rows : RowsOf (RouteOf Kind)
+book_rows =
+    (codes "/certificate", entry front_books (codes "/certificate") (Book Certificate))
+    ∷ (codes "/withdraw", entry front_books (codes "/withdraw") (Book Withdraw))
+    ∷ ([], entry front_books [] (Book BookText))
+    ∷ []
+
+abbrev draft_rows : RowsOf (RouteOf Kind)
+draft_rows =
+    (codes "/check", entry front_drafts (codes "/check") (Draft Check))
+    ∷ (codes "/owner", entry front_drafts (codes "/owner") (Draft Owner))
+    ∷ (codes "/release", entry front_drafts (codes "/release") (Draft Release))
+    ∷ ([], entry front_drafts [] (Draft DraftText))
+    ∷ []
+
+abbrev order_rows : RowsOf (RouteOf Kind)
+order_rows = ([], entry front_orders [] Order) ∷ []
+
+abbrev row : List ℕ → List ℕ → Kind → List ℕ × RouteOf Kind
+row front back kind = (front ++ 256 ∷ back, entry front back kind)
+
+abbrev pub table : Routes
+table =
+    row front_books (codes "/certificate") (Book Certificate)
+    ∷ row front_books (codes "/withdraw") (Book Withdraw)
+    ∷ row front_books [] (Book BookText)
+    ∷ row front_drafts (codes "/check") (Draft Check)
+    ∷ row front_drafts (codes "/owner") (Draft Owner)
+    ∷ row front_drafts (codes "/release") (Draft Release)
+    ∷ row front_drafts [] (Draft DraftText)
+    ∷ row front_orders [] Order
+    ∷ []
+
+-- behind the front of its routes
+at_books : (path : List ℕ) (k : RouteOf Kind) → seek 0 (behind book_rows) path ≡ Some k → seek 0 table (front_books ++ path) ≡ Some k
+at_books path k found = next_byte 47 _ _ k (next_byte 98 _ _ k (next_byte 111 _ _ k (next_byte 111 _ _ k (next_byte 107 _ _ k (next_byte 115 _ _ k (next_byte 47 _ _ k found))))))
+
+at_drafts : (path : List ℕ) (k : RouteOf Kind) → seek 0 (behind draft_rows) path ≡ Some k → seek 0 table (front_drafts ++ path) ≡ Some k
+at_drafts path k found = next_byte 47 _ _ k (next_byte 100 _ _ k (next_byte 114 _ _ k (next_byte 97 _ _ k (next_byte 102 _ _ k (next_byte 116 _ _ k (next_byte 115 _ _ k (next_byte 47 _ _ k found)))))))
+
+at_orders : (path : List ℕ) (k : RouteOf Kind) → seek 0 (behind order_rows) path ≡ Some k → seek 0 table (front_orders ++ path) ≡ Some k
+at_orders path k found = next_byte 47 _ _ k (next_byte 111 _ _ k (next_byte 114 _ _ k (next_byte 100 _ _ k (next_byte 101 _ _ k (next_byte 114 _ _ k (next_byte 115 _ _ k (next_byte 47 _ _ k found)))))))
+
+-- the routes that go on behind the name or number, and those that end with it
+finds_owner : (b : ℕ) (item : List ℕ) → IsPlain (b ∷ item) → seek 0 table (front_drafts ++ (b ∷ item ++ codes "/owner")) ≡ Some (entry front_drafts (codes "/owner") (Draft Owner))
+unfolding seek
+finds_owner b item plain = at_drafts (b ∷ item ++ codes "/owner") _ (behind_name b item (codes "owner") draft_rows _ plain (rw (cuts-slash b item) refl) refl)
+
+finds_check : (b : ℕ) (item : List ℕ) → IsPlain (b ∷ item) → seek 0 table (front_drafts ++ (b ∷ item ++ codes "/check")) ≡ Some (entry front_drafts (codes "/check") (Draft Check))
+unfolding seek
+finds_check b item plain = at_drafts (b ∷ item ++ codes "/check") _ (behind_name b item (codes "check") draft_rows _ plain (rw (cuts-slash b item) refl) refl)
+
+finds_release : (b : ℕ) (item : List ℕ) → IsPlain (b ∷ item) → seek 0 table (front_drafts ++ (b ∷ item ++ codes "/release")) ≡ Some (entry front_drafts (codes "/release") (Draft Release))
+unfolding seek
+finds_release b item plain = at_drafts (b ∷ item ++ codes "/release") _ (behind_name b item (codes "release") draft_rows _ plain (rw (cuts-slash b item) refl) refl)
+
+finds_cert : (b : ℕ) (item : List ℕ) → IsPlain (b ∷ item) → seek 0 table (front_books ++ (b ∷ item ++ codes "/certificate")) ≡ Some (entry front_books (codes "/certificate") (Book Certificate))
+unfolding seek
+finds_cert b item plain = at_books (b ∷ item ++ codes "/certificate") _ (behind_name b item (codes "certificate") book_rows _ plain (rw (cuts-slash b item) refl) refl)
+
+finds_withdraw : (b : ℕ) (item : List ℕ) → IsPlain (b ∷ item) → seek 0 table (front_books ++ (b ∷ item ++ codes "/withdraw")) ≡ Some (entry front_books (codes "/withdraw") (Book Withdraw))
+unfolding seek
+finds_withdraw b item plain = at_books (b ∷ item ++ codes "/withdraw") _ (behind_name b item (codes "withdraw") book_rows _ plain (rw (cuts-slash b item) refl) refl)
+
+finds_draft : (b : ℕ) (item : List ℕ) → IsPlain (b ∷ item) → seek 0 table (front_drafts ++ (b ∷ item ++ [])) ≡ Some (entry front_drafts [] (Draft DraftText))
+finds_draft b item plain = ap (λ rest. seek 0 table (front_drafts ++ (b ∷ rest))) (append-nil item) ∙ at_drafts (b ∷ item) _ (at_name b item draft_rows _ plain (rw (cuts-plain b item plain) refl) refl)
+
+finds_book : (b : ℕ) (item : List ℕ) → IsPlain (b ∷ item) → seek 0 table (front_books ++ (b ∷ item ++ [])) ≡ Some (entry front_books [] (Book BookText))
+finds_book b item plain = ap (λ rest. seek 0 table (front_books ++ (b ∷ rest))) (append-nil item) ∙ at_books (b ∷ item) _ (at_name b item book_rows _ plain (rw (cuts-plain b item plain) refl) refl)
+
+finds_order : (b : ℕ) (item : List ℕ) → IsPlain (b ∷ item) → seek 0 table (front_orders ++ (b ∷ item ++ [])) ≡ Some (entry front_orders [] Order)
+finds_order b item plain = ap (λ rest. seek 0 table (front_orders ++ (b ∷ rest))) (append-nil item) ∙ at_orders (b ∷ item) _ (at_name b item order_rows _ plain refl refl)
+
+-- a path with a name or a number between two texts
+finds_item : (path front item back : List ℕ) (r : RouteOf Kind) → path ≡ front ++ (item ++ back) → IsItem item
+    → ((b : ℕ) (rest : List ℕ) → IsPlain (b ∷ rest) → seek 0 table (front ++ (b ∷ rest ++ back)) ≡ Some r)
+    → option_map (λ (r : RouteOf Kind). r.value) (seek 0 table path) ≡ Some r.value
+finds_item path front [] back r is item find = absurd item
+finds_item path front (b ∷ rest) back r is item find = ap (option_map (λ (r : RouteOf Kind). r.value)) (ap (seek 0 table) is ∙ find b rest item)
+
+pub knows : Knows table
+knows path (DraftAt name DraftText) h = finds_item path front_drafts name [] _ h.0 (name_item name h.1) finds_draft
+knows path (DraftAt name Owner) h = finds_item path front_drafts name (codes "/owner") _ h.0 (name_item name h.1) finds_owner
+knows path (DraftAt name Check) h = finds_item path front_drafts name (codes "/check") _ h.0 (name_item name h.1) finds_check
+knows path (DraftAt name Release) h = finds_item path front_drafts name (codes "/release") _ h.0 (name_item name h.1) finds_release
+knows path (BookAt number BookText) h = finds_item path front_books h.0 [] _ h.1 (number_item h.0 number h.2) finds_book
+knows path (BookAt number Certificate) h = finds_item path front_books h.0 (codes "/certificate") _ h.1 (number_item h.0 number h.2) finds_cert
+knows path (BookAt number Withdraw) h = finds_item path front_books h.0 (codes "/withdraw") _ h.1 (number_item h.0 number h.2) finds_withdraw
+knows path (OrderAt number) h = finds_item path front_orders h.0 [] _ h.1 (number_item h.0 number h.2) finds_order

@@ -1,0 +1,9 @@
+pub mod Path
+pub mod Route
+pub mod Routes
+pub mod Request
+pub mod Body
+pub mod Call
+pub mod Status
+pub mod ReplyText
+pub mod Response

@@ -1,0 +1,93 @@
+//! What a path and a method ask for.
+ghost use Rattle.std.specs.Prelude.{◌≡◌};
+ghost use Rattle.http_api.specs.Request.{method_of, request_of};
+
+use crate::route::{BookPage, DraftPage, Route};
+use desk_words::What;
+use pb_base::Id;
+
+/// A method that some path has, or any other.
+#[derive(Clone, Copy)]
+pub enum Verb {
+    Get,
+    Put,
+    Post,
+    Other,
+}
+
+/// What a path and its method ask for, before the body is looked at.
+#[derive(Drop)]
+pub enum Request {
+    /// A call that needs no body.
+    Whole(What),
+    /// The body is the text of a draft.
+    PutDraft(Id),
+    GiveDraft(Id),
+    Check(Id),
+    Release(Id),
+    /// The order of this number of the caller's.
+    PlaceOrder(u32),
+}
+
+impl Verb {
+    /// The method of these bytes.
+    pub fn of(method: &[u8]) -> Verb
+        ensures { result ≡ method_of method.now }
+    {
+        if method == b"GET".as_slice() {
+            Verb::Get
+        } else if method == b"PUT".as_slice() {
+            Verb::Put
+        } else if method == b"POST".as_slice() {
+            Verb::Post
+        } else {
+            Verb::Other
+        }
+    }
+}
+
+/// What a path and a method ask for, or None where the path doesn't have the method.
+pub fn request_of(route: Route, verb: Verb) -> Option<Request>
+    ensures { result ≡ request_of route verb }
+{
+    match route {
+        Route::Draft(draft, page) => draft_request(draft, page, verb),
+        Route::Book(book, page) => book_request(book, page, verb),
+        Route::Order(number) => order_request(number, verb),
+    }
+}
+
+fn draft_request(draft: Id, page: DraftPage, verb: Verb) -> Option<Request>
+    ensures { result ≡ request_of (Route.Draft draft page) verb }
+{
+    match (page, verb) {
+        (DraftPage::Text, Verb::Get) => Some(Request::Whole(What::ReadDraft { draft })),
+        (DraftPage::Text, Verb::Put) => Some(Request::PutDraft(draft)),
+        (DraftPage::Owner, Verb::Get) => Some(Request::Whole(What::ReadOwner { draft })),
+        (DraftPage::Owner, Verb::Post) => Some(Request::GiveDraft(draft)),
+        (DraftPage::Check, Verb::Post) => Some(Request::Check(draft)),
+        (DraftPage::Release, Verb::Post) => Some(Request::Release(draft)),
+        _ => None,
+    }
+}
+
+fn book_request(book: u32, page: BookPage, verb: Verb) -> Option<Request>
+    ensures { result ≡ request_of (Route.Book book page) verb }
+{
+    match (page, verb) {
+        (BookPage::Text, Verb::Get) => Some(Request::Whole(What::ReadBook { book })),
+        (BookPage::Certificate, Verb::Get) => Some(Request::Whole(What::ReadCert { book })),
+        (BookPage::Withdraw, Verb::Post) => Some(Request::Whole(What::Withdraw { book })),
+        _ => None,
+    }
+}
+
+fn order_request(number: u32, verb: Verb) -> Option<Request>
+    ensures { result ≡ request_of (Route.Order number) verb }
+{
+    match verb {
+        Verb::Get => Some(Request::Whole(What::ReadOrder { number })),
+        Verb::Put => Some(Request::PlaceOrder(number)),
+        _ => None,
+    }
+}

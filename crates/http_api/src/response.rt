@@ -1,0 +1,209 @@
+//! Responses, byte for byte.
+ghost use Rattle.std.specs.Prelude.{◌≡◌, ◌++◌, IfOk, false, true};
+ghost use Rattle.http_api.specs.Response.{CanDeny, IsBad, IsDeniedResponse, bad_line, bad_response, denied_line, denied_response, is_raw, plain_response, response, response_of};
+ghost use Rattle.desk_words.specs.declared.reply.Reply.TheVariants.{Memory as WantOfMemory};
+
+use crate::denied::Denied;
+use crate::opening::{Methods, Opening};
+use crate::path::path_of;
+use crate::reply_text::{put_line, rest_of};
+use crate::routes::Routes;
+use crate::status::Status;
+use desk_words::Reply;
+use pb_base::{Body, Memory, Text};
+use std::alloc::Global;
+
+/// Room for the longest head with the longest line of a body.
+const ROOM: usize = 256;
+
+/// The response of a reply. It says that the connection closes where `close` is true, and leaves the bytes of the body out where `bare` is true.
+pub fn response_of(alloc: Global, reply: &Reply, close: bool, bare: bool) -> Result<Body, Memory>
+    ensures { IfOk result (λ body. body ≡ response_of reply.now close bare) }
+{
+    let rest = rest_of(reply);
+    let opening = Opening {
+        status: Status::of(reply),
+        raw: is_raw(reply),
+        methods: Methods::Untold,
+        close,
+    };
+    let mut text = Text::with_room(alloc, ROOM + rest.len())?;
+    put_line(&mut text, reply)?;
+    finish(text, opening, rest, bare)
+}
+
+/// The response of a message that asks for nothing. `path` is the message's target; a wrong method is told the methods of its path.
+pub fn denied_response(
+    alloc: Global,
+    denied: Denied,
+    path: &[u8],
+    close: bool,
+    bare: bool,
+) -> Result<Body, Memory>
+    requires { CanDeny denied path.now }
+    ensures { IfOk result (λ body. IsDeniedResponse denied path.now close bare body) }
+{
+    let routes = Routes::new(alloc)?;
+    routes.denied_response(alloc, denied, path, close, bare)
+}
+
+impl Routes {
+    /// The response of a message that asks for nothing. `path` is the message's target; a wrong method is told the methods of its path.
+    pub fn denied_response(
+        &self,
+        alloc: Global,
+        denied: Denied,
+        path: &[u8],
+        close: bool,
+        bare: bool,
+    ) -> Result<Body, Memory>
+        requires { CanDeny denied path.now }
+        ensures { IfOk result (λ body. IsDeniedResponse denied path.now close bare body) }
+    {
+        match denied {
+            Denied::WrongMethod => self.wrong_method_response(alloc, path, close, bare),
+            Denied::NoPath => denied_with(alloc, Denied::NoPath, Methods::Untold, close, bare),
+            Denied::BadCaller => denied_with(
+                alloc,
+                Denied::BadCaller,
+                Methods::Untold,
+                close,
+                bare,
+            ),
+            Denied::BadBody => denied_with(alloc, Denied::BadBody, Methods::Untold, close, bare),
+        }
+    }
+
+    fn wrong_method_response(
+        &self,
+        alloc: Global,
+        path: &[u8],
+        close: bool,
+        bare: bool,
+    ) -> Result<Body, Memory>
+        requires { CanDeny Denied.WrongMethod path.now }
+        ensures { IfOk result (λ body. IsDeniedResponse Denied.WrongMethod path.now close bare body) }
+    {
+        match self.find(path_of(path)) {
+            Some(route) => denied_with(alloc, Denied::WrongMethod, Methods::of(route), close, bare),
+            None => unreachable!(),
+        }
+    }
+}
+
+fn denied_with(
+    alloc: Global,
+    denied: Denied,
+    methods: Methods,
+    close: bool,
+    bare: bool,
+) -> Result<Body, Memory>
+    ensures { IfOk result (λ body. body ≡ denied_response denied methods close bare) }
+{
+    let opening = Opening {
+        status: Status::of_denied(denied),
+        raw: false,
+        methods,
+        close,
+    };
+    line_response(alloc, opening, denied_line(denied), bare)
+}
+
+fn denied_line(denied: Denied) -> &'static [u8]
+    ensures { result.now ≡ denied_line denied }
+{
+    match denied {
+        Denied::NoPath => b"no such path\n",
+        Denied::WrongMethod => b"wrong method\n",
+        Denied::BadCaller => b"bad caller\n",
+        Denied::BadBody => b"bad body\n",
+    }
+}
+
+/// The response to what stands in a stream and is no message: 400, 413, 431 or 501. The connection closes after it.
+pub fn bad_response(alloc: Global, status: u16) -> Result<Body, Memory>
+    requires { IsBad status }
+    ensures { IfOk result (λ body. body ≡ bad_response status) }
+{
+    let opening = Opening {
+        status: Status::of_bad(status),
+        raw: false,
+        methods: Methods::Untold,
+        close: true,
+    };
+    line_response(alloc, opening, bad_line(status), false)
+}
+
+fn bad_line(status: u16) -> &'static [u8]
+    ensures { result.now ≡ bad_line status }
+{
+    match status {
+        413 => b"body too large\n",
+        431 => b"head too large\n",
+        501 => b"transfer encoding\n",
+        _ => b"bad request\n",
+    }
+}
+
+/// The response of want of memory. It takes none.
+pub fn memory_response(close: bool, bare: bool) -> &'static [u8]
+    ensures { result.now ≡ response_of WantOfMemory close bare }
+{
+    if close {
+        closing_memory_response(bare)
+    } else {
+        lasting_memory_response(bare)
+    }
+}
+
+fn closing_memory_response(bare: bool) -> &'static [u8]
+    ensures { result.now ≡ response_of WantOfMemory true bare }
+{
+    if bare {
+        "HTTP/1.1 500 Internal Server Error\r\nContent-Type: text/plain\r\nContent-Length: 15\r\nConnection: close\r\n\r\n".as_bytes()
+    } else {
+        "HTTP/1.1 500 Internal Server Error\r\nContent-Type: text/plain\r\nContent-Length: 15\r\nConnection: close\r\n\r\nwant of memory\n".as_bytes()
+    }
+}
+
+fn lasting_memory_response(bare: bool) -> &'static [u8]
+    ensures { result.now ≡ response_of WantOfMemory false bare }
+{
+    if bare {
+        "HTTP/1.1 500 Internal Server Error\r\nContent-Type: text/plain\r\nContent-Length: 15\r\n\r\n".as_bytes()
+    } else {
+        "HTTP/1.1 500 Internal Server Error\r\nContent-Type: text/plain\r\nContent-Length: 15\r\n\r\nwant of memory\n".as_bytes()
+    }
+}
+
+// The response whose body is this line.
+fn line_response(alloc: Global, opening: Opening, line: &[u8], bare: bool) -> Result<Body, Memory>
+    ensures { IfOk result (λ body. body ≡ response opening line.now bare) }
+{
+    let mut text = Text::with_room(alloc, ROOM)?;
+    text.put(line)?;
+    finish(text, opening, b"", bare)
+}
+
+// The body's line stands in the text already, since the head says how long the body is; so the head is put behind it, and the two change places.
+fn finish(mut text: Text, opening: Opening, rest: &[u8], bare: bool) -> Result<Body, Memory>
+    ensures { IfOk result (λ body. body ≡ response opening (text ++ rest.now) bare) }
+{
+    let line = text.bytes().len();
+    let length = line + rest.len();
+    if bare {
+        text.clear();
+        opening.put(&mut text, length)?;
+        return Ok(text.into_body());
+    }
+    opening.put(&mut text, length)?;
+    text.rotate_left(line);
+    text.put(rest)?;
+    Ok(text.into_body())
+}
+
+fn is_raw(reply: &Reply) -> bool
+    ensures { result ≡ is_raw reply.now }
+{
+    matches!(reply, Reply::Raw(_))
+}

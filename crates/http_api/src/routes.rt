@@ -1,0 +1,143 @@
+//! The router that finds a path's route.
+ghost use Rattle.std.specs.Prelude.{◌≡◌, ℕ, List, Some, IfOk, IfSome, OnOk};
+ghost use Rattle.http_api.specs.Route.{Leads, kind_of};
+ghost use Rattle.http_api.specs.Routes.{CanTake, Knows, TakesRoute};
+ghost use Rattle.http_api.specs.declared.route.Route.{Route};
+ghost use Rattle.matchit.specs.Route.{parse_route};
+
+use crate::item::{name_in, number_in};
+use crate::route::{BookPage, DraftPage, Kind, Route};
+use matchit::{InsertError, Router};
+use pb_base::Memory;
+use std::alloc::Global;
+use std::marker::Model;
+
+/// All paths that lead somewhere, to be asked for many messages.
+#[derive(Drop)]
+pub struct Routes {
+    router: Router<Kind>,
+}
+
+impl Model for Routes {
+    ghost use Rattle.http_api.specs.Routes.{Knows};
+
+    ghost Value = { Unit {0} };
+
+    ghost view = { λ _. tt };
+
+    ghost invariant = { λ r. Knows r.router };
+}
+
+impl Routes {
+    /// The routes of the desk.
+    pub fn new(alloc: Global) -> Result<Routes, Memory> {
+        let router = full_router(alloc)?;
+        Ok(Routes { router })
+    }
+
+    /// Where a path leads, or None where it leads nowhere.
+    pub fn find(&self, path: &[u8]) -> Option<Route>
+        ensures found { IfSome result (λ route. Leads path.now route) }
+        ensures only { (route : Route) → Leads path.now route → result ≡ Some route }
+    {
+        let Ok(text) = str::from_utf8(path) else {
+            return None;
+        };
+        match self.router.at(text) {
+            Ok(found) => route_at(*found.value, path),
+            Err(_) => None,
+        }
+    }
+}
+
+// The route of this kind to which a path leads.
+fn route_at(kind: Kind, path: &[u8]) -> Option<Route>
+    ensures found { IfSome result (λ route. Leads path.now route) }
+    ensures only { (route : Route) → Leads path.now route → kind_of route ≡ kind → result ≡ Some route }
+{
+    match kind {
+        Kind::Draft(page) => draft_at(path, page),
+        Kind::Book(page) => book_at(path, page),
+        Kind::Order => order_at(path),
+    }
+}
+
+fn draft_at(path: &[u8], page: DraftPage) -> Option<Route>
+    ensures found { IfSome result (λ route. Leads path.now route) }
+    ensures only { (name : List ℕ) → Leads path.now (Route.Draft name page) → result ≡ Some (Route.Draft name page) }
+{
+    match name_in(path, b"/drafts/", page.end()) {
+        Some(name) => Some(Route::Draft(name, page)),
+        None => None,
+    }
+}
+
+fn book_at(path: &[u8], page: BookPage) -> Option<Route>
+    ensures found { IfSome result (λ route. Leads path.now route) }
+    ensures only { (number : ℕ) → Leads path.now (Route.Book number page) → result ≡ Some (Route.Book number page) }
+{
+    match number_in(path, b"/books/", page.end()) {
+        Some(number) => Some(Route::Book(number, page)),
+        None => None,
+    }
+}
+
+fn order_at(path: &[u8]) -> Option<Route>
+    ensures found { IfSome result (λ route. Leads path.now route) }
+    ensures only { (number : ℕ) → Leads path.now (Route.Order number) → result ≡ Some (Route.Order number) }
+{
+    match number_in(path, b"/orders/", b"") {
+        Some(number) => Some(Route::Order(number)),
+        None => None,
+    }
+}
+
+// A router with each route.
+fn full_router(alloc: Global) -> Result<Router<Kind>, Memory>
+    ensures { IfOk result (λ router. Knows router) }
+{
+    let mut router = Router::new(alloc);
+    add(&mut router, "/drafts/{item}", Kind::Draft(DraftPage::Text))?;
+    add(
+        &mut router,
+        "/drafts/{item}/owner",
+        Kind::Draft(DraftPage::Owner),
+    )?;
+    add(
+        &mut router,
+        "/drafts/{item}/check",
+        Kind::Draft(DraftPage::Check),
+    )?;
+    add(
+        &mut router,
+        "/drafts/{item}/release",
+        Kind::Draft(DraftPage::Release),
+    )?;
+    add(&mut router, "/books/{item}", Kind::Book(BookPage::Text))?;
+    add(
+        &mut router,
+        "/books/{item}/certificate",
+        Kind::Book(BookPage::Certificate),
+    )?;
+    add(
+        &mut router,
+        "/books/{item}/withdraw",
+        Kind::Book(BookPage::Withdraw),
+    )?;
+    add(&mut router, "/orders/{item}", Kind::Order)?;
+    Ok(router)
+}
+
+fn add(router: &mut Router<Kind>, text: &str, kind: Kind) -> Result<(), Memory>
+    requires { CanTake router.old (parse_route text.now) }
+    ensures { OnOk result (TakesRoute router.old (parse_route text.now) kind router.new) }
+{
+    match router.insert(text, kind) {
+        Ok(()) => Ok(()),
+        Err(InsertError::OutOfMemory) => Err(Memory),
+        Err(InsertError::Conflict { .. }) => unreachable!(),
+        Err(InsertError::InvalidParam) => unreachable!(),
+        Err(InsertError::InvalidParamSegment) => unreachable!(),
+        Err(InsertError::InvalidCatchAll) => unreachable!(),
+    }
+}
