@@ -1,13 +1,13 @@
 -- The lines that tell what a certificate is answered.
-use Rattle.std.specs.Prelude.{ℕ, List, [], ◌++◌, codes}
+use Rattle.std.specs.Prelude.{ℕ, List, [], ◌∷◌, ◌++◌, codes}
 use Rattle.book_model.specs.Contents.{Contents}
 use Rattle.book_model.specs.declared.slicing.LimitFault.{LimitFault}
-use Rattle.book_model.specs.declared.slicing.LimitFault.TheVariants.{Slices, Questions}
 use Rattle.derivation.specs.declared.fault.CertFault.{CertFault}
 use Rattle.derivation.specs.declared.fault.CertKind.{CertKind}
 use Rattle.derivation.specs.declared.fault.CertKind.TheVariants.{Syntax, WrongBook, NoSuchStep, NoPivot, NotClosed, BadSet, Trailing, TooLarge, Limit}
 use Rattle.derivation.specs.declared.fault.Certified.{Certified}
-use Rattle.partsbook.specs.Lines.{line, number_behind}
+use Rattle.desk_words.specs.Lines.{line, number_behind}
+use Rattle.desk_words.specs.FaultText.{limit_text}
 
 -- the number of a kind
 abbrev pub cert_number : CertKind → ℕ
@@ -21,10 +21,9 @@ cert_number Trailing = 7
 cert_number TooLarge = 8
 cert_number (Limit fault) = 9
 
--- the limit that a book exceeds
-abbrev pub limit_text : LimitFault → List ℕ
-limit_text (Slices count) = codes " limit slices" ++ number_behind count
-limit_text (Questions slice count) = codes " limit questions" ++ number_behind slice ++ number_behind count
+-- a space and the limit that checking the book exceeds
+abbrev pub limit_behind : LimitFault → List ℕ
+limit_behind fault = 32 ∷ limit_text fault
 
 -- what stands behind the number of a kind
 abbrev pub cert_detail : CertKind → List ℕ
@@ -36,7 +35,7 @@ cert_detail (NotClosed question) = number_behind question
 cert_detail (BadSet slice) = number_behind slice
 cert_detail Trailing = []
 cert_detail TooLarge = []
-cert_detail (Limit fault) = limit_text fault
+cert_detail (Limit fault) = limit_behind fault
 
 abbrev pub cert_fault_text : CertFault → List ℕ
 cert_fault_text fault = line (codes "certificate fault" ++ number_behind fault.line ++ number_behind (cert_number fault.kind) ++ cert_detail fault.kind)

@@ -1,6 +1,4 @@
-pub mod Lines
 pub mod Words
-pub mod FaultText
 pub mod OutcomeText
 pub mod CertText
 pub mod Outside

@@ -8,7 +8,7 @@ use Rattle.book_model.specs.Contents.{Contents}
 use Rattle.book_model.specs.Parts.{PartsLine}
 use Rattle.parts_usage.specs.declared.judgement.Outcome.{Outcome}
 use Rattle.parts_usage.specs.declared.judgement.Outcome.TheVariants.{Accepted, Refused, Unfit}
-use Rattle.partsbook.specs.Lines.{line, number_behind}
+use Rattle.desk_words.specs.Lines.{line, number_behind}
 
 -- the id of the record at a place
 abbrev pub construct_id : Contents → ℕ → List ℕ

@@ -17,7 +17,7 @@ use Rattle.derivation.specs.Certificate.{cert_answer}
 use Rattle.derivation.specs.declared.fault.CertFault.{CertFault}
 use Rattle.derivation.specs.declared.fault.CertKind.TheVariants.{TooLarge}
 use Rattle.derivation.specs.declared.fault.Certified.{Certified}
-use Rattle.partsbook.specs.FaultText.{book_fault_text, order_fault_text}
+use Rattle.desk_words.specs.FaultText.{book_fault_text, order_fault_text}
 use Rattle.partsbook.specs.OutcomeText.{outcome_text}
 use Rattle.partsbook.specs.CertText.{cert_fault_text, verified_text}
 use Rattle.partsbook.specs.declared.log.Note.{Note}

@@ -1,10 +1,10 @@
 //! The lines that tell what a certificate is answered.
 ghost use Rattle.std.specs.Prelude.{◌≡◌, ◌++◌, IfOk, OnOk};
-ghost use Rattle.partsbook.specs.CertText.{cert_number, limit_text, cert_detail, cert_fault_text, verified_text};
+ghost use Rattle.partsbook.specs.CertText.{cert_number, limit_behind, cert_detail, cert_fault_text, verified_text};
 
-use crate::lines::put_number;
 use book_model::{Book, LimitFault};
 use derivation::{CertFault, CertKind, Certified};
+use desk_words::{put_limit, put_number};
 use pb_base::{Memory, Text};
 use std::alloc::Global;
 
@@ -58,33 +58,15 @@ fn put_cert_detail(text: &mut Text, kind: &CertKind) -> Result<(), Memory>
     match kind {
         CertKind::NotClosed(question) => put_number(text, u64::from(*question)),
         CertKind::BadSet(slice) => put_number(text, u64::from(*slice)),
-        CertKind::Limit(fault) => put_limit(text, fault),
+        CertKind::Limit(fault) => put_limit_behind(text, fault),
         _ => Ok(()),
     }
 }
 
-fn put_limit(text: &mut Text, fault: &LimitFault) -> Result<(), Memory>
-    ensures { OnOk result (text.new ≡ text.old ++ limit_text fault.now) }
+// A space and the limit that checking the book exceeds.
+fn put_limit_behind(text: &mut Text, fault: &LimitFault) -> Result<(), Memory>
+    ensures { OnOk result (text.new ≡ text.old ++ limit_behind fault.now) }
 {
-    match fault {
-        LimitFault::Slices(count) => put_slices(text, *count),
-        LimitFault::Questions { slice, count } => put_questions(text, *slice, *count),
-    }
-}
-
-fn put_slices(text: &mut Text, count: u32) -> Result<(), Memory>
-    ensures { OnOk result (text.new ≡ text.old ++ limit_text (LimitFault.Slices count)) }
-{
-    text.put(b" limit slices")?;
-    put_number(text, u64::from(count))?;
-    Ok(())
-}
-
-fn put_questions(text: &mut Text, slice: u32, count: u64) -> Result<(), Memory>
-    ensures { OnOk result (text.new ≡ text.old ++ limit_text (LimitFault.Questions slice count)) }
-{
-    text.put(b" limit questions")?;
-    put_number(text, u64::from(slice))?;
-    put_number(text, count)?;
-    Ok(())
+    text.put(b" ")?;
+    put_limit(text, fault)
 }

@@ -9,7 +9,6 @@ mod fault_text;
 mod file_name;
 mod given;
 mod judge;
-mod lines;
 mod log;
 mod outcome_text;
 mod run;

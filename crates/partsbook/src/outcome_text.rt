@@ -4,8 +4,8 @@ ghost use Rattle.std.specs.List.{flat_map};
 ghost use Rattle.pb_base.specs.Sets.{has};
 ghost use Rattle.partsbook.specs.OutcomeText.{construct_id, position_id, module_of, module_id, named, names_from, part_text, parts_line, outcome_text};
 
-use crate::lines::put_number;
 use book_model::Book;
+use desk_words::put_number;
 use parts_usage::{Line, Outcome, PartsList};
 use pb_base::{CodeSet, CodeTable, Memory, Text};
 use std::alloc::Global;
