@@ -12,7 +12,7 @@ use Rattle.supplement.specs.declared.worklist.Candidate.{Candidate}
 use Rattle.supplement.specs.declared.firing.Firing.{Firing}
 use Rattle.supplement.specs.declared.occurrences.OccurrenceLists.{OccurrenceLists}
 use Rattle.supplement.specs.Completion.{first_firing}
-use Rattle.supplement.specs.Occurrences.{Lists, AreOccurrences}
+use Rattle.supplement.specs.Occurrences.{AreOccurrences}
 use Rattle.supplement.specs.Worklist.{HoldsFiring, HoldsFiringBut, HoldsListed, AreCandidates, candidate_of, ComesBefore}
 use Rattle.supplement.proofs.FirstFiring.{ComesFirst, firing_of, first_fires, first_firing-is, first_firing-none}
 use Rattle.supplement.proofs.OccurrenceLemmas.{fires_after}
