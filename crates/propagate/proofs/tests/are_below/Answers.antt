@@ -1,4 +1,4 @@
-use Rattle.std.proofs.Common.{◌≡◌, ℕ, ◌*◌, ◌<◌, inl, inr, arith}
+use Rattle.std.proofs.Common.{inl, inr, arith}
 use Rattle.propagate.proofs.TakeLaws.{one_more_item}
 use Rattle.propagate.proofs.tests.are_below.Goals as goal
 
