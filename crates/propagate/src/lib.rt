@@ -6,6 +6,8 @@ mod attach;
 mod clause_store;
 mod engine;
 mod plain;
+#[cfg(test)]
+mod tests;
 mod visit;
 mod watch;
 mod watches;
