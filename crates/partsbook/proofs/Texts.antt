@@ -5,9 +5,3 @@ pub four_pieces : (t0 t1 t2 t3 t4 a b c d : List ℕ) → t1 ≡ t0 ++ a → t2 
 four_pieces t0 t1 t2 t3 t4 a b c d e1 e2 e3 e4 =
     let joined : (((t0 ++ a) ++ b) ++ c) ++ d ≡ t0 ++ (a ++ ((b ++ c) ++ d)) = simp append_assoc in
     e4 ∙ ap (λ (t : List ℕ). t ++ d) (e3 ∙ ap (λ (t : List ℕ). t ++ c) (e2 ∙ ap (λ (t : List ℕ). t ++ b) e1)) ∙ joined
-
-pub two_pieces : (t0 t1 t2 a b : List ℕ) → t1 ≡ t0 ++ a → t2 ≡ t1 ++ b → t2 ≡ t0 ++ (a ++ b)
-two_pieces t0 t1 t2 a b e1 e2 = e2 ∙ ap (λ (t : List ℕ). t ++ b) e1 ∙ append_assoc t0 a b
-
-pub three_pieces : (t0 t1 t2 t3 a b c : List ℕ) → t1 ≡ t0 ++ a → t2 ≡ t1 ++ b → t3 ≡ t2 ++ c → t3 ≡ t0 ++ ((a ++ b) ++ c)
-three_pieces t0 t1 t2 t3 a b c e1 e2 e3 = two_pieces t0 t2 t3 (a ++ b) c (two_pieces t0 t1 t2 a b e1 e2) e3
