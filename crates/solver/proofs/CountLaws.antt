@@ -1,0 +1,138 @@
+-- How many clauses can be new one after the other: each has a number in base 3, a digit for each variable.
+use Rattle.std.proofs.Common.{◌≡◌, ◌⊎◌, inl, inr, ℕ, zero, suc, ◌+◌, ◌-◌, ◌*◌, ◌/◌, ◌%◌, ◌^◌, ◌<◌, ◌≤◌, Bool, true, false, not, List, [], ◌∷◌, ◌++◌, Option, Some, None, length, map, take, drop, get_or, eqb, cond, refl, sym, subst, ◌∙◌, ap, arith, length-drop}
+use Rattle.std.proofs.Math.Nat.{pow-suc}
+use Rattle.std.specs.List.{AllByRecursion, IsDistinct, list_any}
+use Rattle.std.proofs.lemmas.Bool.{cases_Bool, cases_eq, cases_order, false≢true, true≢false, eqb-true, ne_eqb, eq-eqb, or_cases}
+use Rattle.std.proofs.lemmas.List.{length-map, get_or-map, get_or-take, length-take-le, get_or-drop}
+use Rattle.std.proofs.lemmas.Map.Keys.{IsDistinct-from_apart}
+use Rattle.std.proofs.lemmas.Map.Steps.{length-le_from_distinct_below}
+use Rattle.clause_pool.specs.Literal.{complement}
+use Rattle.clause_pool.specs.Clause.{has, AreBelow}
+use Rattle.clause_pool.proofs.LiteralLaws.{even_or_odd, complement-positive, complement-complement}
+use Rattle.clause_pool.proofs.ClauseLaws.{all_at}
+use Rattle.propagate.specs.Quiet.{Quiet, IsQuietFor}
+use Rattle.solver.specs.Answer.{IsNew}
+use Rattle.solver.specs.Search.{AllNew}
+use Rattle.solver.proofs.PoolLaws.{clause_below}
+
+-- the digit of a variable: 0 where the clause doesn't have it, else by its sign
+abbrev digit : List ℕ → ℕ → ℕ
+digit c v = cond (has c (2 * v)) 1 (cond (has c (2 * v + 1)) 2 0)
+
+-- the number of a clause over the variables below n
+abbrev number : List ℕ → ℕ → ℕ
+number c zero = 0
+number c (suc n) = digit c n + 3 * number c n
+
+digit_below : (c : List ℕ) (v : ℕ) → digit c v < 3
+digit_below c v = go (has c (2 * v)) (has c (2 * v + 1)) where
+  go : (p q : Bool) → cond p 1 (cond q 2 0) < 3
+  go true q = omega arith
+  go false true = omega arith
+  go false false = omega arith
+
+number_below : (c : List ℕ) (n : ℕ) → number c n < 3 ^ n
+number_below c zero = omega arith
+number_below c (suc n) = let d = digit_below c n in let m = number_below c n in rw pow-suc (omega (arith, d, m))
+
+digits_of : (c d : List ℕ) (n : ℕ) → number c n ≡ number d n → (v : ℕ) → v < n → digit c v ≡ digit d v
+digits_of c d zero e v low = absurd (omega (arith, low))
+digits_of c d (suc n) e v low =
+    let p = digit_below c n in
+    let q = digit_below d n in
+    elim (cases_eq v n) [
+      | inl same ↦ ap (digit c) same ∙ omega (arith, e, p, q) ∙ sym (ap (digit d) same)
+      | inr other ↦ digits_of c d n (omega (arith, e, p, q)) v (omega (arith, low, other))
+    ]
+
+-- a clause that doesn't have a literal and its complement
+abbrev HasNoPair : List ℕ → Type 0
+HasNoPair c = (v : ℕ) → has c (2 * v) ≡ true → has c (2 * v + 1) ≡ true → ⊥
+
+digit_tells : (p q r s : Bool) → (p ≡ true → q ≡ true → ⊥) → (r ≡ true → s ≡ true → ⊥) → ◌≡◌ {A = ℕ} (cond p 1 (cond q 2 0)) (cond r 1 (cond s 2 0)) → (p ≡ r) × (q ≡ s)
+digit_tells true true r s f g e = absurd (f refl refl)
+digit_tells p q true true f g e = absurd (g refl refl)
+digit_tells true false true false f g e = (refl, refl)
+digit_tells true false false true f g e = absurd (omega (arith, e))
+digit_tells true false false false f g e = absurd (omega (arith, e))
+digit_tells false true true false f g e = absurd (omega (arith, e))
+digit_tells false true false true f g e = (refl, refl)
+digit_tells false true false false f g e = absurd (omega (arith, e))
+digit_tells false false true false f g e = absurd (omega (arith, e))
+digit_tells false false false true f g e = absurd (omega (arith, e))
+digit_tells false false false false f g e = (refl, refl)
+
+same_literals : (c d : List ℕ) (n l : ℕ) → HasNoPair c → HasNoPair d → number c n ≡ number d n → l < 2 * n → has c l ≡ has d l
+same_literals c d n l f g e low =
+    let both = digit_tells (has c (2 * (l / 2))) (has c (2 * (l / 2) + 1)) (has d (2 * (l / 2))) (has d (2 * (l / 2) + 1)) (f (l / 2)) (g (l / 2)) (digits_of c d n e (l / 2) (omega (arith, low))) in
+    elim (even_or_odd l) [
+      | inl even ↦ let is : l ≡ 2 * (l / 2) = omega (arith, even) in ap (has c) is ∙ both.0 ∙ sym (ap (has d) is)
+      | inr odd ↦ let is : l ≡ 2 * (l / 2) + 1 = omega (arith, odd) in ap (has c) is ∙ both.1 ∙ sym (ap (has d) is)
+    ]
+
+no_pair : (clauses : List (List ℕ)) (g : ℕ) (c : List ℕ) → IsNew clauses g c → HasNoPair c
+no_pair clauses g c h v even odd =
+    let x : ℕ = h.open_literal in
+    let minus : complement (2 * v) ≡ 2 * v + 1 = complement-positive v in
+    let plus : complement (2 * v + 1) ≡ 2 * v = sym (ap complement minus) ∙ complement-complement (2 * v) in
+    elim (cases_eq (2 * v) h.open_literal) [
+      | inl e ↦ h.not_true (ap (has h.quiet_set) (sym e ∙ sym plus) ∙ h.others_false (2 * v + 1) odd (λ same. absurd (omega (arith, e, same))))
+      | inr other ↦ elim (cases_eq (2 * v + 1) h.open_literal) [
+        | inl e ↦ h.not_true (ap (has h.quiet_set) (sym e ∙ sym minus) ∙ h.others_false (2 * v) even other)
+        | inr ne ↦ h.quiet.consistent (2 * v) (ap (has h.quiet_set) (sym plus) ∙ h.others_false (2 * v + 1) odd ne) (h.others_false (2 * v) even other)
+      ]
+    ]
+
+-- no clause before has the same literals
+not_before : (clauses : List (List ℕ)) (g : ℕ) (c d : List ℕ) (h : IsNew clauses g c) → IsQuietFor h.quiet_set d → ((l : ℕ) → has c l ≡ has d l) → ⊥
+not_before clauses g c d h q same =
+    h.not_true (q.unit_true h.open_literal (sym (same h.open_literal) ∙ h.is_in) (λ l is_in other. h.others_false l (same l ∙ is_in) other))
+
+-- a literal past the bound is in no clause
+past_bound : (bound : ℕ) (clauses : List (List ℕ)) (k l : ℕ) → AreBelow bound clauses → bound ≤ l → has (get_or clauses k []) l ≡ false
+past_bound bound clauses k l all high = elim (cases_Bool (has (get_or clauses k []) l)) [
+  | inl is_in ↦ let low = clause_below bound clauses k l all is_in in absurd (omega (arith, low, high))
+  | inr none ↦ none
+]
+
+le_or_lt : (a b : ℕ) → (a ≤ b) ⊎ (b < a)
+le_or_lt a b = elim (cases_order a b) [
+  | inl e ↦ inl (omega (arith, e))
+  | inr o ↦ elim o [ inl less ↦ inl (omega (arith, less)) | inr more ↦ inr more ]
+]
+
+any_below : (f : List ℕ → ℕ) (bound q : ℕ) (cs : List (List ℕ)) → ((c : List ℕ) → f c < bound) → list_any (eqb q) (map f cs) ≡ true → q < bound
+any_below f bound q [] low found = absurd (false≢true found)
+any_below f bound q (c ∷ cs) low found = elim (or_cases (eqb q (f c)) (list_any (eqb q) (map f cs)) found) [
+  | inl first ↦ let l = low c in let e = eqb-true q (f c) first in omega (arith, l, e)
+  | inr later ↦ any_below f bound q cs low later
+]
+
+module _ (g first vars : ℕ) (clauses : List (List ℕ)) (fresh : AllNew g first clauses) (below : AreBelow (2 * vars) clauses) where
+  apart : (i j : ℕ) → i < j → first + j < length clauses → number (get_or clauses (first + i) []) vars ≡ number (get_or clauses (first + j) []) vars → ⊥
+  apart i j less within e =
+      let later = fresh (first + j) (omega arith) within in
+      let earlier = fresh (first + i) (omega arith) (omega (arith, less, within)) in
+      let front : get_or (take (first + j) clauses) (first + i) [] ≡ get_or clauses (first + i) [] = get_or-take (first + j) clauses (first + i) [] (omega (arith, less)) in
+      let quiet = all_at (IsQuietFor later.quiet_set) (take (first + j) clauses) [] (first + i) later.quiet.each (omega (arith, less, length-take-le (first + j) clauses (omega (arith, within)))) in
+      not_before (take (first + j) clauses) g (get_or clauses (first + j) []) (get_or clauses (first + i) []) later (subst (IsQuietFor later.quiet_set) front quiet)
+      (λ l. elim (le_or_lt (2 * vars) l) [
+        | inl high ↦ past_bound (2 * vars) clauses (first + j) l below high ∙ sym (past_bound (2 * vars) clauses (first + i) l below high)
+        | inr low ↦ same_literals (get_or clauses (first + j) []) (get_or clauses (first + i) []) vars l
+            (no_pair (take (first + j) clauses) g (get_or clauses (first + j) []) later) (no_pair (take (first + i) clauses) g (get_or clauses (first + i) []) earlier) (sym e) low
+      ])
+
+-- no more than 3 ^ vars clauses are new one after the other
+pub count_bound : (g first budget vars : ℕ) (clauses : List (List ℕ)) → AllNew g first clauses → AreBelow (2 * vars) clauses → length clauses ≡ first + budget → budget ≤ 3 ^ vars
+count_bound g first budget vars clauses fresh below count =
+    let f : List ℕ → ℕ = λ c. number c vars in
+    let len : length (map f (drop first clauses)) ≡ budget = length-map (drop first clauses) f ∙ length-drop first clauses ∙ omega (arith, count) in
+    let read : (i : ℕ) (d : ℕ) → i < budget → get_or (map f (drop first clauses)) i d ≡ number (get_or clauses (first + i) []) vars =
+    λ i d low. get_or-map f (drop first clauses) i [] d (omega (arith, low, count, length-drop first clauses)) ∙ ap f (get_or-drop first clauses i []) in
+    let distinct : IsDistinct eqb (map f (drop first clauses)) = IsDistinct-from_apart eqb (map f (drop first clauses)) (λ i j d less low.
+    let high : j < budget = omega (arith, low, len) in
+    ne_eqb (get_or (map f (drop first clauses)) i d) (get_or (map f (drop first clauses)) j d)
+    (λ e. apart g first vars clauses fresh below i j less (omega (arith, high, count)) (sym (read i d (omega (arith, less, high))) ∙ e ∙ read j d high))) in
+    let bound = length-le_from_distinct_below (map f (drop first clauses)) (3 ^ vars) distinct
+    (λ q found. any_below f (3 ^ vars) q (drop first clauses) (λ c. number_below c vars) found) in
+    omega (arith, bound, len)

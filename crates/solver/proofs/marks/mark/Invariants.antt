@@ -1,0 +1,6 @@
+use Rattle.std.proofs.Common.{◌≡◌, ◌⊎◌, ℕ, ◌+◌, ◌-◌, ◌*◌, ◌<◌, ◌≤◌, true, false, List, [], length, take, drop, get_or}
+use Rattle.solver.specs.Marks.{IsMarked}
+use Rattle.solver.proofs.marks.mark.Given as goal
+
+abbrev pub invariant-loop-lit : goal.invariant-loop-lit
+invariant-loop-lit l = IsMarked l.initial.marks.items l.marks.items (take l.lit-index l.lits)

@@ -1,0 +1,6 @@
+use Rattle.std.proofs.Common.{◌≡◌, ◌⊎◌, ℕ, ◌+◌, ◌-◌, ◌*◌, ◌<◌, ◌≤◌, true, false, List, [], length, take, drop, get_or}
+use Rattle.std.specs.BinaryHeap.{heap_len}
+use Rattle.solver.proofs.order.pick.Given as goal
+
+abbrev pub decreases-loop-var : goal.decreases-loop-var
+decreases-loop-var l = heap_len l.order.heap

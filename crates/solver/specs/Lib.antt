@@ -1,0 +1,5 @@
+pub mod Answer
+pub mod Solver
+pub mod Marks
+pub mod Search
+pub mod Ending

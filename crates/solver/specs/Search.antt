@@ -1,0 +1,94 @@
+-- What the search keeps.
+--     IsReady clauses t marks       all clauses are attached, and nothing is marked
+--     IsKept clauses t marks        the first of the clauses are attached; so it is also after want of memory
+--     IsSearch g t                  how the levels stand to the assumed literal g
+--     IsAsserting t c at            a clause has one literal of the current level, the others are false before
+--     IsJump t c u n                a clause forces its literal u at level n, and at no level before
+--     IsConflict t g at             a clause ends the search, or teaches something
+--     IsLearning t at               a clause is false, and wasn't before the current level
+--     IsFull t g                    every variable has a value
+--     AllNew g first clauses        all clauses from one place on are new over those before
+use Rattle.std.specs.Prelude.{◌≡◌, ◌⊎◌, ℕ, ◌+◌, ◌-◌, ◌*◌, ◌<◌, ◌≤◌, Bool, true, List, [], ◌∷◌, ◌++◌, None, length, take, slice_index, slice_index_or}
+use Rattle.clause_pool.specs.Literal.{complement}
+use Rattle.clause_pool.specs.Clause.{has, AreBelow}
+use Rattle.clause_pool.specs.Derivation.{Derivation}
+use Rattle.propagate.specs.Trail.{Trail, IsTrail, level, end_of, upto, IsFalse, OthersFalse, AllFalse}
+use Rattle.propagate.specs.Quiet.{Quiet}
+use Rattle.solver.specs.Answer.{IsNew}
+use Rattle.solver.specs.Marks.{marked, AreClear, start_of, false_at}
+
+pub record IsReady (clauses : List (List ℕ)) (t : Trail) (marks : List Bool) : Type 0 where
+  pub attached : t.clauses ≡ clauses
+  pub below : AreBelow (2 * t.vars) clauses
+  pub table : length marks ≡ 2 * t.vars
+  pub clear : AreClear marks
+
+pub record IsKept (clauses : List (List ℕ)) (t : Trail) (marks : List Bool) : Type 0 where
+  pub attached : t.clauses ≡ take (length t.clauses) clauses
+  pub below : AreBelow (2 * t.vars) clauses
+  pub table : length marks ≡ 2 * t.vars
+
+pub record IsSearch (g : ℕ) (t : Trail) : Type 0 where
+  pub quiet : (n : ℕ) → n < level t → Quiet t.clauses (upto t n)
+  pub assumed : (n : ℕ) → 0 < n → n ≤ level t → has (upto t n) g ≡ true
+  pub counted : (n : ℕ) → n ≤ level t → n ≤ end_of t n
+  pub opened : (k : ℕ) → k < end_of t 1 → slice_index_or t.reasons k None ≡ None → slice_index t.lits k ≡ g
+
+-- the clause was appended, and just its literals are marked
+pub record IsAppended (old new : Derivation) (marks : List Bool) : Type 0 where
+  pub clause : List ℕ
+  pub clauses : new.clauses ≡ old.clauses ++ clause ∷ []
+  pub same_number : new.given ≡ old.given
+  pub literals : (l : ℕ) → marked marks l ≡ has clause l
+
+-- all clauses but the last are attached
+pub record IsNext (clauses : List (List ℕ)) (t : Trail) : Type 0 where
+  pub one_more : length clauses ≡ length t.clauses + 1
+  pub attached : t.clauses ≡ take (length t.clauses) clauses
+
+abbrev pub next_of : List (List ℕ) → Trail → List ℕ
+next_of clauses t = slice_index_or clauses (length t.clauses) []
+
+pub record IsAsserting (t : Trail) (c : List ℕ) (at : ℕ) : Type 0 where
+  pub within : at < length t.lits
+  pub late : start_of t ≤ at
+  pub is_in : has c (false_at t.lits at) ≡ true
+  pub others_false : OthersFalse (take (start_of t) t.lits) c (false_at t.lits at)
+
+-- the clause that was learnt last: it is new, and asserts the literal against this place of the trail
+pub record IsLesson (old new : Derivation) (t : Trail) (at : ℕ) : Type 0 where
+  pub clause : List ℕ
+  pub clauses : new.clauses ≡ old.clauses ++ clause ∷ []
+  pub asserting : IsAsserting t clause at
+  pub is_new : (g : ℕ) → has (take (start_of t) t.lits) g ≡ true → IsNew old.clauses g clause
+
+pub record IsJump (t : Trail) (c : List ℕ) (u n : ℕ) : Type 0 where
+  pub below : n < level t
+  pub others_false : OthersFalse (upto t n) c u
+  pub first : 0 < n → (l : ℕ) × (has c l ≡ true) × (l ≡ u → ⊥) × (IsFalse (upto t (n - 1)) l → ⊥)
+
+-- a clause shows that the search is over, or where to go on: all its literals are false, or above level 1 all
+pub record IsConflict (t : Trail) (g at : ℕ) : Type 0 where
+  pub attached : at < length t.clauses
+  pub others_false : OthersFalse t.lits (slice_index_or t.clauses at []) (complement g)
+  pub all_false : 1 < level t → AllFalse t.lits (slice_index_or t.clauses at [])
+
+-- a clause is false, and wasn't before the current level
+pub record IsLearning (t : Trail) (at : ℕ) : Type 0 where
+  pub attached : at < length t.clauses
+  pub all_false : AllFalse t.lits (slice_index_or t.clauses at [])
+  pub quiet : Quiet t.clauses (take (start_of t) t.lits)
+
+-- every variable has a value, and no clause has anything to say
+pub record IsFull (t : Trail) (g : ℕ) : Type 0 where
+  pub quiet : Quiet t.clauses t.lits
+  pub assumed : has t.lits g ≡ true
+  pub total : (v : ℕ) → v < t.vars → (has t.lits (2 * v) ≡ true) ⊎ (has t.lits (2 * v + 1) ≡ true)
+
+-- how far a search without conflicts can still go
+abbrev pub left_of : Trail → ℕ
+left_of t = 2 * (t.vars - length t.lits) + (1 - level t)
+
+abbrev pub AllNew : ℕ → ℕ → List (List ℕ) → Type 0
+AllNew g first clauses =
+    (k : ℕ) → first ≤ k → k < length clauses → IsNew (take k clauses) g (slice_index_or clauses k [])

@@ -1,0 +1,36 @@
+-- What a solver is to its callers, and what it answers.
+--     Solving                    its kernel, the number of its variables, and how many of them are codes
+--     Extends old new            further clauses were derived, and nothing else changed
+--     IsRight k codes g budget answer
+--                                what an answer says of the clauses of a kernel
+use Rattle.std.specs.Prelude.{◌≡◌, ℕ, List, ◌++◌, Some, take, slice_get}
+use Rattle.clause_pool.specs.Derivation.{Derivation}
+use Rattle.solver.specs.Answer.{Begins, Refutes, IsSpent}
+use Rattle.solver.specs.declared.answer.Answer.{Answer}
+use Rattle.solver.specs.declared.answer.Answer.TheVariants.{Set, Closed, Spent}
+
+pub record Solving : Type 0 where
+  pub kernel : Derivation
+  pub vars : ℕ
+  pub codes : ℕ
+
+-- the clauses that the kernel was given
+abbrev pub given_of : Derivation → List (List ℕ)
+given_of k = take k.given k.clauses
+
+pub record Extends (old new : Derivation) : Type 0 where
+  pub same_number : new.given ≡ old.given
+  pub same_given : given_of new ≡ given_of old
+  pub more : List (List ℕ)
+  pub clauses : new.clauses ≡ old.clauses ++ more
+
+-- the kernel's clause at this place has no literal but the complement of the assumed one
+pub record ClosedBy (k : Derivation) (g at : ℕ) : Type 0 where
+  pub clause : List ℕ
+  pub there : slice_get k.clauses at ≡ Some clause
+  pub refutes : Refutes g clause
+
+abbrev pub IsRight : Derivation → ℕ → ℕ → ℕ → Answer → Type 0
+IsRight k codes g budget (Set x) = Begins (given_of k) g codes x
+IsRight k codes g budget (Closed at) = ClosedBy k g at
+IsRight k codes g budget (Spent learnt) = IsSpent (given_of k) g budget learnt.clauses

@@ -1,0 +1,141 @@
+//! What a conflict teaches: a clause with one literal of the current level.
+ghost use Rattle.std.specs.Prelude.{◌≡◌, ℕ, ◌+◌, ◌*◌, ◌-◌, ◌<◌, ◌≤◌, [], ◌∷◌, ◌++◌, length, take, slice_index, slice_index_or, IfOk, OnOk, OnErr, IfSome, IfNone, true};
+ghost use Rattle.clause_pool.specs.Literal.{complement};
+ghost use Rattle.clause_pool.specs.Clause.{has, KeepsBounds};
+ghost use Rattle.propagate.specs.Trail.{IsTrail, AllFalse, OthersFalse, level, upto};
+ghost use Rattle.propagate.specs.Quiet.{Quiet};
+ghost use Rattle.solver.specs.Answer.{IsNew, Refutes};
+ghost use Rattle.solver.specs.Marks.{marked, IsChain, IsTop, IsUip, NoneMarked, AreFalse, AreFalseBut, AreClear, false_at, start_of};
+ghost use Rattle.solver.specs.Search.{IsReady, IsKept, IsLearning, IsAppended, IsLesson};
+ghost use Rattle.solver.specs.Solver.{Extends};
+
+use crate::conflict::resolve_at;
+use crate::marks::{last_marked, unmark};
+use crate::minimize::minimize;
+use crate::order::Order;
+use crate::resolution::Resolution;
+use clause_pool::{Kernel, Lit, Pool, Ref};
+use pb_base::{Fail, Memory};
+use propagate::Engine;
+
+/// The latest marked place before `end`, where a marked place from `from` on is known.
+fn next_below(marks: &[bool], lits: &[Lit], from: usize, end: usize, known: usize) -> Option<usize>
+    requires known { IsTop lits.now marks.now from (known + 1) known }
+    requires within { known ≤ end }
+    requires end { end < length lits.now }
+    requires below { (k : ℕ) → k < length lits.now → false_at lits.now k < length marks.now }
+    ensures found { IfSome result (λ k. IsTop lits.now marks.now from (k + 1) k) }
+    ensures before { IfSome result (λ k. k < end) }
+    ensures none { IfNone result (NoneMarked lits.now marks.now from end) }
+{
+    if known < end {
+        return Some(known);
+    }
+    last_marked(marks, lits, from, end)
+}
+
+/// Resolves down the trail until one literal of the current level is left, and gives its complement's place.
+
+pub(crate) fn find_uip(
+    engine: &Engine,
+    pool: &Pool,
+    resolution: &mut Resolution,
+    order: &mut Order,
+) -> Result<usize, Memory>
+    requires attached { pool.now.clauses ≡ engine.now.clauses }
+    requires level { 0 < level engine.now }
+    requires chain { IsChain pool.now.clauses resolution.old }
+    requires table { length resolution.old.marks.items ≡ 2 * engine.now.vars }
+    requires all_false { AreFalse engine.now.lits resolution.old.marks.items }
+    requires not_before { AreFalse (take (start_of engine.now) engine.now.lits) resolution.old.marks.items
+        → ⊥ }
+    ensures chain { OnOk result (IsChain pool.now.clauses resolution.new) }
+    ensures uip { IfOk result (IsUip engine.now resolution.new.marks.items) }
+    ensures table { length resolution.new.marks.items ≡ 2 * engine.now.vars }
+{
+    let lits = engine.trail();
+    let start = engine.end_of(engine.level() - 1);
+    let Some(mut place) = last_marked(&resolution.marks, lits, start, lits.len()) else {
+        unreachable!();
+    };
+    let mut known = place;
+    while let Some(below) = next_below(&resolution.marks, lits, start, place, known) {
+        let Some(reason) = engine.reason_at(place) else {
+            unreachable!();
+        };
+        order.bump_all(pool.lits(reason));
+        resolve_at(engine, pool, resolution, place, reason)?;
+        let Some(next) = last_marked(&resolution.marks, lits, below, place) else {
+            unreachable!();
+        };
+        place = next;
+        known = below;
+    }
+    Ok(place)
+}
+
+/// Appends the resolvent of a chain to a kernel.
+pub(crate) fn append(kernel: &mut Kernel, resolution: &Resolution) -> Result<Ref, Memory>
+    requires chain { IsChain kernel.old.clauses resolution.now }
+    requires some { 0 < length resolution.now.pairs.items }
+    ensures place { IfOk result (λ at. at ≡ length kernel.old.clauses) }
+    ensures appended { OnOk result (IsAppended kernel.old kernel.new resolution.now.marks.items) }
+    ensures bounds { KeepsBounds kernel.old.clauses kernel.new.clauses }
+    ensures err { OnErr result (kernel.new ≡ kernel.old) }
+{
+    match kernel.resolve(resolution.start, &resolution.pairs) {
+        Ok(at) => Ok(at),
+        Err(Fail::Memory) => Err(Memory),
+        Err(Fail::Refused(_)) => unreachable!(),
+    }
+}
+
+/// Resolves a clause that is false down to one with a single literal of the current level, and gives the place of
+/// the trail that stands against it.
+fn resolve_conflict(
+    engine: &Engine,
+    pool: &Pool,
+    resolution: &mut Resolution,
+    order: &mut Order,
+    at: Ref,
+) -> Result<usize, Memory>
+    requires ready { IsReady pool.now.clauses engine.now resolution.old.marks.items }
+    requires level { 0 < level engine.now }
+    requires conflict { IsLearning engine.now at }
+    ensures chain { OnOk result (IsChain pool.now.clauses resolution.new) }
+    ensures uip { IfOk result (IsUip engine.now resolution.new.marks.items) }
+    ensures some { OnOk result (0 < length resolution.new.pairs.items) }
+    ensures trail { IsTrail engine.now }
+    ensures table { length resolution.new.marks.items ≡ 2 * engine.now.vars }
+{
+    engine.trail();
+    resolution.begin(pool, at);
+    order.bump_all(pool.lits(at));
+    let place = find_uip(engine, pool, resolution, order)?;
+    minimize(engine, pool, resolution, place)?;
+    Ok(place)
+}
+
+/// Learns a clause from one that is false, and gives the place of the trail at which it stands against it.
+pub(crate) fn learn(
+    kernel: &mut Kernel,
+    engine: &Engine,
+    resolution: &mut Resolution,
+    order: &mut Order,
+    at: Ref,
+) -> Result<usize, Memory>
+    requires ready { IsReady kernel.old.clauses engine.now resolution.old.marks.items }
+    requires level { 0 < level engine.now }
+    requires conflict { IsLearning engine.now at }
+    ensures extends { Extends kernel.old kernel.new }
+    ensures kept { IsKept kernel.new.clauses engine.now resolution.new.marks.items }
+    ensures learnt { IfOk result (IsLesson kernel.old kernel.new engine.now) }
+    ensures clear { OnOk result (AreClear resolution.new.marks.items) }
+{
+    kernel.given();
+    let place = resolve_conflict(engine, kernel.pool(), resolution, order, at)?;
+    let learnt = append(kernel, resolution)?;
+    unmark(&mut resolution.marks, kernel.pool().lits(learnt));
+    order.decay();
+    Ok(place)
+}

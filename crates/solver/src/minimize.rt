@@ -1,0 +1,76 @@
+//! A learnt clause is made shorter: literals go that the others make needless.
+ghost use Rattle.std.specs.Prelude.{◌≡◌, ℕ, ◌+◌, ◌*◌, ◌-◌, ◌<◌, ◌≤◌, length, take, slice_index_or, Some, None, OnOk, IfSome, true};
+ghost use Rattle.clause_pool.specs.Clause.{has};
+ghost use Rattle.propagate.specs.Trail.{level};
+ghost use Rattle.solver.specs.Marks.{marked, IsChain, IsUip, false_at};
+
+use crate::conflict::resolve_at;
+use crate::marks::is_marked;
+use crate::resolution::Resolution;
+use clause_pool::{Lit, Pool, Ref};
+use pb_base::Memory;
+use propagate::Engine;
+
+/// Whether each literal of a clause but this one is marked.
+#[tactic(auto, using(propagate::proofs::TakeLaws::item_in))]
+fn others_marked(marks: &[bool], lits: &[Lit], left_out: Lit) -> bool
+    requires { (l : ℕ) → has lits.now l ≡ true → l < length marks.now }
+{
+    for lit in lits {
+        if *lit != left_out && !marks[lit.code() as usize] {
+            return false;
+        }
+    }
+    true
+}
+
+/// The reason of the literal at a place of the trail, if by it the false literal is needless: at level 0, or where
+/// all others of the reason are marked.
+fn needless(engine: &Engine, pool: &Pool, marks: &[bool], place: usize, fixed: usize) -> Option<Ref>
+    requires attached { pool.now.clauses ≡ engine.now.clauses }
+    requires place { place < length engine.now.lits }
+    requires table { length marks.now ≡ 2 * engine.now.vars }
+    ensures { IfSome result (λ reason. slice_index_or engine.now.reasons place None ≡ Some reason) }
+{
+    let lit = engine.trail()[place];
+    let Some(reason) = engine.reason_at(place) else {
+        return None;
+    };
+    if place < fixed || others_marked(marks, pool.lits(reason), lit) {
+        return Some(reason);
+    }
+    None
+}
+
+/// Resolves needless literals of the levels before the current one away.
+#[tactic(auto, using(crate::proofs::MarkLaws::uip_resolved, crate::proofs::MarkLaws::false_below))]
+pub(crate) fn minimize(
+    engine: &Engine,
+    pool: &Pool,
+    resolution: &mut Resolution,
+    uip: usize,
+) -> Result<(), Memory>
+    requires attached { pool.now.clauses ≡ engine.now.clauses }
+    requires level { 0 < level engine.now }
+    requires chain { IsChain pool.now.clauses resolution.old }
+    requires table { length resolution.old.marks.items ≡ 2 * engine.now.vars }
+    requires uip { IsUip engine.now resolution.old.marks.items uip }
+    ensures chain { OnOk result (IsChain pool.now.clauses resolution.new) }
+    ensures uip { OnOk result (IsUip engine.now resolution.new.marks.items uip) }
+    ensures table { length resolution.new.marks.items ≡ 2 * engine.now.vars }
+{
+    let lits = engine.trail();
+    let fixed = engine.end_of(0);
+    let mut place = engine.end_of(engine.level() - 1);
+    while place > 0 {
+        place -= 1;
+        if !is_marked(&resolution.marks, lits, place) {
+            continue;
+        }
+        let Some(reason) = needless(engine, pool, &resolution.marks, place, fixed) else {
+            continue;
+        };
+        resolve_at(engine, pool, resolution, place, reason)?;
+    }
+    Ok(())
+}

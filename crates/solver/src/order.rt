@@ -1,0 +1,180 @@
+//! The order in which variables are decided, and the values that are tried first. No contract speaks of it.
+ghost use Rattle.std.specs.Prelude.{◌≡◌, ◌⊎◌, ℕ, ◌+◌, ◌*◌, ◌/◌, ◌<◌, IfSome, IfNone, OnSome, true, false};
+ghost use Rattle.std.specs.BinaryHeap.{heap_len};
+ghost use Rattle.clause_pool.specs.Literal.{complement};
+ghost use Rattle.clause_pool.specs.Clause.{has};
+
+use clause_pool::Lit;
+use pb_base::Memory;
+use propagate::Engine;
+use std::alloc::Global;
+use std::cmp::Reverse;
+use std::collections::BinaryHeap;
+
+/// The step by which activities grow is halved before it reaches this.
+const STEP_LIMIT: u64 = 1 << 48;
+
+/// What a variable has in the order.
+#[derive(Clone, Copy)]
+struct Standing {
+    activity: u64,
+    /// The activity of its entry in the heap, if it has one that counts.
+    entered: Option<u64>,
+    phase: bool,
+}
+
+/// The variables by activity, those that were in conflicts lately first, and of equals the lower one. Each has the
+/// value that it had last.
+#[derive(Drop)]
+pub(crate) struct Order {
+    standings: Vec<Standing>,
+    // An entry counts if its variable's standing names it.
+    heap: BinaryHeap<(u64, Reverse<u32>), Global>,
+    step: u64,
+    vars: u32,
+}
+
+impl Order {
+    /// All variables, the lowest first, with the value false.
+    pub(crate) fn new(alloc: Global, vars: u32) -> Result<Order, Memory> {
+        let standing = Standing {
+            activity: 0,
+            entered: None,
+            phase: false,
+        };
+        let mut order = Order {
+            standings: vec![in alloc; standing; vars as usize]?,
+            heap: BinaryHeap::with_capacity(alloc, vars as usize)?,
+            step: 1 << 10,
+            vars,
+        };
+        for var in 0..vars {
+            order.enter(var);
+        }
+        Ok(order)
+    }
+
+    /// Puts a variable into the heap with its activity. Where there is no room, it is found without.
+    fn enter(&mut self, var: u32) {
+        let Some(standing) = self.standings.get_mut(var as usize) else {
+            return;
+        };
+        if standing.entered == Some(standing.activity) {
+            return;
+        }
+        if self.heap.push((standing.activity, Reverse(var))).is_ok() {
+            standing.entered = Some(standing.activity);
+        }
+    }
+
+    /// The variables of a clause were in a conflict. They have a value, so they aren't in the heap.
+    pub(crate) fn bump_all(&mut self, lits: &[Lit]) {
+        for lit in lits {
+            if let Some(standing) = self.standings.get_mut(lit.var() as usize) {
+                standing.activity = standing.activity.saturating_add(self.step);
+            }
+        }
+    }
+
+    /// A conflict is over: those to come count more.
+    pub(crate) fn decay(&mut self) {
+        self.step = self.step.saturating_add(self.step / 16);
+        if self.step < STEP_LIMIT {
+            return;
+        }
+        self.step >>= 32;
+        for standing in self.standings.iter_mut() {
+            standing.activity >>= 32;
+        }
+        self.enter_all();
+    }
+
+    /// Puts all variables into the heap anew.
+    fn enter_all(&mut self) {
+        self.heap.clear();
+        for standing in self.standings.iter_mut() {
+            standing.entered = None;
+        }
+        for var in 0..self.vars {
+            self.enter(var);
+        }
+    }
+
+    /// The literals of the trail from this place on are taken back: each variable keeps its value to try it again.
+    pub(crate) fn put_back(&mut self, lits: &[Lit], from: usize) {
+        for lit in lits.iter().skip(from) {
+            if let Some(standing) = self.standings.get_mut(lit.var() as usize) {
+                standing.phase = lit.positive();
+            }
+            self.enter(lit.var());
+        }
+    }
+
+    /// The variable of this literal is to be decided before the others, with this value.
+    pub(crate) fn prefer(&mut self, lit: Lit) {
+        if let Some(standing) = self.standings.get_mut(lit.var() as usize) {
+            standing.phase = lit.positive();
+            standing.activity = standing.activity.saturating_add(self.step);
+        }
+        self.enter(lit.var());
+    }
+
+    /// Takes the first variable from the heap.
+    fn pop(&mut self) -> Option<u32>
+        ensures { OnSome result (heap_len self.new.heap < heap_len self.old.heap) }
+    {
+        while let Some((activity, Reverse(var))) = self.heap.pop() {
+            if let Some(standing) = self.standings.get_mut(var as usize)
+                && standing.entered == Some(activity)
+            {
+                standing.entered = None;
+                return Some(var);
+            }
+        }
+        None
+    }
+
+    /// The literal of a variable with the value to try.
+    fn literal(&self, var: u32) -> Lit
+        ensures { result / 2 ≡ var }
+    {
+        match self.standings.get(var as usize) {
+            Some(standing) => Lit::new(var, standing.phase),
+            None => Lit::new(var, false),
+        }
+    }
+}
+
+/// The next variable to decide with the value to try, or none where each has a value.
+pub(crate) fn pick(order: &mut Order, engine: &Engine) -> Option<Lit>
+    ensures below { IfSome result (λ l. l < 2 * engine.now.vars) }
+    ensures not_true { IfSome result (λ l. has engine.now.lits l ≡ false) }
+    ensures not_false { IfSome result (λ l. has engine.now.lits (complement l) ≡ false) }
+    ensures none { IfNone result ((v : ℕ) → v < engine.now.vars
+        → (has engine.now.lits (2 * v) ≡ true) ⊎ (has engine.now.lits (2 * v + 1) ≡ true)) }
+{
+    while let Some(var) = order.pop() {
+        let lit = order.literal(var);
+        if var < engine.vars() && engine.value(lit).is_none() {
+            return Some(lit);
+        }
+    }
+    first_open(engine)
+}
+
+/// The lowest variable without a value, as its negative literal.
+fn first_open(engine: &Engine) -> Option<Lit>
+    ensures below { IfSome result (λ l. l < 2 * engine.now.vars) }
+    ensures not_true { IfSome result (λ l. has engine.now.lits l ≡ false) }
+    ensures not_false { IfSome result (λ l. has engine.now.lits (complement l) ≡ false) }
+    ensures none { IfNone result ((v : ℕ) → v < engine.now.vars
+        → (has engine.now.lits (2 * v) ≡ true) ⊎ (has engine.now.lits (2 * v + 1) ≡ true)) }
+{
+    for var in 0..engine.vars() {
+        let lit = Lit::new(var, false);
+        if engine.value(lit).is_none() {
+            return Some(lit);
+        }
+    }
+    None
+}

@@ -1,0 +1,151 @@
+//! The search for an answer to one question.
+ghost use Rattle.std.specs.Prelude.{◌≡◌, ℕ, ◌+◌, ◌*◌, ◌<◌, ◌≤◌, [], length, take, slice_index_or, IfOk, OnOk, Ok, true};
+ghost use Rattle.clause_pool.specs.Literal.{complement};
+ghost use Rattle.clause_pool.specs.Clause.{has, KeepsBounds};
+ghost use Rattle.propagate.specs.Trail.{level, OthersFalse};
+ghost use Rattle.solver.specs.Answer.{IsNew};
+ghost use Rattle.solver.specs.Marks.{marked, IsChain, AreFalseBut, false_at};
+ghost use Rattle.solver.specs.Search.{IsReady, IsKept, IsSearch, IsConflict, IsLearning, IsFull, AllNew};
+ghost use Rattle.solver.specs.Solver.{Extends, ClosedBy};
+
+use crate::conflict::resolve_at;
+use crate::descend::descend;
+use crate::jump::jump;
+use crate::learn::{append, learn};
+use crate::marks::is_marked;
+use crate::order::Order;
+use crate::resolution::Resolution;
+use clause_pool::{Kernel, Lit, Pool, Ref};
+use pb_base::Memory;
+use propagate::Engine;
+
+/// How a search ends.
+pub(crate) enum Ending {
+    /// Every variable has a value, and no clause is false.
+    Full,
+    /// The clause at this place has no literal but the complement of the assumption.
+    Closed(Ref),
+    /// So many clauses were learnt as were allowed.
+    Spent,
+}
+
+/// Resolves all literals that have a reason away.
+#[tactic(auto, using(crate::proofs::MarkLaws::false_below))]
+fn resolve_all(
+    engine: &Engine,
+    pool: &Pool,
+    resolution: &mut Resolution,
+    g: Lit,
+) -> Result<(), Memory>
+    requires attached { pool.now.clauses ≡ engine.now.clauses }
+    requires level { level engine.now ≤ 1 }
+    requires search { IsSearch g engine.now }
+    requires chain { IsChain pool.now.clauses resolution.old }
+    requires table { length resolution.old.marks.items ≡ 2 * engine.now.vars }
+    requires others_false { AreFalseBut engine.now.lits resolution.old.marks.items (complement g) }
+    ensures chain { OnOk result (IsChain pool.now.clauses resolution.new) }
+    ensures none { OnOk result (AreFalseBut [] resolution.new.marks.items (complement g)) }
+    ensures table { length resolution.new.marks.items ≡ 2 * engine.now.vars }
+{
+    let lits = engine.trail();
+    let mut place = lits.len();
+    while place > 0 {
+        place -= 1;
+        if !is_marked(&resolution.marks, lits, place) {
+            continue;
+        }
+        let Some(reason) = engine.reason_at(place) else {
+            continue;
+        };
+        resolve_at(engine, pool, resolution, place, reason)?;
+    }
+    Ok(())
+}
+
+/// Derives from a conflict that the assumption alone leads to a clause that refutes it.
+fn close(
+    kernel: &mut Kernel,
+    engine: &Engine,
+    resolution: &mut Resolution,
+    g: Lit,
+    at: Ref,
+) -> Result<Ref, Memory>
+    requires ready { IsReady kernel.old.clauses engine.now resolution.old.marks.items }
+    requires level { level engine.now ≤ 1 }
+    requires search { IsSearch g engine.now }
+    requires conflict { IsConflict engine.now g at }
+    ensures extends { Extends kernel.old kernel.new }
+    ensures kept { IsKept kernel.new.clauses engine.now resolution.new.marks.items }
+    ensures closed { IfOk result (ClosedBy kernel.new g) }
+{
+    kernel.given();
+    engine.trail();
+    resolution.begin(kernel.pool(), at);
+    resolve_all(engine, kernel.pool(), resolution, g)?;
+    if resolution.pairs.is_empty() {
+        return Ok(resolution.start);
+    }
+    let closed = append(kernel, resolution)?;
+    Ok(closed)
+}
+
+/// Learns a clause from a conflict, and goes back to where it forces its literal.
+fn go_on(
+    kernel: &mut Kernel,
+    engine: &mut Engine,
+    resolution: &mut Resolution,
+    order: &mut Order,
+    at: Ref,
+) -> Result<(), Memory>
+    requires ready { IsReady kernel.old.clauses engine.old resolution.old.marks.items }
+    requires level { 1 < level engine.old }
+    requires conflict { IsLearning engine.old at }
+    ensures extends { Extends kernel.old kernel.new }
+    ensures kept { IsKept kernel.new.clauses engine.new resolution.new.marks.items }
+    ensures vars { engine.new.vars ≡ engine.old.vars }
+    ensures ready { OnOk result (IsReady kernel.new.clauses engine.new resolution.new.marks.items) }
+    ensures one_more { OnOk result (length kernel.new.clauses ≡ length kernel.old.clauses + 1) }
+    ensures fresh { OnOk result ((g : ℕ) → IsSearch g engine.old
+        → IsNew kernel.old.clauses g (slice_index_or kernel.new.clauses (length kernel.old.clauses) [])) }
+    ensures search { OnOk result ((g : ℕ) → IsSearch g engine.old → IsSearch g engine.new) }
+{
+    let place = learn(kernel, engine, resolution, order, at)?;
+    jump(engine, kernel.pool(), order, place)?;
+    Ok(())
+}
+
+/// Searches until the question is answered or so many clauses are learnt as the budget allows.
+pub(crate) fn run(
+    kernel: &mut Kernel,
+    engine: &mut Engine,
+    resolution: &mut Resolution,
+    order: &mut Order,
+    g: Lit,
+    budget: u32,
+) -> Result<Ending, Memory>
+    requires ready { IsReady kernel.old.clauses engine.old resolution.old.marks.items }
+    requires search { IsSearch g engine.old }
+    requires below { g < 2 * engine.old.vars }
+    ensures extends { Extends kernel.old kernel.new }
+    ensures kept { IsKept kernel.new.clauses engine.new resolution.new.marks.items }
+    ensures vars { engine.new.vars ≡ engine.old.vars }
+    ensures closed { (at : ℕ) → result ≡ Ok (Ending.Closed at) → ClosedBy kernel.new g at }
+    ensures full { result ≡ Ok Ending.Full → (engine.new.clauses ≡ kernel.new.clauses) × IsFull engine.new g }
+    ensures count { result ≡ Ok Ending.Spent
+        → length kernel.new.clauses ≡ length kernel.old.clauses + budget }
+    ensures fresh { result ≡ Ok Ending.Spent → AllNew g (length kernel.old.clauses) kernel.new.clauses }
+{
+    let mut learnt = 0;
+    while learnt < budget {
+        let Some(at) = descend(engine, kernel.pool(), order, g)? else {
+            return Ok(Ending::Full);
+        };
+        if engine.level() <= 1 {
+            let closed = close(kernel, engine, resolution, g, at)?;
+            return Ok(Ending::Closed(closed));
+        }
+        go_on(kernel, engine, resolution, order, at)?;
+        learnt += 1;
+    }
+    Ok(Ending::Spent)
+}

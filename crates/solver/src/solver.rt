@@ -1,0 +1,243 @@
+//! A solver: many questions over the same given clauses.
+ghost use Rattle.std.specs.Prelude.{◌≡◌, ℕ, List, ◌+◌, ◌*◌, ◌^◌, ◌<◌, ◌≤◌, [], ◌∷◌, length, take, drop, slice_index_or, IfOk, OnOk, Ok, true};
+ghost use Rattle.clause_pool.specs.Clause.{has, AreBelow};
+ghost use Rattle.clause_pool.specs.PoolContents.{PoolContents};
+ghost use Rattle.pb_base.specs.Sets.{has as has_code};
+ghost use Rattle.propagate.specs.Trail.{IsTrail, level};
+ghost use Rattle.propagate.specs.Quiet.{Quiet};
+ghost use Rattle.solver.specs.Answer.{Begins, IsSpent};
+ghost use Rattle.solver.specs.Search.{IsReady, IsSearch, IsKept, IsFull, AllNew};
+ghost use Rattle.solver.specs.Solver.{Extends, IsRight, given_of};
+
+use crate::answer::Answer;
+use crate::marks::clear;
+use crate::order::Order;
+use crate::resolution::Resolution;
+use crate::run::{Ending, run};
+use clause_pool::{Kernel, Lit, Pool, Ref};
+use pb_base::{CodeSet, Memory};
+use propagate::Engine;
+use std::alloc::Global;
+use std::marker::Model;
+
+/// Answers questions over the given clauses of a kernel, and keeps in it what it learns. Contracts see the kernel,
+/// the number of variables, and how many of them, from the first on, are codes.
+#[derive(Drop)]
+pub struct Solver {
+    alloc: Global,
+    kernel: Kernel,
+    engine: Engine,
+    resolution: Resolution,
+    order: Order,
+    codes: u32,
+}
+
+impl Model for Solver {
+    ghost use Rattle.std.specs.Prelude.{◌≤◌};
+    ghost use Rattle.solver.specs.Solver.{Solving};
+    ghost use Rattle.solver.specs.Search.{IsKept};
+
+    ghost Value = { Solving };
+
+    ghost view = { λ s. record { kernel = s.kernel; vars = s.engine.vars; codes = s.codes } };
+
+    ghost invariant = { λ s. IsKept s.kernel.clauses s.engine s.resolution.marks.items
+        × (s.codes ≤ s.engine.vars) };
+}
+
+impl Solver {
+    /// A solver over the clauses of a kernel, whose variables are below `vars`; the first of them are codes. On want
+    /// of memory the kernel is gone.
+    pub fn new(alloc: Global, kernel: Kernel, vars: u32, codes: u32) -> Result<Solver, Memory>
+        requires below { AreBelow (2 * vars) kernel.clauses }
+        requires codes { codes ≤ vars }
+        ensures { IfOk result (λ s. s ≡ record { kernel = kernel; vars = vars; codes = codes }) }
+    {
+        Ok(Solver {
+            alloc,
+            kernel,
+            engine: Engine::new(alloc, vars)?,
+            resolution: Resolution::new(alloc, vars as usize + vars as usize)?,
+            order: Order::new(alloc, vars)?,
+            codes,
+        })
+    }
+
+    /// The kernel, with all that was learnt.
+    pub fn kernel(&self) -> &Kernel
+        ensures { result.now ≡ self.now.kernel }
+    {
+        &self.kernel
+    }
+
+    /// Gives the kernel back.
+    pub fn into_kernel(self) -> Kernel
+        ensures { result ≡ self.kernel }
+    {
+        self.kernel
+    }
+
+    /// A hint: the variable of this literal is decided before others, and this value of it is tried first. No
+    /// answer becomes wrong by it.
+    pub fn prefer(&mut self, lit: Lit)
+        ensures { self.new ≡ self.old }
+    {
+        self.order.prefer(lit);
+    }
+
+    /// Looks for a set of codes that begins an assignment which satisfies the given clauses with this literal true,
+    /// and learns up to so many clauses. After want of memory the same question and others may be asked again.
+    pub fn solve(&mut self, assume: Lit, budget: u32) -> Result<Answer, Memory>
+        requires below { assume < 2 * self.old.vars }
+        requires some { 0 < budget }
+        requires budget { budget ≤ 50000 }
+        ensures extends { Extends self.old.kernel self.new.kernel }
+        ensures vars { self.new.vars ≡ self.old.vars }
+        ensures codes { self.new.codes ≡ self.old.codes }
+        ensures answer { IfOk result (IsRight self.new.kernel self.new.codes assume budget) }
+        ensures spent_within { (learnt : PoolContents) → result ≡ Ok (Answer.Spent learnt)
+            → budget ≤ 3 ^ self.old.vars }
+        ensures spent_over_quiet { (learnt : PoolContents) → result ≡ Ok (Answer.Spent learnt)
+            → (lits : List ℕ) × Quiet (given_of self.old.kernel) lits × (has lits assume ≡ true) }
+    {
+        let first = self.kernel.pool().len();
+        prepare(
+            &self.kernel,
+            &mut self.engine,
+            &mut self.resolution,
+            &mut self.order,
+        )?;
+        let ending = run(
+            &mut self.kernel,
+            &mut self.engine,
+            &mut self.resolution,
+            &mut self.order,
+            assume,
+            budget,
+        )?;
+        match ending {
+            Ending::Full => {
+                let set = found_set(self.alloc, &self.kernel, &self.engine, self.codes, assume)?;
+                Ok(Answer::Set(set))
+            }
+            Ending::Closed(at) => Ok(Answer::Closed(at)),
+            Ending::Spent => {
+                let learnt = learnt_from(self.alloc, &self.kernel, first, assume, budget)?;
+                Ok(Answer::Spent(learnt))
+            }
+        }
+    }
+}
+
+/// Takes all levels back, attaches what is not attached yet, and takes the marks away.
+fn prepare(
+    kernel: &Kernel,
+    engine: &mut Engine,
+    resolution: &mut Resolution,
+    order: &mut Order,
+) -> Result<(), Memory>
+    requires kept { IsKept kernel.now.clauses engine.old resolution.old.marks.items }
+    ensures kept { IsKept kernel.now.clauses engine.new resolution.new.marks.items }
+    ensures vars { engine.new.vars ≡ engine.old.vars }
+    ensures ready { OnOk result (IsReady kernel.now.clauses engine.new resolution.new.marks.items) }
+    ensures search { OnOk result ((g : ℕ) → IsSearch g engine.new) }
+{
+    order.put_back(engine.trail(), engine.end_of(0));
+    engine.back_to(0);
+    clear(&mut resolution.marks);
+    attach_rest(engine, kernel.pool())?;
+    Ok(())
+}
+
+/// Attaches the clauses of a pool that are not attached yet.
+fn attach_rest(engine: &mut Engine, pool: &Pool) -> Result<(), Memory>
+    requires level { level engine.old ≡ 0 }
+    requires attached { engine.old.clauses ≡ take (length engine.old.clauses) pool.now.clauses }
+    requires below { AreBelow (2 * engine.old.vars) pool.now.clauses }
+    ensures level { level engine.new ≡ 0 }
+    ensures attached { engine.new.clauses ≡ take (length engine.new.clauses) pool.now.clauses }
+    ensures vars { engine.new.vars ≡ engine.old.vars }
+    ensures all { OnOk result (engine.new.clauses ≡ pool.now.clauses) }
+    ensures trail { OnOk result (IsTrail engine.new) }
+{
+    while engine.clauses() < pool.len() {
+        let at = engine.clauses();
+        engine.attach(pool, at)?;
+    }
+    engine.trail();
+    Ok(())
+}
+
+/// Whether a code is true.
+fn is_true(engine: &Engine, code: u32) -> bool
+    requires { code < engine.now.vars }
+    ensures { result ≡ has engine.now.lits (2 * code) }
+{
+    engine.value(Lit::new(code, true)) == Some(true)
+}
+
+/// The codes that are true.
+fn true_codes(alloc: Global, engine: &Engine, codes: u32) -> Result<CodeSet, Memory>
+    requires { codes ≤ engine.now.vars }
+    ensures counted { IfOk result (λ x. length x ≡ codes) }
+    ensures codes { IfOk result (λ x. (i : ℕ) → i < codes → has_code x i ≡ has engine.now.lits (2 * i)) }
+{
+    let mut set = CodeSet::none(alloc, codes)?;
+    for code in 0..codes {
+        if !is_true(engine, code) {
+            continue;
+        }
+        set.with(code);
+    }
+    Ok(set)
+}
+
+/// The set that a search ended with.
+fn found_set(
+    alloc: Global,
+    kernel: &Kernel,
+    engine: &Engine,
+    codes: u32,
+    g: Lit,
+) -> Result<CodeSet, Memory>
+    requires codes { codes ≤ engine.now.vars }
+    requires attached { engine.now.clauses ≡ kernel.now.clauses }
+    requires below { AreBelow (2 * engine.now.vars) kernel.now.clauses }
+    requires full { IsFull engine.now g }
+    requires literal { g < 2 * engine.now.vars }
+    ensures { IfOk result (Begins (given_of kernel.now) g codes) }
+{
+    engine.trail();
+    let set = true_codes(alloc, engine, codes)?;
+    Ok(set)
+}
+
+/// The clauses of a pool from one place on, as a pool of their own.
+fn clauses_from(alloc: Global, pool: &Pool, first: Ref) -> Result<Pool, Memory>
+    requires { first ≤ length pool.now.clauses }
+    ensures { IfOk result (λ learnt. learnt.clauses ≡ drop first pool.now.clauses) }
+{
+    let mut learnt = Pool::new(alloc);
+    for at in first..pool.len() {
+        learnt.add(pool.lits(at))?;
+    }
+    Ok(learnt)
+}
+
+/// The clauses that a search learnt, which are those from one place on.
+fn learnt_from(
+    alloc: Global,
+    kernel: &Kernel,
+    first: Ref,
+    g: Lit,
+    budget: u32,
+) -> Result<Pool, Memory>
+    requires given { kernel.now.given ≤ first }
+    requires count { length kernel.now.clauses ≡ first + budget }
+    requires fresh { AllNew g first kernel.now.clauses }
+    ensures { IfOk result (λ learnt. IsSpent (given_of kernel.now) g budget learnt.clauses) }
+{
+    let pool = kernel.pool();
+    let learnt = clauses_from(alloc, pool, first)?;
+    Ok(learnt)
+}

@@ -1,0 +1,109 @@
+//! The questions of a small book, and pigeons in too few holes.
+ghost use Rattle.std.specs.Prelude.{◌≡◌, ◌<◌, IfOk, IfSome};
+ghost use Rattle.clause_pool.specs.Clause.{AreBelow};
+
+use crate::{Answer, Solver};
+use clause_pool::{Kernel, Lit, Pool};
+use std::alloc::Global;
+use std::test::Fail;
+
+/// The variable of a digit, or of a letter from `a` for 10 on.
+fn var_of(byte: u8) -> Option<u32>
+    ensures { IfSome result (λ var. var < 36) }
+{
+    match byte {
+        b'0'..=b'9' => Some(u32::from(byte - b'0')),
+        b'a'..=b'z' => Some(u32::from(byte - b'a') + 10),
+        _ => None,
+    }
+}
+
+/// The clauses of a text: literals as a sign and a variable, and a `;` behind each clause.
+fn clauses_of(alloc: Global, text: &[u8]) -> Result<Pool, Fail>
+    ensures { IfOk result (λ pool. AreBelow 72 pool.clauses) }
+{
+    let mut pool = Pool::new(alloc);
+    let mut clause = Vec::new(alloc);
+    let mut positive = true;
+    for byte in text {
+        if *byte == b';' {
+            pool.add(&clause)?;
+            clause.clear();
+            continue;
+        }
+        let Some(var) = var_of(*byte) else {
+            positive = *byte == b'+';
+            continue;
+        };
+        clause.push(Lit::new(var, positive))?;
+    }
+    Ok(pool)
+}
+
+/// A solver of 36 variables, of which five are codes.
+fn solver_of(alloc: Global, text: &[u8]) -> Result<Solver, Fail>
+    ensures { IfOk result (λ solver. solver.vars ≡ 36) }
+{
+    let kernel = Kernel::of(alloc, clauses_of(alloc, text)?);
+    Ok(Solver::new(alloc, kernel, 36, 5)?)
+}
+
+/// Whether the answer is a clause without a literal but this one.
+fn closes(solver: &Solver, answer: &Answer, left: Lit) -> bool {
+    let Answer::Closed(at) = answer else {
+        return false;
+    };
+    let pool = solver.kernel().pool();
+    if *at >= pool.len() {
+        return false;
+    }
+    pool.lits(*at).iter().all(|lit| *lit == left)
+}
+
+/// Whether the answer is one learnt clause, of at least two literals.
+fn is_one_clause(answer: &Answer) -> bool {
+    let Answer::Spent(learnt) = answer else {
+        return false;
+    };
+    learnt.len() == 1 && learnt.lits(0).len() >= 2
+}
+
+/// Whether the answer is a set with just one of the first two codes, and just one of the next two.
+fn is_good(answer: &Answer) -> bool {
+    let Answer::Set(set) = answer else {
+        return false;
+    };
+    set.len() == 5 && set.has(0) != set.has(1) && set.has(2) != set.has(3)
+}
+
+const BOOK: &[u8] =
+    b"+5;+0-6;-3-6;-0+3+6;+2-6;+0+1-7;-0+7;-1+7;+7;-0-1;+2+3-8;-2+8;-3+8;+8;-2-3;+0-9;+1-9;-0-1+9;-0-a;-1-a;+0+1+a;";
+
+#[test]
+fn questions_of_a_book(rt: HostRuntime) -> Result<(), Fail> {
+    let mut solver = solver_of(rt.alloc(), BOOK)?;
+    let ambiguous = solver.solve(Lit::new(9, true), 1)?;
+    assert!(rt; closes(&solver, &ambiguous, Lit::new(9, false)));
+    let uncovered = solver.solve(Lit::new(10, true), 1)?;
+    assert!(rt; closes(&solver, &uncovered, Lit::new(10, false)));
+    let void = solver.solve(Lit::new(5, true), 50_000)?;
+    assert!(rt; is_good(&void));
+    Ok(())
+}
+
+/// Four pigeons in three holes; `c` is true.
+const PIGEONS: &[u8] =
+    b"+c;+0+1+2;+3+4+5;+6+7+8;+9+a+b;-0-3;-0-6;-0-9;-3-6;-3-9;-6-9;-1-4;-1-7;-1-a;-4-7;-4-a;-7-a;-2-5;-2-8;-2-b;-5-8;-5-b;-8-b;";
+
+#[test]
+fn pigeons_in_too_few_holes(rt: HostRuntime) -> Result<(), Fail> {
+    let mut solver = solver_of(rt.alloc(), PIGEONS)?;
+    let assume = Lit::new(12, true);
+    let first = solver.solve(assume, 1)?;
+    assert!(rt; is_one_clause(&first));
+    let second = solver.solve(assume, 50_000)?;
+    assert!(rt; closes(&solver, &second, Lit::new(12, false)));
+    let third = solver.solve(assume, 1)?;
+    assert!(rt; closes(&solver, &third, Lit::new(12, false)));
+    Ok(())
+}
