@@ -1,0 +1,10 @@
+mod BlockEnds
+mod FrontLaws
+mod NamedFields
+mod Numbers
+mod LineCounts
+mod StreamEnds
+mod StreamSteps
+mod Bodies
+mod OneReading
+mod WorkedRows
