@@ -1,13 +1,11 @@
 -- A body is the next bytes of the stream.
-use Rattle.std.proofs.Common.{◌≡◌, ◌<◌, ◌≤◌, ◌+◌, ◌∙◌, ℕ, List, [], ◌∷◌, ◌++◌, length, take, drop, refl, sym, ap, subst, arith, append-nil, length-append, length-drop, length-take, ⊎_elim}
-use Rattle.std.specs.Prelude.{◌⊎◌, Option, Some, None, IfSome, IsSomeAnd}
+use Rattle.std.proofs.Common.{◌≡◌, ◌<◌, ◌≤◌, ◌∙◌, ℕ, List, [], ◌++◌, length, take, drop, refl, sym, ap, arith, length-append, length-take, ⊎_elim}
+use Rattle.std.specs.Prelude.{Option, Some, None, IfSome}
 use Rattle.std.proofs.lemmas.Bool.{cases_lt}
 use Rattle.std.proofs.lemmas.List.{take-append-le, drop-append-le, take_at, drop_at, take_all, drop_all, length-take-le}
 use Rattle.http_wire.specs.declared.head.Head.{Head}
-use Rattle.http_wire.specs.declared.message.Message.{Message as Whole}
-use Rattle.http_wire.specs.declared.message.BodyStep.{BodyStep}
 use Rattle.http_wire.specs.declared.message.BodyStep.TheVariants.{Message, Cut}
-use Rattle.http_wire.specs.Items.{HasBody, ReadsBody}
+use Rattle.http_wire.specs.Items.{ReadsBody}
 use Rattle.http_wire.specs.Stream.{StreamStep, SameStream}
 
 -- the body and the rest are the two parts of the stream

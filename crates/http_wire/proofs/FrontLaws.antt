@@ -1,15 +1,13 @@
 -- What stands at the front of a stream, as more of it is read.
-use Rattle.std.proofs.Common.{◌≡◌, ◌≢◌, ◌<◌, ◌≤◌, ◌+◌, ◌-◌, ◌∙◌, ◌==◌, ◌&&◌, ℕ, zero, suc, Bool, true, false, cond, eqb, leb, List, [], ◌∷◌, ◌++◌, length, take, drop, refl, sym, ap, subst, arith, length-append, length-drop, length-take}
-use Rattle.std.specs.Prelude.{Option, Some, None, min}
-use Rattle.std.specs.List.{prefix_len}
+use Rattle.std.proofs.Common.{◌≡◌, ◌≢◌, ◌<◌, ◌≤◌, ◌+◌, ◌-◌, ◌∙◌, ◌&&◌, ℕ, suc, Bool, true, false, cond, eqb, leb, List, [], ◌∷◌, ◌++◌, length, take, drop, refl, sym, ap, arith, length-append, length-drop, length-take}
+use Rattle.std.specs.Prelude.{Option, Some, None}
 use Rattle.std.specs.Option.{option_or, option_map}
-use Rattle.std.proofs.lemmas.Bool.{eq-eqb, ne_eqb, le-leb, lt-leb, eqb-true}
-use Rattle.std.proofs.lemmas.List.{take-append-drop, take-append-le, drop-append-le, take_at, take_all, drop_all, append-nil, drop-take}
+use Rattle.std.proofs.lemmas.Bool.{eq-eqb, ne_eqb, le-leb, lt-leb}
+use Rattle.std.proofs.lemmas.List.{take-append-drop, drop-append-le, take_at, take_all, drop-take}
 use Rattle.std.proofs.lemmas.List.Folds.{prefix_len-append}
 use Rattle.std.proofs.Math.Seq.{take-append-add}
-use Rattle.http_wire.specs.Front.{is_line_feed, is_line_byte, skipped_bytes, empty_line, empty_line_behind, block_length, block_front, front_of, front}
+use Rattle.http_wire.specs.Front.{is_line_feed, is_line_byte, skipped_bytes, empty_line, empty_line_behind, block_length, front_of, front}
 use Rattle.http_wire.specs.Search.{IsSearched, IsFront}
-use Rattle.http_wire.specs.declared.front.Front.{Front}
 use Rattle.http_wire.specs.declared.front.Front.TheVariants.{End, Bad, Block}
 
 pub skipped_within : (s : List ℕ) → skipped_bytes s ≤ length s

@@ -1,4 +1,5 @@
 mod BlockEnds
+mod LineFeeds
 mod FrontLaws
 mod NamedFields
 mod Numbers

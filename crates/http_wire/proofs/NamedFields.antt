@@ -1,12 +1,12 @@
 -- The fields of a name are found one by one.
-use Rattle.std.proofs.Common.{◌≡◌, ◌<◌, ◌+◌, ◌∙◌, ℕ, Bool, true, false, cond, List, [], ◌∷◌, length, drop, get_or, map, refl, sym, ap, subst}
-use Rattle.std.specs.Prelude.{Option, Some, None, IfSome, slice_get}
+use Rattle.std.proofs.Common.{◌≡◌, ◌<◌, ◌+◌, ◌∙◌, ℕ, Bool, true, false, cond, List, ◌∷◌, length, drop, get_or, sym, ap, subst}
+use Rattle.std.specs.Prelude.{Option, Some, None, IfSome}
 use Rattle.std.specs.List.{cons_option}
 use Rattle.std.proofs.lemmas.Option.{slice_get-get_or}
 use Rattle.std.proofs.lemmas.List.{at_drop_more}
 use Rattle.httparse.specs.declared.spans.HeaderSpan.{HeaderSpan}
-use Rattle.httparse.specs.Spans.{span_bytes, header_bytes}
-use Rattle.http_wire.specs.Fields.{same_word, values_of}
+use Rattle.httparse.specs.Spans.{span_bytes}
+use Rattle.http_wire.specs.Fields.{same_word}
 use Rattle.http_wire.specs.Named.{values_at, IsFirstNamed}
 
 -- the values of a first field and of those behind it

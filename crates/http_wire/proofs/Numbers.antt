@@ -1,6 +1,6 @@
 -- Numbers that grow with their digits.
-use Rattle.std.proofs.Common.{◌≡◌, ◌<◌, ◌≤◌, ◌+◌, ◌-◌, ◌*◌, ◌∙◌, ℕ, Bool, cond, List, [], ◌∷◌, length, drop, sym, ap, refl, arith}
-use Rattle.std.specs.Prelude.{Option, Some, None}
+use Rattle.std.proofs.Common.{◌≡◌, ◌<◌, ◌≤◌, ◌+◌, ◌-◌, ◌*◌, ℕ, Bool, cond, List, [], ◌∷◌, ap, arith}
+use Rattle.std.specs.Prelude.{Some, None}
 use Rattle.std.proofs.lemmas.Bool.{lt-ltb}
 use Rattle.pb_base.specs.Digits.{value_from, value_of}
 use Rattle.http_wire.specs.Number.{number_up_to}

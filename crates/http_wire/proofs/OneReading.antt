@@ -1,7 +1,7 @@
 -- A stream has one reading.
-use Rattle.std.proofs.Common.{◌≡◌, ◌<◌, ◌≤◌, ◌+◌, ◌∙◌, ℕ, Bool, true, false, List, [], ◌∷◌, length, take, drop, refl, sym, ap, subst, arith, inl, inr}
-use Rattle.std.specs.Prelude.{◌⊎◌, MatchBool, nat_lt}
-use Rattle.httparse.specs.Grammar.{RequestHead, ReadsRequest}
+use Rattle.std.proofs.Common.{◌≡◌, ◌+◌, ◌∙◌, ℕ, Bool, true, false, List, [], ◌∷◌, length, take, drop, refl, sym, ap, subst, arith, inl, inr}
+use Rattle.std.specs.Prelude.{MatchBool, nat_lt}
+use Rattle.httparse.specs.Grammar.{RequestHead}
 use Rattle.httparse.proofs.GrammarLemmas.{request_unique}
 use Rattle.http_wire.specs.declared.front.Front.{Front}
 use Rattle.http_wire.specs.declared.front.Front.TheVariants.{End as NoMore, Bad as NoHead, Block}
@@ -11,7 +11,7 @@ use Rattle.http_wire.specs.declared.head.HeadStep.TheVariants.{Head, End, Bad}
 use Rattle.http_wire.specs.declared.message.Message.{Message}
 use Rattle.http_wire.specs.Front.{front}
 use Rattle.http_wire.specs.Parts.{parts_of}
-use Rattle.http_wire.specs.Reading.{field_lines, judge, IsNoHead, ReadsLines, ReadsBlock}
+use Rattle.http_wire.specs.Reading.{field_lines, judge, ReadsLines, ReadsBlock}
 use Rattle.http_wire.specs.Items.{behind, ReadsFront, ReadsHead, HasBody, Last, ended, refused, cut, closed, Stops, Items}
 
 lines_once : (block : List ℕ) (a b : HeadStep) → ReadsLines block a → ReadsLines block b → a ≡ b

@@ -1,7 +1,7 @@
 -- A stream that has come to its end.
-use Rattle.std.proofs.Common.{◌≡◌, ◌∙◌, ℕ, List, [], ◌∷◌, ◌++◌, drop, take, refl, sym, ap, subst, append-nil}
+use Rattle.std.proofs.Common.{◌≡◌, ◌∙◌, ℕ, List, [], ◌++◌, refl, sym, ap, subst, append-nil}
 use Rattle.std.specs.Prelude.{Option, Some, None, IsSomeAnd}
-use Rattle.pb_outside.specs.Source.{GivesNext, ReadsPiece}
+use Rattle.pb_outside.specs.Source.{ReadsPiece}
 use Rattle.http_wire.specs.declared.front.Front.{Front}
 use Rattle.http_wire.specs.Front.{front}
 use Rattle.http_wire.specs.Fronts.{HasFront}

@@ -1,17 +1,15 @@
 -- What is read of what is held is read of the stream.
-use Rattle.std.proofs.Common.{◌≡◌, ◌<◌, ◌≤◌, ◌+◌, ◌∙◌, ℕ, List, [], ◌∷◌, ◌++◌, length, take, drop, refl, sym, ap, subst, arith, append-nil, length-append, length-drop, length-take, inl, inr}
-use Rattle.std.specs.Prelude.{Option, Some, None, IfSome, IsSomeAnd}
-use Rattle.std.proofs.lemmas.Bool.{cases_lt}
-use Rattle.std.proofs.lemmas.List.{take-append-le, drop-append-le, take_at, drop_at, take_all, drop_all}
+use Rattle.std.proofs.Common.{◌≡◌, ◌≤◌, ◌+◌, ◌∙◌, ℕ, List, [], ◌++◌, length, take, drop, refl, sym, ap, subst, arith, length-drop}
+use Rattle.std.specs.Prelude.{Option, Some, None, IfSome}
+use Rattle.std.proofs.lemmas.List.{take-append-le, drop-append-le}
 use Rattle.http_wire.specs.declared.front.Front.{Front}
 use Rattle.http_wire.specs.declared.front.Front.TheVariants.{End, Bad, Block}
 use Rattle.http_wire.specs.declared.head.HeadStep.{HeadStep}
 use Rattle.http_wire.specs.declared.head.HeadStep.TheVariants.{Head, End as NoMore, Bad as Refused}
-use Rattle.http_wire.specs.Front.{front}
 use Rattle.http_wire.specs.Fronts.{HasFront, IsHeld}
 use Rattle.http_wire.specs.Reading.{ReadsBlock}
 use Rattle.http_wire.specs.Items.{behind, ReadsFront, ReadsHead}
-use Rattle.http_wire.specs.Stream.{StreamStep, SameStream}
+use Rattle.http_wire.specs.Stream.{StreamStep}
 
 behind-append : (step : HeadStep) (n : ℕ) (held more : List ℕ) → n ≤ length held → behind step n (held ++ more) ≡ behind step n held ++ more
 behind-append (Head head) n held more within = drop-append-le n held more within

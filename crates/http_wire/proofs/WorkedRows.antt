@@ -1,6 +1,6 @@
 -- The definitions, evaluated on small streams.
-use Rattle.std.proofs.Common.{◌≡◌, ℕ, Bool, true, false, List, [], ◌∷◌, ◌++◌, refl}
-use Rattle.std.specs.Prelude.{Option, Some, None, Ok, Err, codes}
+use Rattle.std.proofs.Common.{◌≡◌, ℕ, true, false, List, [], ◌∷◌, ◌++◌, refl}
+use Rattle.std.specs.Prelude.{Some, None, Ok, Err, codes}
 use Rattle.httparse.specs.Grammar.{trim_ows}
 use Rattle.http_wire.specs.declared.front.Front.TheVariants.{End, Bad, Block}
 use Rattle.http_wire.specs.declared.head.HeadStep.TheVariants.{Head, Bad as Refused}

@@ -15,18 +15,18 @@ use Rattle.http_wire.specs.declared.head.HeadStep.TheVariants.{Head, End, Bad}
 
 -- HTTP/1.1 asks for just one Host field
 abbrev pub lacks_host : HeadParts → Bool
-lacks_host p = p.minor == 1 && not (length (values_of (codes "host") p.fields) == 1)
+lacks_host p = p.minor == 1 && not (length (values_of (codes "Host") p.fields) == 1)
 
 abbrev pub is_coded : HeadParts → Bool
-is_coded p = nat_lt 0 (length (values_of (codes "transfer-encoding") p.fields))
+is_coded p = nat_lt 0 (length (values_of (codes "Transfer-Encoding") p.fields))
 
 -- the connection closes after HTTP/1.0, and where a Connection field asks for it
 abbrev pub closes : HeadParts → Bool
-closes p = p.minor == 0 || list_any says_close (values_of (codes "connection") p.fields)
+closes p = p.minor == 0 || list_any says_close (values_of (codes "Connection") p.fields)
 
 -- with HTTP/1.1 an Expect field may ask for 100 Continue before a body is sent
 abbrev pub expects : HeadParts → ℕ → Bool
-expects p len = p.minor == 1 && nat_lt 0 len && list_any is_continue (values_of (codes "expect") p.fields)
+expects p len = p.minor == 1 && nat_lt 0 len && list_any is_continue (values_of (codes "Expect") p.fields)
 
 abbrev pub kept_of : HeadParts → ℕ → Kept
 kept_of p len = record {
@@ -36,7 +36,7 @@ kept_of p len = record {
   close = closes p;
   length = len;
   expects = expects p len;
-  caller = one_caller (values_of (codes "x-caller") p.fields);
+  caller = one_caller (values_of (codes "X-Caller") p.fields);
 }
 
 abbrev pub with_length : HeadParts → Result ℕ ℕ → HeadStep
@@ -46,7 +46,7 @@ with_length p (Err status) = Bad status
 abbrev pub judge : HeadParts → HeadStep
 judge p =
     if lacks_host p then Bad 400
-    else (if is_coded p then Bad 501 else with_length p (body_length (values_of (codes "content-length") p.fields)))
+    else (if is_coded p then Bad 501 else with_length p (body_length (values_of (codes "Content-Length") p.fields)))
 
 -- the lines between the request line and the empty line
 abbrev pub field_lines : List ℕ → ℕ

@@ -6,8 +6,8 @@ use Rattle.http_wire.specs.declared.wish.Wish.TheVariants.{Close, Continue}
 
 -- the name of the fields
 abbrev pub field_of : Wish → List ℕ
-field_of Close = codes "connection"
-field_of Continue = codes "expect"
+field_of Close = codes "Connection"
+field_of Continue = codes "Expect"
 
 -- a value asks for it
 abbrev pub asks_for : Wish → List ℕ → Bool

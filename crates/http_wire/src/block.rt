@@ -2,6 +2,8 @@
 ghost use Rattle.std.specs.Prelude.{◌≡◌, ◌≤◌, IfSome, None, length, take};
 ghost use Rattle.http_wire.specs.Front.{empty_line, block_length};
 
+use memchr::memchr;
+
 /// The length of the empty line in front.
 fn empty_line(bytes: &[u8]) -> Option<usize>
     ensures line { result ≡ empty_line bytes.now }
@@ -20,13 +22,11 @@ pub fn block_length(bytes: &[u8]) -> Option<usize>
     ensures within { IfSome result (λ n. n ≤ length bytes.now) }
 {
     let mut at = 0;
-    while at < bytes.len() {
-        if bytes[at] == b'\n' {
-            if let Some(length) = empty_line(&bytes[at + 1..]) {
-                return Some(at + 1 + length);
-            }
+    while let Some(place) = memchr(b'\n', &bytes[at..]) {
+        at += place + 1;
+        if let Some(length) = empty_line(&bytes[at..]) {
+            return Some(at + length);
         }
-        at += 1;
     }
     None
 }

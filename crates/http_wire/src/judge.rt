@@ -36,22 +36,22 @@ pub fn judge(alloc: Global, parts: &Parts) -> Result<HeadStep, Memory>
 fn lacks_host(parts: &Parts) -> bool
     ensures { result ≡ lacks_host parts.now }
 {
-    parts.minor == 1 && !matches!(parts.fields.few(b"host"), Few::One(_))
+    parts.minor == 1 && !matches!(parts.fields.few(b"Host"), Few::One(_))
 }
 
 /// Whether the body is in pieces of another coding.
 fn is_coded(parts: &Parts) -> bool
     ensures { result ≡ is_coded parts.now }
 {
-    !matches!(parts.fields.few(b"transfer-encoding"), Few::None)
+    !matches!(parts.fields.few(b"Transfer-Encoding"), Few::None)
 }
 
 /// The length of the body, or the status by which the head is refused.
 fn body_length(fields: &Fields) -> Result<u32, u16>
-    ensures length { result ≡ body_length (values_of (codes "content-length") fields.now) }
+    ensures length { result ≡ body_length (values_of (codes "Content-Length") fields.now) }
     ensures small { IfOk result (λ length. length ≤ MOST_TEXT_BYTES) }
 {
-    match fields.few(b"content-length") {
+    match fields.few(b"Content-Length") {
         Few::None => Ok(0),
         Few::One(value) => length_by(value),
         Few::More => Err(400),
@@ -126,9 +126,9 @@ fn expects(parts: &Parts, length: u32) -> bool
 }
 
 fn one_caller(fields: &Fields) -> Option<Id>
-    ensures { result ≡ one_caller (values_of (codes "x-caller") fields.now) }
+    ensures { result ≡ one_caller (values_of (codes "X-Caller") fields.now) }
 {
-    match fields.few(b"x-caller") {
+    match fields.few(b"X-Caller") {
         Few::One(value) => Id::of(value),
         _ => None,
     }

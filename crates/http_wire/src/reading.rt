@@ -16,6 +16,9 @@ use httparse::spans::{EMPTY_HEADER_SPAN, HeaderSpan, RequestSpans, parse_request
 use pb_base::Memory;
 use std::alloc::Global;
 
+/// The room for fields that is tried first.
+const USUAL_FIELDS: usize = 16;
+
 /// The head that the bytes are, or the status by which they are refused.
 pub fn read_block(alloc: Global, block: &[u8]) -> Result<HeadStep, Memory>
     ensures step { IfOk result (ReadsBlock block.now) }
@@ -24,9 +27,42 @@ pub fn read_block(alloc: Global, block: &[u8]) -> Result<HeadStep, Memory>
     if field_lines(block) > MOST_FIELD_LINES {
         return Ok(HeadStep::Bad(431));
     }
+    let mut spans = [EMPTY_HEADER_SPAN; USUAL_FIELDS];
+    if let Some(step) = read_lines(alloc, block, &mut spans)? {
+        return Ok(step);
+    }
+    read_any(alloc, block)
+}
+
+/// The same with room for all fields. It is a function of its own, since a function clears its room when it is entered.
+#[cold]
+#[inline(never)]
+fn read_any(alloc: Global, block: &[u8]) -> Result<HeadStep, Memory>
+    requires { field_lines block.now ≤ MOST_FIELD_LINES }
+    ensures step { IfOk result (ReadsBlock block.now) }
+    ensures small { IfOk result HasSmallBody }
+{
     let mut spans = [EMPTY_HEADER_SPAN; MOST_FIELD_LINES];
-    let Some(head) = whole_head(block, &mut spans) else {
-        return Ok(HeadStep::Bad(400));
+    match read_lines(alloc, block, &mut spans)? {
+        Some(step) => Ok(step),
+        None => Ok(HeadStep::Bad(400)),
+    }
+}
+
+/// The same where there are not too many lines, or None where they are no head with no more fields than there is room.
+fn read_lines(
+    alloc: Global,
+    block: &[u8],
+    spans: &mut [HeaderSpan],
+) -> Result<Option<HeadStep>, Memory>
+    requires { field_lines block.now ≤ MOST_FIELD_LINES }
+    ensures step { IfOk result (λ found. IfSome found (ReadsBlock block.now)) }
+    ensures small { IfOk result (λ found. IfSome found HasSmallBody) }
+    ensures none { IfOk result (λ found. IfNone found ((h : RequestHead) → ReadsRequest block.now h []
+        → length h.fields ≤ length spans.old → ⊥)) }
+{
+    let Some(head) = whole_head(block, spans) else {
+        return Ok(None);
     };
     let parts = Parts {
         method: head.method.of(block),
@@ -34,7 +70,7 @@ pub fn read_block(alloc: Global, block: &[u8]) -> Result<HeadStep, Memory>
         minor: head.version,
         fields: Fields::of(block, &spans[..head.headers]),
     };
-    judge(alloc, &parts)
+    Ok(Some(judge(alloc, &parts)?))
 }
 
 /// The lines between the request line and the empty line.
@@ -47,7 +83,11 @@ fn field_lines(block: &[u8]) -> usize
 fn line_feeds(block: &[u8]) -> usize
     ensures { result ≡ count_by is_line_feed block.now }
 {
-    block.iter().filter(|b| **b == b'\n').count()
+    let mut count = 0;
+    for b in block {
+        count += usize::from(*b == b'\n');
+    }
+    count
 }
 
 /// Where the parts of the head lie that the bytes are, if they are one with no more fields than there is room.

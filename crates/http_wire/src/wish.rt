@@ -19,8 +19,8 @@ impl Wish {
         ensures { result.now ≡ field_of self }
     {
         match self {
-            Wish::Close => b"connection",
-            Wish::Continue => b"expect",
+            Wish::Close => b"Connection",
+            Wish::Continue => b"Expect",
         }
     }
 

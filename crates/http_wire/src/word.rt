@@ -3,11 +3,11 @@ ghost use Rattle.std.specs.Prelude.{◌≡◌, reverse};
 ghost use Rattle.httparse.specs.Grammar.{is_ows, skip_ows, trim_ows};
 ghost use Rattle.http_wire.specs.Fields.{same_word, says_close, is_continue};
 
-/// Whether two words are the same without regard to case.
+/// Whether two words are the same without regard to case. Most are the same as they stand.
 pub fn same_word(a: &[u8], b: &[u8]) -> bool
     ensures { result ≡ same_word a.now b.now }
 {
-    a.eq_ignore_ascii_case(b)
+    a == b || a.eq_ignore_ascii_case(b)
 }
 
 /// Whether a value of an Expect field awaits 100 Continue.

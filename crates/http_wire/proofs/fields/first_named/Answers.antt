@@ -1,4 +1,4 @@
-use Rattle.std.proofs.Common.{◌≡◌, ◌∙◌, ℕ, List, ap, sym}
+use Rattle.std.proofs.Common.{◌∙◌, ℕ, List, ap, sym}
 use Rattle.http_wire.specs.Fields.{same_word}
 use Rattle.http_wire.proofs.NamedFields.{named_here, named_later}
 use Rattle.http_wire.proofs.fields.first_named.Goals as goal

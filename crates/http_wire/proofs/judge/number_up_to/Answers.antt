@@ -1,4 +1,4 @@
-use Rattle.std.proofs.Common.{◌≡◌, ◌+◌, ◌-◌, ◌*◌, ◌∙◌, ℕ, drop, slice_index_or, sym, ap}
+use Rattle.std.proofs.Common.{◌≡◌, ◌+◌, ◌*◌, ◌∙◌, ℕ, drop, sym, ap}
 use Rattle.std.proofs.lemmas.List.{at_drop_more}
 use Rattle.pb_base.specs.Digits.{value_from, value_of}
 use Rattle.http_wire.proofs.Numbers.{too_large}

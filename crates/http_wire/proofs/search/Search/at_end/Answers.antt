@@ -1,6 +1,5 @@
-use Rattle.std.proofs.Common.{◌≡◌, ◌∙◌, Bool, sym, ap, cond}
+use Rattle.std.proofs.Common.{◌∙◌, Bool, sym, ap, cond}
 use Rattle.std.proofs.lemmas.Bool.{eq-eqb, ne_eqb}
-use Rattle.http_wire.specs.declared.front.Front.{Front}
 use Rattle.http_wire.specs.declared.front.Front.TheVariants.{End, Bad}
 use Rattle.http_wire.proofs.FrontLaws.{all_searched, end_front}
 use Rattle.http_wire.proofs.search.Search.at_end.Goals as goal

@@ -1,7 +1,7 @@
-use Rattle.std.proofs.Common.{◌≡◌, ◌≤◌, ◌+◌, ◌∙◌, ap, arith}
+use Rattle.std.proofs.Common.{◌∙◌, ap, arith}
 use Rattle.std.proofs.lemmas.List.{take_rest}
 use Rattle.http_wire.specs.Front.{skipped_bytes}
-use Rattle.http_wire.proofs.FrontLaws.{more_skipped, no_more_skipped, none_seen, none_yet, skipped_within}
+use Rattle.http_wire.proofs.FrontLaws.{more_skipped, no_more_skipped, none_seen, skipped_within}
 use Rattle.http_wire.proofs.search.Search.skipped_in.Goals as goal
 
 pub returns-then-self-clause-skipped : goal.returns-then-self-clause-skipped
