@@ -1,0 +1,11 @@
+mod BlockEnds
+mod LineFeeds
+mod FrontLaws
+mod NamedFields
+mod Numbers
+mod LineCounts
+mod StreamEnds
+mod StreamSteps
+mod Bodies
+mod OneReading
+mod WorkedRows
