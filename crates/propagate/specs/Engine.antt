@@ -20,7 +20,7 @@ pub record Extends (old new : Trail) : Type 0 where
   pub lits_kept : take (length old.lits) new.lits ≡ old.lits
   pub reasons_kept : take (length old.lits) new.reasons ≡ old.reasons
   pub derived : (k : ℕ) → length old.lits ≤ k → k < length new.lits
-    → slice_index_or new.reasons k None ≡ None → ⊥
+      → slice_index_or new.reasons k None ≡ None → ⊥
 
 -- a level that begins with this literal; where it is true already, the level adds nothing
 abbrev pub with_assumed : Trail → ℕ → Trail

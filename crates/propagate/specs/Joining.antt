@@ -21,4 +21,4 @@ pub record Joined (s t : Scene) (c : List ℕ) : Type 0 where
   pub same_count : length t.watching.lists ≡ length s.watching.lists
   pub reasoned : AreReasons s.watching.clauses s.assigned → AreReasons t.watching.clauses t.assigned
   pub before : (v : Visits) (k : ℕ) → IsVisiting s.assigned v → AreHeld s.assigned v s.watching
-    → k < length s.watching.clauses → IsHeld t.assigned v t.watching k
+      → k < length s.watching.clauses → IsHeld t.assigned v t.watching k

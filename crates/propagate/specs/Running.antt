@@ -27,7 +27,7 @@ pub record IsEngine (s : Scene) (v : Visits) (refuted : Option ℕ) : Type 0 whe
   -- a clause that is false without any assumption
   pub is_attached : (k : ℕ) → refuted ≡ Some k → k < length s.watching.clauses
   pub is_false : (k : ℕ) → refuted ≡ Some k
-    → AllFalse (take (end_of s.assigned 0) s.assigned.lits) (clause_at s.watching.clauses k)
+      → AllFalse (take (end_of s.assigned 0) s.assigned.lits) (clause_at s.watching.clauses k)
 
 pub record Ran (s t : Scene) (from to : ℕ) : Type 0 where
   pub grown : Grown s.assigned t.assigned
@@ -35,6 +35,6 @@ pub record Ran (s t : Scene) (from to : ℕ) : Type 0 where
   pub same_count : length t.watching.lists ≡ length s.watching.lists
   pub reasoned : AreReasons s.watching.clauses s.assigned → AreReasons s.watching.clauses t.assigned
   pub visiting : (heads : List ℕ) → IsVisiting s.assigned (visits heads from)
-    → IsVisiting t.assigned (visits heads to)
+      → IsVisiting t.assigned (visits heads to)
   pub held : (heads : List ℕ) → IsVisiting s.assigned (visits heads from)
-    → AreHeld s.assigned (visits heads from) s.watching → AreHeld t.assigned (visits heads to) t.watching
+      → AreHeld s.assigned (visits heads from) s.watching → AreHeld t.assigned (visits heads to) t.watching

@@ -66,7 +66,7 @@ pub record EntryFits (w : Watching) (code : ℕ) (entry : Watch) : Type 0 where
   pub attached : entry.clause < length w.clauses
   pub blocks : has (clause_at w.clauses entry.clause) entry.blocker ≡ true
   pub binary : entry.is_binary ≡ true → (l : ℕ) → has (clause_at w.clauses entry.clause) l ≡ true
-    → (l ≡ code) ⊎ (l ≡ entry.blocker)
+      → (l ≡ code) ⊎ (l ≡ entry.blocker)
   pub pair : IsPairIn (clause_at w.clauses entry.clause) (pair_of w entry.clause)
 
 pub record IsWatching (w : Watching) : Type 0 where

@@ -30,23 +30,23 @@ impl Model for Assignment {
     ghost Value = { Assigned };
 
     ghost view = { λ a. record {
-        vars = length a.places.items;
-        lits = a.lits.items;
-        reasons = a.reasons.items;
-        starts = a.starts.items;
+      vars = length a.places.items;
+      lits = a.lits.items;
+      reasons = a.reasons.items;
+      starts = a.starts.items;
     } };
 
     ghost invariant = { λ a. IsAssigned (record {
-            vars = length a.places.items;
-            lits = a.lits.items;
-            reasons = a.reasons.items;
-            starts = a.starts.items;
-        })
+      vars = length a.places.items;
+      lits = a.lits.items;
+      reasons = a.reasons.items;
+      starts = a.starts.items;
+    })
         × AreTables a.values.items a.places.items (record {
-            vars = length a.places.items;
-            lits = a.lits.items;
-            reasons = a.reasons.items;
-            starts = a.starts.items;
+          vars = length a.places.items;
+          lits = a.lits.items;
+          reasons = a.reasons.items;
+          starts = a.starts.items;
         })
         × (length a.places.items < 2 ^ 31)
         × (length a.places.items ≤ vec_capacity a.lits)

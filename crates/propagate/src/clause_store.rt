@@ -93,15 +93,7 @@ fn append_codes(codes: &mut Vec<u32>, lits: &[Lit])
 
 /// The list at this place, counted from 0.
 #[inline(always)]
-#[tactic(
-    auto,
-    using(
-        clause_pool::proofs::RegionLaws::start_within,
-        clause_pool::proofs::RegionLaws::start_below,
-        clause_pool::proofs::RegionLaws::region_get,
-        clause_pool::proofs::RegionLaws::region_last
-    )
-)]
+#[tactic(auto, using(clause_pool::proofs::RegionLaws::start_within, clause_pool::proofs::RegionLaws::start_below, clause_pool::proofs::RegionLaws::region_get, clause_pool::proofs::RegionLaws::region_last))]
 fn list_at<'a>(codes: &'a [u32], starts: &[u32], at: usize) -> &'a [u32]
     requires region { IsRegion starts.now (length codes.now) }
     requires within { at < length starts.now }

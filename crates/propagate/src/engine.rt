@@ -44,11 +44,11 @@ impl Model for Engine {
     ghost Value = { Trail };
 
     ghost view = { λ e. record {
-        vars = e.assignment.vars;
-        clauses = e.watched.clauses;
-        lits = e.assignment.lits;
-        reasons = e.assignment.reasons;
-        starts = e.assignment.starts;
+      vars = e.assignment.vars;
+      clauses = e.watched.clauses;
+      lits = e.assignment.lits;
+      reasons = e.assignment.reasons;
+      starts = e.assignment.starts;
     } };
 
     ghost invariant = { λ e. IsEngine (scene e.assignment e.watched) (visits e.heads.items e.head) e.refuted
@@ -142,8 +142,8 @@ impl Engine {
         self.watched.count()
     }
 
-    /// Attaches the next clause of a pool; a literal that it forces may become true at once. On want of memory
-    /// the engine is as before. There is no room for 2^32 clauses.
+    /// Attaches the next clause of a pool; a literal that it forces may become true at once. On want of
+    /// memory the engine is as before. There is no room for 2^32 clauses.
     pub fn attach(&mut self, pool: &Pool, at: Ref) -> Result<(), Memory>
         requires next { at ≡ length self.old.clauses }
         requires there { at < length pool.now.clauses }
