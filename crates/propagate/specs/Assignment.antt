@@ -1,10 +1,12 @@
 -- What an assignment is to the crate: the trail without the clauses.
 --     Assigned               the literals that are true, with their reasons and levels
 --     IsAssigned a           what it keeps
+--     AreLiteralsOf a c      each literal of the clause is one of a variable
 use Rattle.std.specs.Prelude.{◌≡◌, ℕ, ◌+◌, ◌*◌, ◌/◌, ◌<◌, ◌≤◌, Bool, true, false, List, [], ◌∷◌, ◌++◌, Option, Some, None, length, map, nat_eq, take, slice_index, slice_index_or, if◌then◌else◌}
 use Rattle.std.specs.List.{IsDistinct}
 use Rattle.clause_pool.specs.Literal.{complement}
 use Rattle.clause_pool.specs.Clause.{has}
+use Rattle.propagate.specs.Trail.{AreBelow, AreRising}
 
 pub record Assigned : Type 0 where
   pub vars : ℕ
@@ -16,13 +18,17 @@ pub record Assigned : Type 0 where
 abbrev pub end_of : Assigned → ℕ → ℕ
 end_of a n = slice_index_or a.starts n (length a.lits)
 
+-- each literal of the clause is one of a variable
+abbrev pub AreLiteralsOf : Assigned → List ℕ → Type 0
+AreLiteralsOf a c = AreBelow c (a.vars + a.vars)
+
 -- each variable stands at most once, and the levels begin one after the other
 pub record IsAssigned (a : Assigned) : Type 0 where
   pub apart : IsDistinct nat_eq (map (λ l. l / 2) a.lits)
   pub consistent : (l : ℕ) → has a.lits l ≡ true → has a.lits (complement l) ≡ true → ⊥
   pub below : (l : ℕ) → has a.lits l ≡ true → l < 2 * a.vars
   pub few_levels : length a.starts ≤ a.vars
-  pub rising : (i j : ℕ) → i ≤ j → j < length a.starts → slice_index a.starts i ≤ slice_index a.starts j
+  pub rising : AreRising a.starts
   pub within : (i : ℕ) → i < length a.starts → slice_index a.starts i ≤ length a.lits
   pub reasons_counted : length a.reasons ≡ length a.lits
 
@@ -32,15 +38,30 @@ none_assigned vars = record { vars = vars; lits = []; reasons = []; starts = [] 
 
 -- one more literal is true, for this reason
 abbrev pub with_literal : Assigned → ℕ → Option ℕ → Assigned
-with_literal a l reason = record { vars = a.vars; lits = a.lits ++ l ∷ []; reasons = a.reasons ++ reason ∷ []; starts = a.starts }
+with_literal a l reason = record {
+  vars = a.vars;
+  lits = a.lits ++ l ∷ [];
+  reasons = a.reasons ++ reason ∷ [];
+  starts = a.starts;
+}
 
 -- one more level is open
 abbrev pub with_level : Assigned → Assigned
-with_level a = record { vars = a.vars; lits = a.lits; reasons = a.reasons; starts = a.starts ++ length a.lits ∷ [] }
+with_level a = record {
+  vars = a.vars;
+  lits = a.lits;
+  reasons = a.reasons;
+  starts = a.starts ++ length a.lits ∷ [];
+}
 
 -- the first n literals alone
 abbrev pub first_literals : Assigned → ℕ → Assigned
-first_literals a n = record { vars = a.vars; lits = take n a.lits; reasons = take n a.reasons; starts = a.starts }
+first_literals a n = record {
+  vars = a.vars;
+  lits = take n a.lits;
+  reasons = take n a.reasons;
+  starts = a.starts;
+}
 
 -- the starts of the levels up to n alone
 abbrev pub first_levels : Assigned → ℕ → Assigned
@@ -48,7 +69,12 @@ first_levels a n = record { vars = a.vars; lits = a.lits; reasons = a.reasons; s
 
 -- the levels up to n alone
 abbrev pub cut_to : Assigned → ℕ → Assigned
-cut_to a n = record { vars = a.vars; lits = take (end_of a n) a.lits; reasons = take (end_of a n) a.reasons; starts = take n a.starts }
+cut_to a n = record {
+  vars = a.vars;
+  lits = take (end_of a n) a.lits;
+  reasons = take (end_of a n) a.reasons;
+  starts = take n a.starts;
+}
 
 -- whether a literal is true or false over these true ones
 abbrev pub value_over : List ℕ → ℕ → Option Bool

@@ -8,7 +8,7 @@
 --     IsLevelOf t var n      the level at which a variable came to the trail
 use Rattle.std.specs.Prelude.{◌≡◌, ℕ, ◌-◌, ◌/◌, ◌<◌, ◌≤◌, true, List, [], ◌∷◌, ◌++◌, None, length, take, slice_index, slice_index_or, if◌then◌else◌}
 use Rattle.clause_pool.specs.Clause.{has}
-use Rattle.propagate.specs.Trail.{Trail, level, end_of, upto, IsFalse}
+use Rattle.propagate.specs.Trail.{Trail, level, end_of, upto, IsFalse, IsAbsent}
 
 abbrev pub empty_trail : ℕ → Trail
 empty_trail vars = record { vars = vars; clauses = []; lits = []; reasons = []; starts = [] }
@@ -19,13 +19,26 @@ pub record Extends (old new : Trail) : Type 0 where
   pub longer : length old.lits ≤ length new.lits
   pub lits_kept : take (length old.lits) new.lits ≡ old.lits
   pub reasons_kept : take (length old.lits) new.reasons ≡ old.reasons
-  pub derived : (k : ℕ) → length old.lits ≤ k → k < length new.lits → slice_index_or new.reasons k None ≡ None → ⊥
+  pub derived : (k : ℕ) → length old.lits ≤ k → k < length new.lits
+      → slice_index_or new.reasons k None ≡ None → ⊥
 
 -- a level that begins with this literal; where it is true already, the level adds nothing
 abbrev pub with_assumed : Trail → ℕ → Trail
 with_assumed t l =
-    if has t.lits l then record { vars = t.vars; clauses = t.clauses; lits = t.lits; reasons = t.reasons; starts = t.starts ++ length t.lits ∷ [] }
-    else record { vars = t.vars; clauses = t.clauses; lits = t.lits ++ l ∷ []; reasons = t.reasons ++ None ∷ []; starts = t.starts ++ length t.lits ∷ [] }
+    if has t.lits l then record {
+      vars = t.vars;
+      clauses = t.clauses;
+      lits = t.lits;
+      reasons = t.reasons;
+      starts = t.starts ++ length t.lits ∷ [];
+    }
+    else record {
+      vars = t.vars;
+      clauses = t.clauses;
+      lits = t.lits ++ l ∷ [];
+      reasons = t.reasons ++ None ∷ [];
+      starts = t.starts ++ length t.lits ∷ [];
+    }
 
 -- the levels up to n alone
 abbrev pub cut : Trail → ℕ → Trail
@@ -59,4 +72,4 @@ IsLevelOf t var n = (k : ℕ) × (k < length t.lits) × (slice_index t.lits k / 
 
 -- the variable is nowhere on the trail
 abbrev pub IsOpen : Trail → ℕ → Type 0
-IsOpen t var = (k : ℕ) → k < length t.lits → slice_index t.lits k / 2 ≡ var → ⊥
+IsOpen t var = IsAbsent t.lits var

@@ -7,11 +7,18 @@ use Rattle.propagate.specs.Trail.{Trail}
 
 -- the trail that contracts see
 abbrev pub trail_of : Scene → Trail
-trail_of s = record { vars = s.assigned.vars; clauses = s.watching.clauses; lits = s.assigned.lits; reasons = s.assigned.reasons; starts = s.assigned.starts }
+trail_of s = record {
+  vars = s.assigned.vars;
+  clauses = s.watching.clauses;
+  lits = s.assigned.lits;
+  reasons = s.assigned.reasons;
+  starts = s.assigned.starts;
+}
 
 pub record Joined (s t : Scene) (c : List ℕ) : Type 0 where
   pub grown : Grown s.assigned t.assigned
   pub clauses : t.watching.clauses ≡ s.watching.clauses ++ c ∷ []
   pub same_count : length t.watching.lists ≡ length s.watching.lists
   pub reasoned : AreReasons s.watching.clauses s.assigned → AreReasons t.watching.clauses t.assigned
-  pub before : (v : Visits) (k : ℕ) → IsVisiting s.assigned v → AreHeld s.assigned v s.watching → k < length s.watching.clauses → IsHeld t.assigned v t.watching k
+  pub before : (v : Visits) (k : ℕ) → IsVisiting s.assigned v → AreHeld s.assigned v s.watching
+      → k < length s.watching.clauses → IsHeld t.assigned v t.watching k

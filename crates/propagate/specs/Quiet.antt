@@ -1,5 +1,5 @@
 -- A quiet set of literals: it has no variable twice, and no clause has anything to say to it.
---     Quiet clauses lits     no clause is false, and each that has all but one of its literals false has that one true
+--     Quiet clauses lits     no clause is false, and where all literals but one are false, that one is true
 use Rattle.std.specs.Prelude.{◌≡◌, ℕ, true, List}
 use Rattle.std.specs.List.{AllByRecursion}
 use Rattle.clause_pool.specs.Literal.{complement}

@@ -2,6 +2,7 @@
 --     Trail                 what a contract sees of an engine
 --     end_of t n            where the literals of the levels up to n end
 --     upto t n              the literals of the levels up to n
+--     AreBelow c n          each literal of the clause is below n
 --     IsTrail t             what a trail keeps
 use Rattle.std.specs.Prelude.{◌≡◌, ℕ, ◌*◌, ◌/◌, ◌<◌, ◌≤◌, true, List, [], Option, Some, None, length, map, nat_eq, take, slice_index, slice_index_or}
 use Rattle.std.specs.List.{IsDistinct}
@@ -44,11 +45,35 @@ OthersFalse lits c x = (l : ℕ) → has c l ≡ true → (l ≡ x → ⊥) → 
 abbrev pub AllFalse : List ℕ → List ℕ → Type 0
 AllFalse lits c = (l : ℕ) → has c l ≡ true → IsFalse lits l
 
+-- each literal of the clause is below n
+abbrev pub AreBelow : List ℕ → ℕ → Type 0
+AreBelow c n = (l : ℕ) → has c l ≡ true → l < n
+
+-- the variable is nowhere among the literals
+abbrev pub IsAbsent : List ℕ → ℕ → Type 0
+IsAbsent lits var = (k : ℕ) → k < length lits → slice_index lits k / 2 ≡ var → ⊥
+
+-- the levels begin one after the other
+abbrev pub AreRising : List ℕ → Type 0
+AreRising starts = (i j : ℕ) → i ≤ j → j < length starts → slice_index starts i ≤ slice_index starts j
+
 -- a clause made this literal true: it has it, and its others were false before
 pub record IsReason (clauses : List (List ℕ)) (before : List ℕ) (l at : ℕ) : Type 0 where
   pub attached : at < length clauses
   pub is_in : has (slice_index_or clauses at []) l ≡ true
   pub others_false : OthersFalse before (slice_index_or clauses at []) l
+
+-- the reasons are reasons
+abbrev pub AreReasoned : List (List ℕ) → List ℕ → List (Option ℕ) → Type 0
+AreReasoned clauses lits reasons =
+    (k at : ℕ) → k < length lits → slice_index_or reasons k None ≡ Some at
+    → IsReason clauses (take k lits) (slice_index lits k) at
+
+-- what has no reason opened a level
+abbrev pub OpenedLevels : List ℕ → List (Option ℕ) → List ℕ → Type 0
+OpenedLevels lits reasons starts =
+    (k : ℕ) → k < length lits → slice_index_or reasons k None ≡ None
+    → (n : ℕ) × (n < length starts) × (slice_index starts n ≡ k)
 
 pub record IsTrail (t : Trail) : Type 0 where
   -- no variable is on the trail twice
@@ -56,9 +81,9 @@ pub record IsTrail (t : Trail) : Type 0 where
   pub below : (l : ℕ) → has t.lits l ≡ true → l < 2 * t.vars
   pub few_levels : length t.starts ≤ t.vars
   pub clauses_below : (at l : ℕ) → has (slice_index_or t.clauses at []) l ≡ true → l < 2 * t.vars
-  pub rising : (i j : ℕ) → i ≤ j → j < length t.starts → slice_index t.starts i ≤ slice_index t.starts j
+  pub rising : AreRising t.starts
   pub within : (i : ℕ) → i < length t.starts → slice_index t.starts i ≤ length t.lits
   pub reasons_counted : length t.reasons ≡ length t.lits
-  pub reasoned : (k at : ℕ) → k < length t.lits → slice_index_or t.reasons k None ≡ Some at → IsReason t.clauses (take k t.lits) (slice_index t.lits k) at
+  pub reasoned : AreReasoned t.clauses t.lits t.reasons
   -- what was assumed opened a level
-  pub decided : (k : ℕ) → k < length t.lits → slice_index_or t.reasons k None ≡ None → (n : ℕ) × (n < length t.starts) × (slice_index t.starts n ≡ k)
+  pub decided : OpenedLevels t.lits t.reasons t.starts

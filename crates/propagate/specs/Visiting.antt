@@ -22,6 +22,10 @@ AreTrueIn s code n = AreTrue s.assigned s.watching code n
 abbrev pub entries_of : Scene → ℕ → ℕ
 entries_of s code = length (list_of s.watching code)
 
+-- the clauses of all entries of the literal have a true literal
+abbrev pub AllTrueIn : Scene → ℕ → Type 0
+AllTrueIn s code = AreTrueIn s code (entries_of s code)
+
 -- all literals of an attached clause are false
 pub record IsConflict (s : Scene) (k : ℕ) : Type 0 where
   pub attached : k < length s.watching.clauses

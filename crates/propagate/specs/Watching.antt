@@ -2,13 +2,13 @@
 --     Watching                   the clauses, what each watches, and the entries by literal
 --     IsWatching w               what an entry says is so
 --     IsVisited ..               where a watched literal was seen to be false, the clause has a true literal
---     IsHeld ..                  why a clause needn't be looked at before one of its two watched literals becomes false
+--     IsHeld ..                  why a clause needn't be looked at before one that it watches becomes false
 --     Keeps ..                   what a look at an entry keeps
-use Rattle.std.specs.Prelude.{◌≡◌, ◌⊎◌, ℕ, ◌+◌, ◌<◌, ◌≤◌, ◌==◌, true, List, [], ◌++◌, Some, None, length, map, take, slice_index, slice_index_or}
+use Rattle.std.specs.Prelude.{◌≡◌, ◌⊎◌, ℕ, ◌+◌, ◌<◌, ◌≤◌, ◌==◌, true, List, [], ◌++◌, Some, length, map, take, slice_get, slice_index_or}
 use Rattle.std.specs.List.{AllByRecursion, list_any}
 use Rattle.clause_pool.specs.Literal.{complement}
 use Rattle.clause_pool.specs.Clause.{has}
-use Rattle.propagate.specs.Trail.{IsReason}
+use Rattle.propagate.specs.Trail.{AreReasoned}
 use Rattle.propagate.specs.Assignment.{Assigned, end_of}
 use Rattle.propagate.specs.declared.watch.Watch.{Watch}
 use Rattle.propagate.specs.declared.watch.Watched.{Watched}
@@ -25,24 +25,48 @@ pub record Watching : Type 0 where
 abbrev pub clause_at : List (List ℕ) → ℕ → List ℕ
 clause_at clauses k = slice_index_or clauses k []
 
+-- what a clause has that watches nothing
+abbrev pub no_pair : Watched
+no_pair = record { first = 0; second = 0 }
+
 -- the two literals that a clause watches
 abbrev pub pair_of : Watching → ℕ → Watched
-pair_of w k = slice_index_or w.watched k (record { first = 0; second = 0 })
+pair_of w k = slice_index_or w.watched k no_pair
+
+abbrev pub AreApart : Watched → Type 0
+AreApart pair = pair.first ≡ pair.second → ⊥
+
+-- the literal is one of the two
+abbrev pub IsOneOf : Watched → ℕ → Type 0
+IsOneOf pair l = (l ≡ pair.first) ⊎ (l ≡ pair.second)
+
+-- the list at this place
+abbrev pub list_in : List (List Watch) → ℕ → List Watch
+list_in lists code = slice_index_or lists code []
 
 -- the entries of a literal
 abbrev pub list_of : Watching → ℕ → List Watch
-list_of w code = slice_index_or w.lists code []
+list_of w code = list_in w.lists code
+
+-- the entry at this place of a literal's list
+abbrev pub IsEntryAt : Watching → ℕ → ℕ → Watch → Type 0
+IsEntryAt w code at entry = slice_get (list_of w code) at ≡ Some entry
+
+-- the clause of that entry has this literal
+abbrev pub HasAt : Watching → ℕ → ℕ → ℕ → Type 0
+HasAt w code at l = (e : Watch) → IsEntryAt w code at e → has (clause_at w.clauses e.clause) l ≡ true
 
 pub record IsPairIn (c : List ℕ) (pair : Watched) : Type 0 where
   pub first_in : has c pair.first ≡ true
   pub second_in : has c pair.second ≡ true
-  pub apart : pair.first ≡ pair.second → ⊥
+  pub apart : AreApart pair
 
 -- what an entry says of its clause
 pub record EntryFits (w : Watching) (code : ℕ) (entry : Watch) : Type 0 where
   pub attached : entry.clause < length w.clauses
   pub blocks : has (clause_at w.clauses entry.clause) entry.blocker ≡ true
-  pub binary : entry.is_binary ≡ true → (l : ℕ) → has (clause_at w.clauses entry.clause) l ≡ true → (l ≡ code) ⊎ (l ≡ entry.blocker)
+  pub binary : entry.is_binary ≡ true → (l : ℕ) → has (clause_at w.clauses entry.clause) l ≡ true
+      → (l ≡ code) ⊎ (l ≡ entry.blocker)
   pub pair : IsPairIn (clause_at w.clauses entry.clause) (pair_of w entry.clause)
 
 pub record IsWatching (w : Watching) : Type 0 where
@@ -63,7 +87,9 @@ abbrev pub head_of : Visits → ℕ → ℕ
 head_of v n = slice_index_or v.heads n v.head
 
 abbrev pub IsVisited : Assigned → Visits → List ℕ → ℕ → Type 0
-IsVisited a v c code = (n : ℕ) → n ≤ length a.starts → has (take (head_of v n) a.lits) (complement code) ≡ true → HasTrue (take (end_of a n) a.lits) c
+IsVisited a v c code =
+    (n : ℕ) → n ≤ length a.starts → has (take (head_of v n) a.lits) (complement code) ≡ true
+    → HasTrue (take (end_of a n) a.lits) c
 
 -- a literal that the clause watches
 pub record IsWatched (a : Assigned) (v : Visits) (w : Watching) (k code : ℕ) : Type 0 where
@@ -72,7 +98,7 @@ pub record IsWatched (a : Assigned) (v : Visits) (w : Watching) (k code : ℕ) :
   pub visited : IsVisited a v (clause_at w.clauses k) code
 
 pub record IsPaired (a : Assigned) (v : Visits) (w : Watching) (k : ℕ) : Type 0 where
-  pub apart : (pair_of w k).first ≡ (pair_of w k).second → ⊥
+  pub apart : AreApart (pair_of w k)
   pub first : IsWatched a v w k (pair_of w k).first
   pub second : IsWatched a v w k (pair_of w k).second
 
@@ -95,11 +121,16 @@ pub record Grown (old new : Assigned) : Type 0 where
   pub more : List ℕ
   pub why : List ℕ
   pub counted : length why ≡ length more
-  pub is : new ≡ record { vars = old.vars; lits = old.lits ++ more; reasons = old.reasons ++ map Some why; starts = old.starts }
+  pub is : new ≡ record {
+    vars = old.vars;
+    lits = old.lits ++ more;
+    reasons = old.reasons ++ map Some why;
+    starts = old.starts;
+  }
 
 -- the reasons are reasons
 abbrev pub AreReasons : List (List ℕ) → Assigned → Type 0
-AreReasons clauses a = (k at : ℕ) → k < length a.lits → slice_index_or a.reasons k None ≡ Some at → IsReason clauses (take k a.lits) (slice_index a.lits k) at
+AreReasons clauses a = AreReasoned clauses a.lits a.reasons
 
 pub record Keeps (a b : Assigned) (w x : Watching) : Type 0 where
   pub grown : Grown a b
@@ -110,7 +141,8 @@ pub record Keeps (a b : Assigned) (w x : Watching) : Type 0 where
 
 -- the clauses of the first so many entries of a literal have a true literal
 abbrev pub AreTrue : Assigned → Watching → ℕ → ℕ → Type 0
-AreTrue a w code n = AllByRecursion (λ entry. HasTrue a.lits (clause_at w.clauses entry.clause)) (take n (list_of w code))
+AreTrue a w code n =
+    AllByRecursion (λ entry. HasTrue a.lits (clause_at w.clauses entry.clause)) (take n (list_of w code))
 
 -- the entry at this place of a literal's list is gone, and the clause watches another literal in its place
 pub record Shifted (w x : Watching) (code at : ℕ) : Type 0 where

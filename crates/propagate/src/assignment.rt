@@ -2,6 +2,7 @@
 ghost use Rattle.std.specs.Prelude.{◌≡◌, ℕ, ◌+◌, ◌-◌, ◌*◌, ◌/◌, ◌<◌, ◌≤◌, ◌^◌, [], ◌∷◌, ◌++◌, length, take, slice_index, slice_index_or, IfOk, OnOk, IfSome, IfNone, Some, None, false};
 ghost use Rattle.clause_pool.specs.Literal.{complement};
 ghost use Rattle.clause_pool.specs.Clause.{has};
+ghost use Rattle.propagate.specs.Trail.{IsAbsent, AreRising};
 ghost use Rattle.propagate.specs.Assignment.{IsAssigned, none_assigned, with_literal, with_level, first_literals, first_levels, cut_to, value_over, end_of};
 
 use clause_pool::Lit;
@@ -9,7 +10,8 @@ use pb_base::Memory;
 use std::alloc::Global;
 use std::marker::Model;
 
-/// The literals that are true: a trail, with the truth of each literal and the place of each variable beside it.
+/// The literals that are true: a trail, with the truth of each literal and the place of each variable beside
+/// it.
 #[derive(Drop)]
 pub(crate) struct Assignment {
     // By the code of a literal.
@@ -27,10 +29,25 @@ impl Model for Assignment {
 
     ghost Value = { Assigned };
 
-    ghost view = { λ a. record { vars = length a.places.items; lits = a.lits.items; reasons = a.reasons.items; starts = a.starts.items } };
+    ghost view = { λ a. record {
+      vars = length a.places.items;
+      lits = a.lits.items;
+      reasons = a.reasons.items;
+      starts = a.starts.items;
+    } };
 
-    ghost invariant = { λ a. IsAssigned (record { vars = length a.places.items; lits = a.lits.items; reasons = a.reasons.items; starts = a.starts.items })
-        × AreTables a.values.items a.places.items (record { vars = length a.places.items; lits = a.lits.items; reasons = a.reasons.items; starts = a.starts.items })
+    ghost invariant = { λ a. IsAssigned (record {
+      vars = length a.places.items;
+      lits = a.lits.items;
+      reasons = a.reasons.items;
+      starts = a.starts.items;
+    })
+        × AreTables a.values.items a.places.items (record {
+          vars = length a.places.items;
+          lits = a.lits.items;
+          reasons = a.reasons.items;
+          starts = a.starts.items;
+        })
         × (length a.places.items < 2 ^ 31)
         × (length a.places.items ≤ vec_capacity a.lits)
         × (length a.places.items ≤ vec_capacity a.reasons)
@@ -38,7 +55,8 @@ impl Model for Assignment {
 }
 
 impl Assignment {
-    /// Nothing is true. The room for all variables and as many levels is made here; there is none for 2^31 variables.
+    /// Nothing is true. The room for all variables and as many levels is made here; there is none for 2^31
+    /// variables.
     pub(crate) fn new(alloc: Global, vars: u32) -> Result<Assignment, Memory>
         ensures none { IfOk result (λ a. a ≡ none_assigned vars) }
         ensures small { OnOk result (vars < 2 ^ 31) }
@@ -70,6 +88,14 @@ impl Assignment {
         ensures small { self.now.vars < 2 ^ 31 }
     {
         &self.lits
+    }
+
+    /// What is known of every assignment; the call does nothing.
+    pub(crate) fn assigned_law(&self)
+        ensures assigned { IsAssigned self.now }
+        ensures small { self.now.vars < 2 ^ 31 }
+    {
+        let _lits = &self.lits;
     }
 
     /// The number of levels.
@@ -138,7 +164,7 @@ impl Assignment {
         ensures within { IfSome result (λ place. place < length self.now.lits) }
         ensures variable { IfSome result (λ place. slice_index self.now.lits place / 2 ≡ var) }
         ensures assigned { IsAssigned self.now }
-        ensures none { IfNone result ((k : ℕ) → k < length self.now.lits → slice_index self.now.lits k / 2 ≡ var → ⊥) }
+        ensures none { IfNone result (IsAbsent self.now.lits var) }
     {
         match self.values[2 * var as usize] {
             Some(_) => Some(self.places[var as usize] as usize),
@@ -197,7 +223,8 @@ impl Assignment {
     /// Takes the last literal back.
     fn take_last(&mut self)
         requires some { 0 < length self.old.lits }
-        requires within { (i : ℕ) → i < length self.old.starts → slice_index self.old.starts i < length self.old.lits }
+        requires within { (i : ℕ) → i < length self.old.starts
+            → slice_index self.old.starts i < length self.old.lits }
         ensures { self.new ≡ first_literals self.old (length self.old.lits - 1) }
     {
         let lit = self.lits.pop().unwrap();
@@ -232,7 +259,7 @@ impl Assignment {
         ensures { self.new ≡ cut_to self.old level }
     {
         let end = self.end_of(level);
-        self.lits();
+        self.assigned_law();
         self.keep_levels(level);
         self.keep_literals(end);
     }
@@ -240,10 +267,11 @@ impl Assignment {
 
 /// How many of these rising numbers aren't above this one.
 fn count_upto(starts: &[u32], place: usize) -> usize
-    requires { (i j : ℕ) → i ≤ j → j < length starts.now → slice_index starts.now i ≤ slice_index starts.now j }
+    requires { AreRising starts.now }
     ensures count { result ≤ length starts.now }
     ensures upto { (m : ℕ) → m < result → slice_index starts.now m ≤ place }
-    ensures above { (m : ℕ) → result ≤ m → m < length starts.now → place < slice_index starts.now m }
+    ensures above { (m : ℕ) → result ≤ m → m < length starts.now
+        → place < slice_index starts.now m }
 {
     starts.partition_point(|start| *start as usize <= place)
 }

@@ -5,7 +5,7 @@ ghost use Rattle.clause_pool.specs.Clause.{has};
 ghost use Rattle.propagate.specs.Trail.{IsTrail, AllFalse, level, end_of, upto};
 ghost use Rattle.propagate.specs.Quiet.{Quiet, IsConsistent};
 ghost use Rattle.propagate.specs.Engine.{empty_trail, Extends, with_assumed, cut, IsOpenAbove, IsOpen, IsLevelOf};
-ghost use Rattle.propagate.specs.Assignment.{IsAssigned, value_over};
+ghost use Rattle.propagate.specs.Assignment.{IsAssigned, AreLiteralsOf, value_over};
 ghost use Rattle.propagate.specs.Visiting.{scene, IsConflict};
 ghost use Rattle.propagate.specs.Running.{Ran};
 ghost use Rattle.propagate.specs.Joining.{Joined, trail_of};
@@ -43,15 +43,21 @@ impl Model for Engine {
 
     ghost Value = { Trail };
 
-    ghost view = { λ e. record { vars = e.assignment.vars; clauses = e.watched.clauses; lits = e.assignment.lits; reasons = e.assignment.reasons; starts = e.assignment.starts } };
+    ghost view = { λ e. record {
+      vars = e.assignment.vars;
+      clauses = e.watched.clauses;
+      lits = e.assignment.lits;
+      reasons = e.assignment.reasons;
+      starts = e.assignment.starts;
+    } };
 
     ghost invariant = { λ e. IsEngine (scene e.assignment e.watched) (visits e.heads.items e.head) e.refuted
         × (e.assignment.vars ≤ vec_capacity e.heads) };
 }
 
 impl Engine {
-    /// An engine of so many variables, with no clause attached and nothing true. The room for all of them and as many
-    /// levels is made here.
+    /// An engine of so many variables, with no clause attached and nothing true. The room for all of them and
+    /// as many levels is made here.
     pub fn new(alloc: Global, vars: u32) -> Result<Engine, Memory>
         ensures { IfOk result (λ e. e ≡ empty_trail vars) }
     {
@@ -73,11 +79,13 @@ impl Engine {
         self.assignment.value(lit.code() as u32)
     }
 
-    /// The clause that made a variable's literal true; none where the variable is open or its literal was assumed.
+    /// The clause that made a variable's literal true; none where the variable is open or its literal was
+    /// assumed.
     #[tactic(auto, using(crate::proofs::TakeLaws::one_place))]
     pub fn reason(&self, var: u32) -> Option<Ref>
         requires { var < self.now.vars }
-        ensures reason { (k : ℕ) → k < length self.now.lits → slice_index self.now.lits k / 2 ≡ var → result ≡ slice_index_or self.now.reasons k None }
+        ensures reason { (k : ℕ) → k < length self.now.lits → slice_index self.now.lits k / 2 ≡ var
+            → result ≡ slice_index_or self.now.reasons k None }
         ensures open_variable { IsOpen self.now var → result ≡ None }
     {
         let Some(place) = self.assignment.place_of(var) else {
@@ -134,19 +142,22 @@ impl Engine {
         self.watched.count()
     }
 
-    /// Attaches the next clause of a pool; a literal that it forces may become true at once. On want of memory the engine
-    /// is as before. There is no room for 2^32 clauses.
+    /// Attaches the next clause of a pool; a literal that it forces may become true at once. On want of
+    /// memory the engine is as before. There is no room for 2^32 clauses.
     pub fn attach(&mut self, pool: &Pool, at: Ref) -> Result<(), Memory>
         requires next { at ≡ length self.old.clauses }
         requires there { at < length pool.now.clauses }
-        requires below { (l : ℕ) → has (slice_index_or pool.now.clauses at []) l ≡ true → l < 2 * self.old.vars }
-        requires open_above { 0 < level self.old → IsOpenAbove self.old (slice_index_or pool.now.clauses at []) }
-        ensures clauses { OnOk result (self.new.clauses ≡ self.old.clauses ++ slice_index_or pool.now.clauses at [] ∷ []) }
+        requires below { (l : ℕ) → has (slice_index_or pool.now.clauses at []) l ≡ true
+            → l < 2 * self.old.vars }
+        requires open_above { 0 < level self.old
+            → IsOpenAbove self.old (slice_index_or pool.now.clauses at []) }
+        ensures clauses { OnOk result
+            (self.new.clauses ≡ self.old.clauses ++ slice_index_or pool.now.clauses at [] ∷ []) }
         ensures extends { Extends self.old self.new }
         ensures trail { IsTrail self.new }
         ensures err { OnErr result (self.new ≡ self.old) }
     {
-        self.assignment.lits();
+        self.assignment.assigned_law();
         let Ok(clause) = u32::try_from(at) else {
             return Err(Memory);
         };
@@ -168,7 +179,7 @@ impl Engine {
         requires room { level self.old < self.old.vars }
         ensures { self.new ≡ with_assumed self.old lit }
     {
-        self.assignment.lits();
+        self.assignment.assigned_law();
         let code = lit.code() as u32;
         self.heads.push(self.head).unwrap();
         self.assignment.open_level();
@@ -191,20 +202,21 @@ impl Engine {
         ensures level { result ≡ level self.now }
         ensures trail { IsTrail self.now }
     {
-        self.assignment.lits();
+        self.assignment.assigned_law();
         self.assignment.level() as u32
     }
 
-    /// Makes true what the attached clauses force, up to the first clause that is false, whose place is given.
+    /// Makes true what the attached clauses force, up to the first clause that is false; its place is given.
     pub fn propagate(&mut self, pool: &Pool) -> Result<Option<Ref>, Memory>
         requires { pool.now.clauses ≡ self.old.clauses }
         ensures clauses { self.new.clauses ≡ self.old.clauses }
         ensures extends { Extends self.old self.new }
-        ensures conflict { IfOk result (λ found. IfSome found (λ at. AllFalse self.new.lits (slice_index_or self.new.clauses at []))) }
+        ensures conflict { IfOk result (λ found. IfSome found (λ at.
+            AllFalse self.new.lits (slice_index_or self.new.clauses at []))) }
         ensures attached { IfOk result (λ found. IfSome found (λ at. at < length self.new.clauses)) }
         ensures quiet { result ≡ Ok None → Quiet self.new.clauses self.new.lits }
     {
-        self.assignment.lits();
+        self.assignment.assigned_law();
         if let Some(clause) = self.refuted {
             return Ok(Some(clause as usize));
         }
@@ -215,16 +227,18 @@ impl Engine {
         Ok(Some(clause as usize))
     }
 
-    /// The same by going through all clauses again and again, which is slow: what `propagate` means. It takes no memory.
+    /// The same by going through all clauses again and again, which is slow: what `propagate` means. It takes
+    /// no memory.
     pub fn propagate_plainly(&mut self, pool: &Pool) -> Option<Ref>
         requires { pool.now.clauses ≡ self.old.clauses }
         ensures clauses { self.new.clauses ≡ self.old.clauses }
         ensures extends { Extends self.old self.new }
-        ensures conflict { IfSome result (λ at. AllFalse self.new.lits (slice_index_or self.new.clauses at [])) }
+        ensures conflict { IfSome result (λ at.
+            AllFalse self.new.lits (slice_index_or self.new.clauses at [])) }
         ensures attached { IfSome result (λ at. at < length self.new.clauses) }
         ensures quiet { result ≡ None → Quiet self.new.clauses self.new.lits }
     {
-        self.assignment.lits();
+        self.assignment.assigned_law();
         run_plainly(&mut self.assignment, pool)
     }
 
@@ -234,7 +248,7 @@ impl Engine {
         ensures { self.new ≡ cut self.old n }
     {
         let n = n as usize;
-        self.assignment.lits();
+        self.assignment.assigned_law();
         if n < self.heads.len() {
             self.head = self.heads[n];
             self.heads.truncate(n);
@@ -250,7 +264,8 @@ fn run(
     head: &mut usize,
 ) -> Result<Option<u32>, Memory>
     requires codes { length watched.old.lists ≡ assignment.old.vars + assignment.old.vars }
-    ensures ran { Ran (scene assignment.old watched.old) (scene assignment.new watched.new) head.old head.new }
+    ensures ran { Ran (scene assignment.old watched.old) (scene assignment.new watched.new)
+        head.old head.new }
     ensures conflict { IfOk result (λ found. IfSome found (IsConflict (scene assignment.new watched.new))) }
     ensures finished { result ≡ Ok None → length assignment.new.lits ≤ head.new }
     ensures consistent { result ≡ Ok None → IsConsistent assignment.new.lits }
@@ -274,19 +289,22 @@ fn join(
     clause: u32,
 ) -> Result<bool, Memory>
     requires codes { length watched.old.lists ≡ assignment.old.vars + assignment.old.vars }
-    requires below { (l : ℕ) → has lits.now l ≡ true → l < assignment.old.vars + assignment.old.vars }
+    requires below { AreLiteralsOf assignment.old lits.now }
     requires small { All (λ l. l < 2 ^ 32) lits.now }
     requires place { clause ≡ length watched.old.clauses }
-    requires open_above { 0 < length assignment.old.starts → IsOpenAbove (trail_of (scene assignment.old watched.old)) lits.now }
-    ensures joined { OnOk result (Joined (scene assignment.old watched.old) (scene assignment.new watched.new) lits.now) }
+    requires open_above { 0 < length assignment.old.starts
+        → IsOpenAbove (trail_of (scene assignment.old watched.old)) lits.now }
+    ensures joined { OnOk result
+        (Joined (scene assignment.old watched.old) (scene assignment.new watched.new) lits.now) }
     ensures held { result ≡ Ok true → (v : Visits) → IsVisiting assignment.old v
         → IsHeld assignment.new v watched.new (length watched.old.clauses) }
-    ensures refuted { result ≡ Ok false → AllFalse (upto (trail_of (scene assignment.new watched.new)) 0) lits.now }
+    ensures refuted { result ≡ Ok false
+        → AllFalse (upto (trail_of (scene assignment.new watched.new)) 0) lits.now }
     ensures assigned { IsAssigned assignment.new }
     ensures same_literals { OnErr result (assignment.new ≡ assignment.old) }
     ensures same_clauses { OnErr result (watched.new ≡ watched.old) }
 {
-    assignment.lits();
+    assignment.assigned_law();
     let Some(first) = first_open(assignment, lits) else {
         watched.push_plain(lits)?;
         return Ok(false);

@@ -1,9 +1,9 @@
 //! Unit propagation by going through all clauses again and again, as its definition has it.
-ghost use Rattle.std.specs.Prelude.{◌≡◌, ◌+◌, ◌<◌, ◌≤◌, ◌^◌, [], ℕ, length, slice_index_or, IfSome, true, None};
-ghost use Rattle.clause_pool.specs.Clause.{has};
+ghost use Rattle.std.specs.Prelude.{◌≡◌, ◌<◌, ◌≤◌, ◌^◌, ℕ, length, IfSome, None};
 ghost use Rattle.propagate.specs.Trail.{AllFalse};
 ghost use Rattle.propagate.specs.Quiet.{Quiet};
-ghost use Rattle.propagate.specs.Watching.{Grown, AreReasons};
+ghost use Rattle.propagate.specs.Watching.{Grown, AreReasons, clause_at};
+ghost use Rattle.propagate.specs.Assignment.{AreLiteralsOf};
 ghost use Rattle.propagate.specs.Plain.{Says};
 
 use crate::assignment::Assignment;
@@ -22,10 +22,10 @@ pub(crate) enum Saying {
 
 /// What a clause says.
 fn said_by(assignment: &Assignment, lits: &[Lit]) -> Saying
-    requires { (l : ℕ) → has lits.now l ≡ true → l < assignment.now.vars + assignment.now.vars }
+    requires { AreLiteralsOf assignment.now lits.now }
     ensures { Says assignment.now.lits lits.now result }
 {
-    assignment.lits();
+    assignment.assigned_law();
     let Some(first) = first_open(assignment, lits) else {
         return Saying::Conflict;
     };
@@ -37,12 +37,13 @@ fn said_by(assignment: &Assignment, lits: &[Lit]) -> Saying
 
 /// Makes true what the clauses of a pool force, up to the first clause that is false.
 pub(crate) fn run_plainly(assignment: &mut Assignment, pool: &Pool) -> Option<Ref>
-    requires below { (k l : ℕ) → has (slice_index_or pool.now.clauses k []) l ≡ true → l < assignment.old.vars + assignment.old.vars }
+    requires below { (k : ℕ) → AreLiteralsOf assignment.old (clause_at pool.now.clauses k) }
     requires few { length pool.now.clauses ≤ 2 ^ 32 }
     ensures grown { Grown assignment.old assignment.new }
-    ensures reasoned { AreReasons pool.now.clauses assignment.old → AreReasons pool.now.clauses assignment.new }
+    ensures reasoned { AreReasons pool.now.clauses assignment.old
+        → AreReasons pool.now.clauses assignment.new }
     ensures attached { IfSome result (λ at. at < length pool.now.clauses) }
-    ensures conflict { IfSome result (λ at. AllFalse assignment.new.lits (slice_index_or pool.now.clauses at [])) }
+    ensures conflict { IfSome result (λ at. AllFalse assignment.new.lits (clause_at pool.now.clauses at)) }
     ensures quiet { result ≡ None → Quiet pool.now.clauses assignment.new.lits }
 {
     let mut at = 0;
@@ -60,6 +61,6 @@ pub(crate) fn run_plainly(assignment: &mut Assignment, pool: &Pool) -> Option<Re
             }
         }
     }
-    assignment.lits();
+    assignment.assigned_law();
     None
 }

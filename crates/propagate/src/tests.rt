@@ -170,7 +170,7 @@ fn drawn_literal(numbers: &mut Numbers) -> Lit {
     Lit::new(drawn(numbers, 8), drawn(numbers, 2) == 0)
 }
 
-// One drawn call: a clause more, a level more, levels taken back, or propagation in both. Whether the two agree.
+// One drawn call: a clause more, a level more, levels taken back, or propagation in both. Whether they agree.
 fn step(
     numbers: &mut Numbers,
     pool: &mut Pool,
@@ -265,8 +265,8 @@ fn is_of(trail: &[Lit], letters: &[u8]) -> bool {
     true
 }
 
-// Goes back to this level, assumes the letter's literal and propagates, in both: whether they agree, and the trail is of
-// these letters.
+// Goes back to this level, assumes the letter's literal and propagates, in both: whether they agree, and the
+// trail is of these letters.
 fn comes_to(
     pool: &Pool,
     fast: &mut Engine,

@@ -4,8 +4,8 @@ ghost use Rattle.std.specs.Bool.{OnTrue, OnFalse};
 ghost use Rattle.clause_pool.specs.Literal.{complement};
 ghost use Rattle.clause_pool.specs.Clause.{has};
 ghost use Rattle.propagate.specs.Trail.{OthersFalse, AllFalse, IsReason};
-ghost use Rattle.propagate.specs.Assignment.{IsAssigned};
-ghost use Rattle.propagate.specs.Visiting.{scene, Looks, IsConflict, AreTrueIn, entries_of};
+ghost use Rattle.propagate.specs.Assignment.{IsAssigned, AreLiteralsOf};
+ghost use Rattle.propagate.specs.Visiting.{scene, Looks, IsConflict, AllTrueIn};
 ghost use Rattle.propagate.specs.Watching.{Grown, AreReasons, Keeps, AreTrue, EntryFits, clause_at, pair_of, list_of};
 
 use crate::assignment::Assignment;
@@ -34,7 +34,7 @@ pub(crate) fn literal(code: u32) -> Lit
 /// The first literal of a clause that isn't false, and isn't the one that is left out.
 #[inline(always)]
 pub(crate) fn other_open(assignment: &Assignment, codes: &[u32], left_out: u32) -> Option<u32>
-    requires { (l : ℕ) → has codes.now l ≡ true → l < assignment.now.vars + assignment.now.vars }
+    requires { AreLiteralsOf assignment.now codes.now }
     ensures is_in { IfSome result (λ l. has codes.now l ≡ true) }
     ensures apart { IfSome result (λ l. left_out ≡ l → ⊥) }
     ensures not_false { IfSome result (λ l. has assignment.now.lits (complement l) ≡ false) }
@@ -96,7 +96,8 @@ pub(crate) fn look(
     requires is_false { has assignment.old.lits (complement code) ≡ true }
     requires there { at < length (list_of watched.old code) }
     ensures keeps { Keeps assignment.old assignment.new watched.old watched.new }
-    ensures looks { IfOk result (Looks (scene assignment.old watched.old) (scene assignment.new watched.new) code at) }
+    ensures looks { IfOk result
+        (Looks (scene assignment.old watched.old) (scene assignment.new watched.new) code at) }
 {
     let entry = watched.entry(code, at);
     if assignment.is_true(entry.blocker) {
@@ -123,7 +124,8 @@ fn look_further(
     requires is_false { has assignment.old.lits (complement code) ≡ true }
     requires there { at < length (list_of watched.old code) }
     ensures keeps { Keeps assignment.old assignment.new watched.old watched.new }
-    ensures looks { IfOk result (Looks (scene assignment.old watched.old) (scene assignment.new watched.new) code at) }
+    ensures looks { IfOk result
+        (Looks (scene assignment.old watched.old) (scene assignment.new watched.new) code at) }
 {
     let clause = watched.entry(code, at).clause;
     let other = watched.other_of(clause, code);
@@ -151,7 +153,7 @@ pub(crate) fn visit(
     requires is_false { has assignment.old.lits (complement code) ≡ true }
     ensures keeps { Keeps assignment.old assignment.new watched.old watched.new }
     ensures conflict { IfOk result (λ found. IfSome found (IsConflict (scene assignment.new watched.new))) }
-    ensures all_true { result ≡ Ok None → AreTrueIn (scene assignment.new watched.new) code (entries_of (scene assignment.new watched.new) code) }
+    ensures all_true { result ≡ Ok None → AllTrueIn (scene assignment.new watched.new) code }
 {
     let mut at = 0;
     while at < watched.len_of(code) {

@@ -1,14 +1,15 @@
 //! Which clauses are looked at when a literal becomes false.
-ghost use Rattle.std.specs.Prelude.{◌≡◌, ◌-◌, ◌<◌, ◌++◌, take, [], ◌∷◌, length, slice_index_or, slice_set, IfOk, OnOk, OnErr, Some, slice_get, ℕ};
+ghost use Rattle.std.specs.Prelude.{◌≡◌, ◌<◌, [], ℕ, length, slice_get, slice_index_or, slice_set, IfOk, OnOk, OnErr, Some};
 ghost use Rattle.std.specs.List.{swap_remove};
-ghost use Rattle.propagate.specs.Attaching.{pushed_at};
+ghost use Rattle.propagate.specs.Attaching.{pushed_at, popped_at};
+ghost use Rattle.propagate.specs.Watching.{list_in};
 
 use pb_base::Memory;
 use std::alloc::Global;
 use std::marker::Model;
 
-/// An entry of a literal's list: a clause that watches the literal, and another literal of that clause. Where that one is
-/// true, the clause has nothing to say.
+/// An entry of a literal's list: a clause that watches the literal, and another literal of that clause. Where
+/// that one is true, the clause has nothing to say.
 #[derive(Clone, Copy)]
 pub(crate) struct Watch {
     pub(crate) clause: u32,
@@ -43,7 +44,7 @@ impl WatchLists {
     /// So many empty lists.
     pub(crate) fn new(alloc: Global, literals: usize) -> Result<WatchLists, Memory>
         ensures count { IfOk result (λ w. length w ≡ literals) }
-        ensures empty { IfOk result (λ w. (code : ℕ) → slice_index_or w code [] ≡ []) }
+        ensures empty { IfOk result (λ w. (code : ℕ) → list_in w code ≡ []) }
     {
         let mut lists = Vec::with_capacity(alloc, literals)?;
         for _ in 0..literals {
@@ -56,7 +57,7 @@ impl WatchLists {
     #[inline(always)]
     pub(crate) fn len_of(&self, code: u32) -> usize
         requires { code < length self.now }
-        ensures { result ≡ length (slice_index_or self.now code []) }
+        ensures { result ≡ length (list_in self.now code) }
     {
         self.lists[code as usize].len()
     }
@@ -65,8 +66,8 @@ impl WatchLists {
     #[inline(always)]
     pub(crate) fn entry(&self, code: u32, at: usize) -> Watch
         requires list { code < length self.now }
-        requires there { at < length (slice_index_or self.now code []) }
-        ensures { slice_get (slice_index_or self.now code []) at ≡ Some result }
+        requires there { at < length (list_in self.now code) }
+        ensures { slice_get (list_in self.now code) at ≡ Some result }
     {
         self.lists[code as usize][at]
     }
@@ -75,7 +76,7 @@ impl WatchLists {
     #[inline(always)]
     pub(crate) fn push(&mut self, code: u32, watch: Watch) -> Result<(), Memory>
         requires { code < length self.old }
-        ensures ok { OnOk result (self.new ≡ slice_set self.old code (slice_index_or self.old code [] ++ watch ∷ [])) }
+        ensures ok { OnOk result (self.new ≡ pushed_at self.old code watch) }
         ensures err { OnErr result (self.new ≡ self.old) }
     {
         let Ok(()) = self.lists[code as usize].push(watch) else {
@@ -87,7 +88,7 @@ impl WatchLists {
     /// Takes the last entry of a literal back.
     fn pop(&mut self, code: u32)
         requires { code < length self.old }
-        ensures { self.new ≡ slice_set self.old code (take (length (slice_index_or self.old code []) - 1) (slice_index_or self.old code [])) }
+        ensures { self.new ≡ popped_at self.old code }
     {
         self.lists[code as usize].pop();
     }
@@ -102,7 +103,8 @@ impl WatchLists {
     ) -> Result<(), Memory>
         requires first { first < length self.old }
         requires second { second < length self.old }
-        ensures ok { OnOk result (self.new ≡ pushed_at (pushed_at self.old first first_watch) second second_watch) }
+        ensures ok { OnOk result
+            (self.new ≡ pushed_at (pushed_at self.old first first_watch) second second_watch) }
         ensures err { OnErr result (self.new ≡ self.old) }
     {
         self.push(first, first_watch)?;
@@ -117,9 +119,9 @@ impl WatchLists {
     #[inline(always)]
     pub(crate) fn remove(&mut self, code: u32, at: usize) -> Watch
         requires list { code < length self.old }
-        requires there { at < length (slice_index_or self.old code []) }
-        ensures entry { slice_index_or (slice_index_or self.old code []) at result ≡ result }
-        ensures lists { self.new ≡ slice_set self.old code (swap_remove (slice_index_or self.old code []) at result) }
+        requires there { at < length (list_in self.old code) }
+        ensures entry { slice_index_or (list_in self.old code) at result ≡ result }
+        ensures lists { self.new ≡ slice_set self.old code (swap_remove (list_in self.old code) at result) }
     {
         self.lists[code as usize].swap_remove(at)
     }

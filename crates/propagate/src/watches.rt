@@ -1,7 +1,8 @@
 //! The clauses with what each watches.
-ghost use Rattle.std.specs.Prelude.{◌≡◌, ◌⊎◌, ◌+◌, ◌^◌, ◌<◌, ◌≤◌, All, [], ◌∷◌, ◌++◌, ℕ, length, slice_index_or, slice_get, IfOk, OnOk, OnErr, Some, true, false};
-ghost use Rattle.clause_pool.specs.Clause.{has};
-ghost use Rattle.propagate.specs.Watching.{IsWatching, EntryFits, IsPairIn, Shifted, Watches, IsListed, clause_at, pair_of, list_of};
+ghost use Rattle.std.specs.Prelude.{◌≡◌, ◌^◌, ◌<◌, All, [], ℕ, length, IfOk, OnOk, OnErr};
+ghost use Rattle.propagate.specs.Trail.{AreBelow};
+ghost use Rattle.propagate.specs.Watching.{IsWatching, EntryFits, IsPairIn, AreApart, IsOneOf, Shifted};
+ghost use Rattle.propagate.specs.Watching.{Watches, IsListed, IsEntryAt, HasAt, clause_at, pair_of, no_pair, list_of};
 ghost use Rattle.propagate.specs.Attaching.{Attached};
 
 use crate::clause_store::ClauseStore;
@@ -11,7 +12,8 @@ use pb_base::Memory;
 use std::alloc::Global;
 use std::marker::Model;
 
-/// The attached clauses, the two literals that each watches, and for each literal the entries of those that watch it.
+/// The attached clauses, the two literals that each watches, and for each literal the entries of those that
+/// watch it.
 #[derive(Drop)]
 pub(crate) struct WatchedClauses {
     store: ClauseStore,
@@ -26,7 +28,8 @@ impl Model for WatchedClauses {
 
     ghost view = { λ w. record { clauses = w.store; watched = w.watched.items; lists = w.lists } };
 
-    ghost invariant = { λ w. IsWatching (record { clauses = w.store; watched = w.watched.items; lists = w.lists }) };
+    ghost invariant = { λ w.
+        IsWatching (record { clauses = w.store; watched = w.watched.items; lists = w.lists }) };
 }
 
 impl WatchedClauses {
@@ -63,7 +66,7 @@ impl WatchedClauses {
     pub(crate) fn entry(&self, code: u32, at: usize) -> Watch
         requires list { code < length self.now.lists }
         requires there { at < length (list_of self.now code) }
-        ensures entry { slice_get (list_of self.now code) at ≡ Some result }
+        ensures entry { IsEntryAt self.now code at result }
         ensures fits { EntryFits self.now code result }
         ensures watching { IsWatching self.now }
     {
@@ -75,7 +78,7 @@ impl WatchedClauses {
     pub(crate) fn codes(&self, clause: u32) -> &[u32]
         requires { clause < length self.now.clauses }
         ensures codes { result.now ≡ clause_at self.now.clauses clause }
-        ensures below { (l : ℕ) → has result.now l ≡ true → l < length self.now.lists }
+        ensures below { AreBelow result.now (length self.now.lists) }
     {
         self.store.codes(clause)
     }
@@ -84,8 +87,8 @@ impl WatchedClauses {
     #[inline(always)]
     pub(crate) fn other_of(&self, clause: u32, code: u32) -> u32
         requires { clause < length self.now.clauses }
-        ensures pair { (result ≡ (pair_of self.now clause).first) ⊎ (result ≡ (pair_of self.now clause).second) }
-        ensures other { ((pair_of self.now clause).first ≡ (pair_of self.now clause).second → ⊥) → result ≡ code → ⊥ }
+        ensures pair { IsOneOf (pair_of self.now clause) result }
+        ensures other { AreApart (pair_of self.now clause) → result ≡ code → ⊥ }
     {
         let pair = self.watched[clause as usize];
         if pair.first == code {
@@ -97,9 +100,9 @@ impl WatchedClauses {
 
     /// A further clause, which has no entries. On want of memory nothing changes.
     pub(crate) fn push_plain(&mut self, lits: &[Lit]) -> Result<(), Memory>
-        requires below { (l : ℕ) → has lits.now l ≡ true → l < length self.old.lists }
+        requires below { AreBelow lits.now (length self.old.lists) }
         requires small { All (λ l. l < 2 ^ 32) lits.now }
-        ensures attached { OnOk result (Attached self.old self.new lits.now (record { first = 0; second = 0 })) }
+        ensures attached { OnOk result (Attached self.old self.new lits.now no_pair) }
         ensures err { OnErr result (self.new ≡ self.old) }
     {
         self.watched.reserve(1)?;
@@ -114,7 +117,7 @@ impl WatchedClauses {
 
     /// A further clause, which watches these two of its literals. On want of memory nothing changes.
     pub(crate) fn push_pair(&mut self, lits: &[Lit], pair: Watched) -> Result<(), Memory>
-        requires below { (l : ℕ) → has lits.now l ≡ true → l < length self.old.lists }
+        requires below { AreBelow lits.now (length self.old.lists) }
         requires small { All (λ l. l < 2 ^ 32) lits.now }
         requires pair { IsPairIn lits.now pair }
         requires place { length self.old.clauses < 2 ^ 32 }
@@ -145,7 +148,8 @@ impl WatchedClauses {
         Ok(())
     }
 
-    /// A clause watches this literal in place of the one of whose list its entry is. On want of memory nothing changes.
+    /// A clause watches this literal in place of the one of whose list its entry is. On want of memory
+    /// nothing changes.
     #[inline(always)]
     pub(crate) fn shift(
         &mut self,
@@ -157,13 +161,14 @@ impl WatchedClauses {
         requires list { code < length self.old.lists }
         requires there { at < length (list_of self.old code) }
         requires fresh_list { fresh < length self.old.lists }
-        requires other_in { (e : Watch) → slice_get (list_of self.old code) at ≡ Some e → has (clause_at self.old.clauses e.clause) other ≡ true }
-        requires fresh_in { (e : Watch) → slice_get (list_of self.old code) at ≡ Some e → has (clause_at self.old.clauses e.clause) fresh ≡ true }
+        requires other_in { HasAt self.old code at other }
+        requires fresh_in { HasAt self.old code at fresh }
         requires apart { other ≡ fresh → ⊥ }
         requires not_code { fresh ≡ code → ⊥ }
         requires other_not_code { other ≡ code → ⊥ }
         ensures shifted { OnOk result (Shifted self.old self.new code at) }
-        ensures watches { OnOk result ((e : Watch) → slice_get (list_of self.old code) at ≡ Some e → Watches self.old self.new e.clause other fresh) }
+        ensures watches { OnOk result ((e : Watch) → IsEntryAt self.old code at e
+            → Watches self.old self.new e.clause other fresh) }
         ensures err { OnErr result (self.new ≡ self.old) }
     {
         let clause = self.lists.entry(code, at).clause;

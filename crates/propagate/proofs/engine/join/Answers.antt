@@ -40,7 +40,7 @@ returns-in-Some-other_late-clause-held c = λ e v visiting.
     c.end_of-end.ensures ∙ ap (λ (n : ℕ). end_of c.args.assignment.now n) (c.saturating_sub.ensures ∙ ap (λ (n : ℕ). n - 1) c.level.ensures.levels) in
     let in_clause : IsPairIn c.args.lits.now (record { first = c.in-Some.first; second = c.in-Some-other_late.second }) = record { first_in = c.in-Some.ensures.is_in; second_in = c.in-Some-other_late.ensures.is_in; apart = c.in-Some-other_late.ensures.apart } in
     held_late c.args.assignment.now c.put_only.new.assignment v c.args.watched.now c.push_pair-in-Some-other_late.new.self c.args.lits.now (record { first = c.in-Some.first; second = c.in-Some-other_late.second }) c.end_of-end.result at c.in_ok-push_pair-2.ensures.attached in_clause
-    c.in_ok-push_pair-2.ensures.first c.in_ok-push_pair-2.ensures.second c.lits.ensures.assigned c.put_only.ensures.grown c.put_only.ensures.assigned.consistent c.put_only.ensures.put c.in-Some-other_late.ensures.late visiting
+    c.in_ok-push_pair-2.ensures.first c.in_ok-push_pair-2.ensures.second c.assigned_law.ensures.assigned c.put_only.ensures.grown c.put_only.ensures.assigned.consistent c.put_only.ensures.put c.in-Some-other_late.ensures.late visiting
 
 pub returns-clause-held : goal.returns-clause-held
 returns-clause-held c = λ e v visiting.

@@ -20,4 +20,4 @@ loop-at-preserved c =
     (c.put_only.ensures.reasoned c.args.pool.now.clauses reason)
 
 pub returns-clause-quiet : goal.returns-clause-quiet
-returns-clause-quiet c = λ e. passed_quiet c.args.pool.now.clauses c.args.assignment.now c.loop-at.assignment c.loop-at.at c.lits-2.ensures.assigned c.loop-at.invariant (omega (arith, c.loop-at-test.false, c.len.ensures))
+returns-clause-quiet c = λ e. passed_quiet c.args.pool.now.clauses c.args.assignment.now c.loop-at.assignment c.loop-at.at c.assigned_law.ensures.assigned c.loop-at.invariant (omega (arith, c.loop-at-test.false, c.len.ensures))

@@ -13,11 +13,11 @@ invariant_of-self c =
     let reasoned : AreReasons c.self.inside.watched.clauses c.run_plainly.new.assignment =
     subst (λ (cs : List (List ℕ)). AreReasons cs c.run_plainly.new.assignment) same (c.run_plainly.ensures.reasoned
     (subst (λ (cs : List (List ℕ)). AreReasons cs c.self.inside.assignment) (sym same) c.self.invariant.0.reasoned)) in (
-      engine_grown c.self.inside.assignment c.run_plainly.new.assignment c.self.inside.watched _ c.self.inside.refuted c.run_plainly.ensures.grown reasoned c.lits.ensures.assigned.reasons_counted c.self.invariant.0,
+      engine_grown c.self.inside.assignment c.run_plainly.new.assignment c.self.inside.watched _ c.self.inside.refuted c.run_plainly.ensures.grown reasoned c.assigned_law.ensures.assigned.reasons_counted c.self.invariant.0,
       omega (arith, c.self.invariant.1, ap (λ (a : Assigned). a.vars) c.run_plainly.ensures.grown.is),
     )
 
 pub returns-clause-extends : goal.returns-clause-extends
 returns-clause-extends c =
     subst (λ (t : Trail). Extends t (record { vars = c.run_plainly.new.assignment.vars; clauses = c.self.inside.watched.clauses; lits = c.run_plainly.new.assignment.lits; reasons = c.run_plainly.new.assignment.reasons; starts = c.run_plainly.new.assignment.starts })) c.self.view_is
-    (extends_grown c.self.inside.assignment c.run_plainly.new.assignment c.self.inside.watched.clauses c.self.inside.watched.clauses c.run_plainly.ensures.grown c.lits.ensures.assigned.reasons_counted)
+    (extends_grown c.self.inside.assignment c.run_plainly.new.assignment c.self.inside.watched.clauses c.self.inside.watched.clauses c.run_plainly.ensures.grown c.assigned_law.ensures.assigned.reasons_counted)
