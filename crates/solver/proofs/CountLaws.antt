@@ -1,8 +1,8 @@
 -- How many clauses can be new one after the other: each has a number in base 3, a digit for each variable.
-use Rattle.std.proofs.Common.{◌≡◌, ◌⊎◌, inl, inr, ℕ, zero, suc, ◌+◌, ◌-◌, ◌*◌, ◌/◌, ◌%◌, ◌^◌, ◌<◌, ◌≤◌, Bool, true, false, not, List, [], ◌∷◌, ◌++◌, Option, Some, None, length, map, take, drop, get_or, eqb, cond, refl, sym, subst, ◌∙◌, ap, arith, length-drop}
+use Rattle.std.proofs.Common.{◌≡◌, ◌⊎◌, inl, inr, ℕ, zero, suc, ◌+◌, ◌*◌, ◌/◌, ◌^◌, ◌<◌, ◌≤◌, Bool, true, false, List, [], ◌∷◌, length, map, take, drop, get_or, eqb, cond, refl, sym, subst, ◌∙◌, ap, arith, length-drop}
 use Rattle.std.proofs.Math.Nat.{pow-suc}
-use Rattle.std.specs.List.{AllByRecursion, IsDistinct, list_any}
-use Rattle.std.proofs.lemmas.Bool.{cases_Bool, cases_eq, cases_order, false≢true, true≢false, eqb-true, ne_eqb, eq-eqb, or_cases}
+use Rattle.std.specs.List.{IsDistinct, list_any}
+use Rattle.std.proofs.lemmas.Bool.{cases_Bool, cases_eq, cases_order, false≢true, eqb-true, ne_eqb, or_cases}
 use Rattle.std.proofs.lemmas.List.{length-map, get_or-map, get_or-take, length-take-le, get_or-drop}
 use Rattle.std.proofs.lemmas.Map.Keys.{IsDistinct-from_apart}
 use Rattle.std.proofs.lemmas.Map.Steps.{length-le_from_distinct_below}
@@ -10,7 +10,7 @@ use Rattle.clause_pool.specs.Literal.{complement}
 use Rattle.clause_pool.specs.Clause.{has, AreBelow}
 use Rattle.clause_pool.proofs.LiteralLaws.{even_or_odd, complement-positive, complement-complement}
 use Rattle.clause_pool.proofs.ClauseLaws.{all_at}
-use Rattle.propagate.specs.Quiet.{Quiet, IsQuietFor}
+use Rattle.propagate.specs.Quiet.{IsQuietFor}
 use Rattle.solver.specs.Answer.{IsNew}
 use Rattle.solver.specs.Search.{AllNew}
 use Rattle.solver.proofs.PoolLaws.{clause_below}

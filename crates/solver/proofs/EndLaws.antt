@@ -1,21 +1,21 @@
 -- What an answer may be believed for.
-use Rattle.std.proofs.Common.{◌≡◌, ◌⊎◌, inl, inr, ℕ, zero, suc, ◌+◌, ◌-◌, ◌*◌, ◌/◌, ◌%◌, ◌<◌, ◌≤◌, Bool, true, false, not, List, [], ◌∷◌, ◌++◌, Option, Some, None, length, take, drop, get_or, refl, sym, subst, ◌∙◌, ap, arith, length-append, length-drop, replicate, cond}
+use Rattle.std.proofs.Common.{◌≡◌, inl, inr, ℕ, zero, suc, ◌+◌, ◌*◌, ◌/◌, ◌%◌, ◌<◌, ◌≤◌, Bool, true, false, not, List, [], ◌∷◌, ◌++◌, Option, Some, None, length, take, drop, get_or, refl, sym, subst, ◌∙◌, ap, arith, length-drop, replicate, cond}
 use Rattle.std.specs.List.{AllByRecursion}
 use Rattle.std.specs.Option.{option_eq}
 use mathlib.Core.Bool.{beq}
-use Rattle.std.proofs.lemmas.Bool.{cases_Bool, cases_eq, false≢true, true≢false}
+use Rattle.std.proofs.lemmas.Bool.{cases_Bool, cases_eq, true≢false}
 use Rattle.std.proofs.lemmas.List.{take_all, take_more, take-take, take-append-drop, drop-append-le, drop-take, get_or-drop, length-take-le, get_or-set_same, get_or-set_other, length-replicate}
 use Rattle.std.proofs.Math.ListN.{set, length-set}
 use Rattle.clause_pool.specs.Literal.{complement, is_true}
 use Rattle.clause_pool.specs.Clause.{has, clause_of, IsRising, Sat, Follows, IsBelow, AreBelow, clause_true}
 use Rattle.clause_pool.specs.Derivation.{Derivation, AllFollow}
-use Rattle.clause_pool.proofs.LiteralLaws.{even_or_odd, is_true-positive, is_true-negative, complement-positive, complement-negative, complement-complement}
+use Rattle.clause_pool.proofs.LiteralLaws.{even_or_odd, is_true-positive, is_true-negative, complement-positive, complement-negative}
 use Rattle.clause_pool.proofs.ClauseLaws.{clause_true-has, all_take, all_at, Follows-more, clause_of-rising}
 use Rattle.pb_base.specs.Sets.{has as has_code}
-use Rattle.propagate.specs.Trail.{Trail, IsTrail, AllFalse}
+use Rattle.propagate.specs.Trail.{Trail, IsTrail}
 use Rattle.propagate.specs.Quiet.{Quiet, IsQuietFor}
 use Rattle.propagate.specs.Assignment.{value_over}
-use Rattle.solver.specs.Answer.{Begins, IsNew, IsLearnt, IsSpent}
+use Rattle.solver.specs.Answer.{Begins, IsNew, IsSpent}
 use Rattle.solver.specs.Solver.{given_of}
 use Rattle.solver.specs.Search.{IsFull, AllNew}
 use Rattle.solver.proofs.TrailLaws.{consistent}

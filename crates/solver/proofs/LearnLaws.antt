@@ -1,5 +1,5 @@
 -- What a conflict teaches, and where a search ends.
-use Rattle.std.proofs.Common.{◌≡◌, ◌⊎◌, inl, inr, ℕ, zero, suc, ◌+◌, ◌-◌, ◌*◌, ◌/◌, ◌<◌, ◌≤◌, Bool, true, false, not, List, [], ◌∷◌, ◌++◌, Option, Some, None, length, take, get_or, refl, sym, subst, ◌∙◌, ap, arith, length-append}
+use Rattle.std.proofs.Common.{◌≡◌, inl, inr, ℕ, ◌+◌, ◌-◌, ◌*◌, ◌/◌, ◌<◌, ◌≤◌, Bool, true, false, List, [], ◌∷◌, ◌++◌, Option, Some, None, length, take, get_or, refl, sym, subst, ◌∙◌, ap, arith, length-append}
 use Rattle.std.specs.Option.{option_eq}
 use mathlib.Core.Bool.{beq}
 use Rattle.std.specs.List.{slice_get}
@@ -13,8 +13,8 @@ use Rattle.clause_pool.specs.Clause.{has, AreBelow, KeepsBounds}
 use Rattle.clause_pool.specs.Chain.{chain}
 use Rattle.clause_pool.specs.Derivation.{Derivation}
 use Rattle.clause_pool.proofs.LiteralLaws.{complement-complement, complement-half}
-use Rattle.propagate.specs.Trail.{Trail, IsTrail, level, end_of, upto, IsFalse, OthersFalse, AllFalse}
-use Rattle.propagate.specs.Quiet.{Quiet, IsQuietFor}
+use Rattle.propagate.specs.Trail.{Trail, IsTrail, level, end_of}
+use Rattle.propagate.specs.Quiet.{Quiet}
 use Rattle.propagate.specs.Assignment.{value_over}
 use Rattle.propagate.proofs.AssignmentLaws.{has_place, value_is_false}
 use Rattle.propagate.proofs.KeepLaws.{has_at}

@@ -1,8 +1,8 @@
 -- What holds of the marks of a clause in the making.
-use Rattle.std.proofs.Common.{◌≡◌, ◌⊎◌, inl, inr, ℕ, zero, suc, ◌+◌, ◌-◌, ◌*◌, ◌/◌, ◌<◌, ◌≤◌, Bool, true, false, not, ◌||◌, List, [], ◌∷◌, ◌++◌, Option, Some, None, Ok, length, take, get_or, refl, sym, subst, ◌∙◌, ap, arith}
+use Rattle.std.proofs.Common.{◌≡◌, ◌⊎◌, inl, inr, ℕ, zero, suc, ◌+◌, ◌-◌, ◌*◌, ◌/◌, ◌<◌, ◌≤◌, Bool, true, false, List, [], ◌∷◌, ◌++◌, Option, Some, None, Ok, length, take, get_or, refl, sym, subst, ◌∙◌, ap, arith}
 use Rattle.std.proofs.Math.ListN.{set, length-set}
 use Rattle.std.proofs.lemmas.Bool.{cases_eq, cases_Bool, cases_order, false≢true, true≢false, or_cases, or_left, or_right}
-use Rattle.std.proofs.lemmas.List.{get_or-set_same, get_or-set_other, take_more, take_all, get_or-take}
+use Rattle.std.proofs.lemmas.List.{get_or-set_same, get_or-set_other, take_more, take_all}
 use Rattle.std.proofs.lemmas.Option.{slice_get-get_or}
 use Rattle.std.specs.List.{slice_get}
 use Rattle.clause_pool.specs.Literal.{complement}
@@ -12,14 +12,14 @@ use Rattle.clause_pool.specs.declared.chain.Pair.{Pair}
 use Rattle.clause_pool.proofs.LiteralLaws.{complement-complement, complement-other, complement-below}
 use Rattle.clause_pool.proofs.ClauseLaws.{has-without_other, has-without_same, all_found}
 use Rattle.clause_pool.proofs.ChainLaws.{chain-push, step_on-resolved, has-resolved}
-use Rattle.propagate.specs.Trail.{Trail, IsTrail, IsFalse, level, end_of}
+use Rattle.propagate.specs.Trail.{Trail, IsTrail}
 use Rattle.propagate.specs.Quiet.{Quiet, IsQuietFor}
 use Rattle.propagate.proofs.QuietLaws.{has_take}
 use Rattle.propagate.proofs.AssignmentLaws.{has_push, push_has, push_here}
 use Rattle.propagate.proofs.KeepLaws.{same_default, has_at}
 use Rattle.solver.specs.Marks.{marked, AreClear, IsChain, AreFalse, AreFalseBut, IsMarked, IsUnmarked, IsResolved, false_at, IsResolvedAt, IsTop, NoneMarked, start_of, IsUip, IsResolving}
 use Rattle.solver.specs.declared.resolution.Resolution.{Resolution}
-use Rattle.solver.proofs.TrailLaws.{placed_in, has_placed, has_longer, same_place, consistent, IsPlaced}
+use Rattle.solver.proofs.TrailLaws.{placed_in, has_placed, has_longer, same_place, consistent}
 
 pub same_truth : (a b : Bool) → (a ≡ true → b ≡ true) → (b ≡ true → a ≡ true) → a ≡ b
 same_truth true b f g = sym (f refl)

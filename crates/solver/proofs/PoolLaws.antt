@@ -1,14 +1,10 @@
 -- What holds of the clauses of a kernel that is learning.
-use Rattle.std.proofs.Common.{◌≡◌, ◌⊎◌, inl, inr, ℕ, zero, suc, ◌+◌, ◌-◌, ◌*◌, ◌<◌, ◌≤◌, Bool, true, false, List, [], ◌∷◌, ◌++◌, Option, Some, None, length, take, drop, get_or, eqb, refl, sym, subst, ◌∙◌, ap, arith, length-append, append_assoc}
-use Rattle.std.specs.List.{AllByRecursion, slice_get}
-use Rattle.std.proofs.lemmas.Bool.{cases_eq, cases_order, false≢true, true≢false, or_cases, eqb-true}
-use Rattle.std.proofs.lemmas.List.{take-append-le, take_all, take_more, get_or-take}
-use Rattle.std.proofs.Math.ListN.{get_or-append}
-use Rattle.std.proofs.Math.Seq.{get_or-append_seam, take-append_seam}
-use Rattle.clause_pool.specs.Clause.{has, IsBelow, AreBelow, KeepsBounds}
+use Rattle.std.proofs.Common.{◌≡◌, inl, inr, ℕ, zero, suc, ◌+◌, ◌<◌, ◌≤◌, true, List, [], ◌∷◌, ◌++◌, length, take, get_or, eqb, refl, sym, subst, ◌∙◌, ap, length-append, append_assoc}
+use Rattle.std.proofs.lemmas.Bool.{false≢true, or_cases, eqb-true}
+use Rattle.std.proofs.lemmas.List.{take-append-le, take_all, take_more}
+use Rattle.clause_pool.specs.Clause.{has, IsBelow, AreBelow}
 use Rattle.clause_pool.specs.Derivation.{Derivation}
-use Rattle.propagate.specs.Trail.{Trail}
-use Rattle.solver.specs.Solver.{Extends, given_of}
+use Rattle.solver.specs.Solver.{Extends}
 
 pub literal_below : (bound : ℕ) (c : List ℕ) (l : ℕ) → IsBelow bound c → has c l ≡ true → l < bound
 literal_below bound [] l all is_in = absurd (false≢true is_in)

@@ -1,7 +1,6 @@
 -- What the search keeps when the trail grows, is cut, or a level is opened.
-use Rattle.std.proofs.Common.{◌≡◌, ◌⊎◌, inl, inr, ℕ, zero, suc, ◌+◌, ◌-◌, ◌*◌, ◌/◌, ◌<◌, ◌≤◌, Bool, true, false, List, [], ◌∷◌, ◌++◌, Option, Some, None, length, take, get_or, refl, sym, subst, ◌∙◌, ap, arith, length-append}
-use Rattle.std.specs.List.{AllByRecursion}
-use Rattle.std.proofs.lemmas.Bool.{cases_eq, cases_order, cases_Bool, false≢true, true≢false}
+use Rattle.std.proofs.Common.{◌≡◌, ◌⊎◌, inl, inr, ℕ, ◌+◌, ◌-◌, ◌*◌, ◌/◌, ◌<◌, ◌≤◌, Bool, true, false, List, [], ◌∷◌, ◌++◌, Option, None, length, take, get_or, refl, sym, subst, ◌∙◌, ap, arith, length-append}
+use Rattle.std.proofs.lemmas.Bool.{cases_eq, cases_order, cases_Bool, false≢true}
 use Rattle.std.proofs.lemmas.List.{get_or-take, length-take-le, take_all, take-take, take-append-le}
 use Rattle.std.proofs.Math.ListN.{get_or-append, get_or-eq_default}
 use Rattle.std.proofs.Math.Seq.{get_or-append_seam}
@@ -9,17 +8,17 @@ use Rattle.clause_pool.specs.Literal.{complement}
 use Rattle.clause_pool.specs.Clause.{has}
 use Rattle.clause_pool.proofs.LiteralLaws.{complement-complement, complement-half}
 use Rattle.clause_pool.proofs.ClauseLaws.{all_push}
-use Rattle.propagate.specs.Trail.{Trail, IsTrail, level, end_of, upto, IsFalse, OthersFalse, AllFalse}
+use Rattle.propagate.specs.Trail.{Trail, IsTrail, level, end_of, upto, IsFalse}
 use Rattle.propagate.specs.Quiet.{Quiet, IsQuietFor}
 use Rattle.propagate.specs.Engine.{Extends, with_assumed, cut, IsOpenAbove, IsLevelOf, IsOpen}
 use Rattle.propagate.specs.Assignment.{IsAssigned}
-use Rattle.propagate.proofs.AssignmentLaws.{has_push, push_has, push_here, has_place}
+use Rattle.propagate.proofs.AssignmentLaws.{has_push, push_has, push_here}
 use Rattle.propagate.proofs.AssignmentSteps.{room_for_one}
-use Rattle.propagate.proofs.KeepLaws.{same_default, has_at}
+use Rattle.propagate.proofs.KeepLaws.{same_default}
 use Rattle.propagate.proofs.QuietLaws.{has_take}
 use Rattle.solver.specs.Marks.{start_of, false_at}
 use Rattle.solver.specs.Search.{IsSearch, IsAsserting, IsJump, left_of}
-use Rattle.solver.proofs.TrailLaws.{placed_in, has_placed, has_longer, same_place, consistent, few_literals, end_within, ends_rise}
+use Rattle.solver.proofs.TrailLaws.{placed_in, has_placed, has_longer, same_place, consistent, end_within, ends_rise}
 
 le_or_lt : (a b : ℕ) → (a ≤ b) ⊎ (b < a)
 le_or_lt a b = elim (cases_order a b) [

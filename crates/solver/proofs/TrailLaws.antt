@@ -1,18 +1,17 @@
 -- What holds of trails.
-use Rattle.std.proofs.Common.{◌≡◌, ◌⊎◌, inl, inr, ℕ, zero, suc, ◌+◌, ◌-◌, ◌*◌, ◌/◌, ◌<◌, ◌≤◌, Bool, true, false, List, [], ◌∷◌, ◌++◌, Option, Some, None, length, map, take, get_or, eqb, refl, sym, subst, ◌∙◌, ap, arith}
+use Rattle.std.proofs.Common.{◌≡◌, inl, inr, ℕ, zero, suc, ◌-◌, ◌/◌, ◌<◌, ◌≤◌, true, List, [], ◌∷◌, None, length, map, take, get_or, eqb, refl, sym, ◌∙◌, ap, arith}
 use Rattle.std.specs.List.{list_any}
-use Rattle.std.proofs.lemmas.Bool.{cases_eq, cases_order, cases_Bool, false≢true, true≢false, or_cases, or_left, or_right, eq-eqb, eqb-true}
-use Rattle.std.proofs.lemmas.List.{get_or-map, length-map, get_or-take, length-take-le, take_more, take_all, take-take}
+use Rattle.std.proofs.lemmas.Bool.{cases_order, false≢true, true≢false, or_cases, or_left, or_right, eq-eqb, eqb-true}
+use Rattle.std.proofs.lemmas.List.{get_or-map, length-map, get_or-take}
 use Rattle.std.proofs.lemmas.Map.Keys.{apart_from_distinct}
 use Rattle.std.proofs.lemmas.Map.Steps.{length-le_from_distinct_below}
 use Rattle.std.proofs.Math.ListN.{get_or-eq_default}
 use Rattle.clause_pool.specs.Literal.{complement}
 use Rattle.clause_pool.specs.Clause.{has}
-use Rattle.clause_pool.proofs.LiteralLaws.{complement-complement, complement-half, complement-other}
-use Rattle.propagate.specs.Trail.{Trail, IsTrail, level, end_of, upto}
+use Rattle.clause_pool.proofs.LiteralLaws.{complement-half, complement-other}
+use Rattle.propagate.specs.Trail.{Trail, IsTrail, level, end_of}
 use Rattle.propagate.proofs.AssignmentLaws.{has_place}
 use Rattle.propagate.proofs.KeepLaws.{has_at, same_default}
-use Rattle.propagate.proofs.QuietLaws.{has_take}
 
 length-take-min : (n : ℕ) (xs : List ℕ) → (length (take n xs) ≤ n) × (length (take n xs) ≤ length xs)
 length-take-min zero xs = (omega arith, omega arith)

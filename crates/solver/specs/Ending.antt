@@ -1,9 +1,7 @@
 -- How a step of the search ends, and the whole of it.
-use Rattle.std.specs.Prelude.{◌≡◌, ℕ, ◌+◌, ◌<◌, length}
-use Rattle.clause_pool.specs.Derivation.{Derivation}
-use Rattle.propagate.specs.Trail.{Trail, level}
-use Rattle.solver.specs.Search.{IsSearch, IsConflict, IsFull, left_of, AllNew}
-use Rattle.solver.specs.Solver.{ClosedBy}
+use Rattle.std.specs.Prelude.{◌≡◌, ℕ, ◌<◌}
+use Rattle.propagate.specs.Trail.{Trail}
+use Rattle.solver.specs.Search.{IsSearch, IsConflict, IsFull, left_of}
 use Rattle.solver.specs.declared.descend.Decision.{Decision}
 use Rattle.solver.specs.declared.descend.Decision.TheVariants.{Refuted, Full, Assumed}
 

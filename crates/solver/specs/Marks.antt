@@ -9,7 +9,7 @@ use Rattle.std.specs.Prelude.{◌≡◌, ◌⊎◌, ℕ, ◌+◌, ◌-◌, ◌<�
 use Rattle.clause_pool.specs.Literal.{complement}
 use Rattle.clause_pool.specs.Clause.{has}
 use Rattle.clause_pool.specs.Chain.{chain}
-use Rattle.propagate.specs.Trail.{Trail, level, end_of, upto, IsFalse, IsReason}
+use Rattle.propagate.specs.Trail.{Trail, level, end_of, IsFalse, IsReason}
 use Rattle.solver.specs.declared.resolution.Resolution.{Resolution}
 
 abbrev pub marked : List Bool → ℕ → Bool

@@ -12,7 +12,7 @@ use Rattle.std.specs.Prelude.{◌≡◌, ◌⊎◌, ℕ, ◌+◌, ◌-◌, ◌*�
 use Rattle.clause_pool.specs.Literal.{complement}
 use Rattle.clause_pool.specs.Clause.{has, AreBelow}
 use Rattle.clause_pool.specs.Derivation.{Derivation}
-use Rattle.propagate.specs.Trail.{Trail, IsTrail, level, end_of, upto, IsFalse, OthersFalse, AllFalse}
+use Rattle.propagate.specs.Trail.{Trail, level, end_of, upto, IsFalse, OthersFalse, AllFalse}
 use Rattle.propagate.specs.Quiet.{Quiet}
 use Rattle.solver.specs.Answer.{IsNew}
 use Rattle.solver.specs.Marks.{marked, AreClear, start_of, false_at}

@@ -1,4 +1,4 @@
-use Rattle.std.proofs.Common.{◌≡◌, ◌*◌, ◌<◌, refl, sym, subst, ap, ◌∙◌}
+use Rattle.std.proofs.Common.{◌≡◌, ◌<◌, refl, sym, subst, ◌∙◌}
 use Rattle.propagate.specs.Trail.{Trail}
 use Rattle.solver.specs.Search.{IsSearch, left_of}
 use Rattle.solver.proofs.LearnLaws.{refuted_conflict, refuted_reasoned, value_false}

@@ -1,4 +1,4 @@
-use Rattle.std.proofs.Common.{◌≡◌, ◌⊎◌, ℕ, ◌+◌, ◌-◌, ◌*◌, ◌<◌, ◌≤◌, true, false, List, [], length, take, drop, get_or}
+use Rattle.std.proofs.Common.{◌≡◌}
 use Rattle.solver.specs.Search.{IsSearch, left_of}
 use Rattle.solver.proofs.descend.descend.Given as goal
 

@@ -1,11 +1,11 @@
-use Rattle.std.proofs.Common.{◌≡◌, ℕ, ◌+◌, ◌*◌, ◌<◌, ◌≤◌, List, [], ◌∷◌, ◌++◌, true, length, get_or, arith, sym, ap, subst, refl, ◌∙◌}
+use Rattle.std.proofs.Common.{◌≡◌, ℕ, ◌*◌, ◌<◌, List, [], ◌∷◌, ◌++◌, length, get_or, arith, sym, ap, subst, ◌∙◌}
 use Rattle.clause_pool.specs.Literal.{complement}
 use Rattle.clause_pool.specs.Clause.{has}
 use Rattle.propagate.specs.Trail.{Trail, IsTrail}
 use Rattle.propagate.specs.Engine.{Extends, IsOpenAbove, cut}
 use Rattle.propagate.proofs.KeepLaws.{same_default}
 use Rattle.solver.specs.Marks.{false_at}
-use Rattle.solver.specs.Search.{IsJump, IsAsserting, IsNext, next_of}
+use Rattle.solver.specs.Search.{IsJump, next_of}
 use Rattle.solver.proofs.PoolLaws.{clause_below}
 use Rattle.solver.proofs.SearchLaws.{jump_opens, search_jumped}
 use Rattle.solver.proofs.jump.jump.Goals as goal

@@ -1,12 +1,11 @@
-use Rattle.std.proofs.Common.{◌≡◌, ℕ, ◌+◌, ◌<◌, ◌≤◌, List, [], ◌∷◌, ◌++◌, true, false, length, ◌/◌, take, get_or, arith, sym, ap, subst, refl, ◌∙◌}
-use Rattle.std.proofs.lemmas.Bool.{eqb-false, true≢false, eq-eqb}
+use Rattle.std.proofs.Common.{◌≡◌, ℕ, ◌+◌, ◌<◌, List, [], ◌∷◌, ◌++◌, length, ◌/◌, take, get_or, arith, sym, ap, subst, ◌∙◌}
+use Rattle.std.proofs.lemmas.Bool.{true≢false, eq-eqb}
 use Rattle.std.proofs.lemmas.List.{take_more}
-use Rattle.clause_pool.specs.Clause.{has}
-use Rattle.propagate.specs.Trail.{Trail, IsTrail}
+use Rattle.propagate.specs.Trail.{Trail}
 use Rattle.propagate.specs.Engine.{IsLevelOf}
 use Rattle.propagate.proofs.TakeLaws.{item_in}
 use Rattle.solver.specs.Search.{IsJump}
-use Rattle.solver.proofs.SearchLaws.{jump_none, jump_skips, jump_rises, jump_stays, false_has_level}
+use Rattle.solver.proofs.SearchLaws.{jump_none, jump_rises, jump_stays, false_has_level}
 use Rattle.solver.proofs.jump.jump_level.Goals as goal
 use Rattle.solver.proofs.jump.jump_level.Goals.{then-jump-level, else-jump-level}
 

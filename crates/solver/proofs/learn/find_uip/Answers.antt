@@ -1,6 +1,6 @@
-use Rattle.std.proofs.Common.{◌≡◌, ℕ, ◌+◌, ◌-◌, ◌*◌, ◌<◌, ◌≤◌, Bool, List, length, get_or, Some, None, refl, sym, ap, subst, ◌∙◌, arith}
-use Rattle.propagate.specs.Trail.{Trail, level, end_of}
-use Rattle.solver.specs.Marks.{start_of, IsTop, NoneMarked}
+use Rattle.std.proofs.Common.{◌≡◌, ℕ, ◌+◌, ◌-◌, ◌<◌, ◌≤◌, length, refl, sym, ap, ◌∙◌, arith}
+use Rattle.propagate.specs.Trail.{Trail, end_of}
+use Rattle.solver.specs.Marks.{start_of}
 use Rattle.solver.proofs.TrailLaws.{has_reason}
 use Rattle.solver.proofs.MarkLaws.{not_none, resolving_starts, resolving_next, below_stays, uip_found, false_below, top_is, none_is, reason_attached}
 use Rattle.solver.proofs.learn.find_uip.Goals as goal

@@ -1,4 +1,4 @@
-use Rattle.std.proofs.Common.{◌≡◌, ◌⊎◌, ℕ, ◌+◌, ◌-◌, ◌*◌, ◌<◌, ◌≤◌, true, false, List, [], length, take, drop, get_or}
+use Rattle.std.proofs.Common.{◌≡◌, ℕ, ◌*◌, List, length}
 use Rattle.propagate.specs.Trail.{Trail}
 use Rattle.solver.specs.declared.resolution.Resolution.{Resolution}
 use Rattle.solver.specs.Marks.{IsChain, IsResolving}

@@ -1,5 +1,5 @@
-use Rattle.std.proofs.Common.{sym, ◌∙◌, ap}
-use Rattle.solver.proofs.LearnLaws.{lesson_of, kept_after, kept_before, clear_after}
+use Rattle.std.proofs.Common.{◌∙◌}
+use Rattle.solver.proofs.LearnLaws.{lesson_of, kept_after, clear_after}
 use Rattle.solver.proofs.learn.learn.Goals as goal
 
 pub returns-clause-kept : goal.returns-clause-kept

@@ -1,4 +1,4 @@
-use Rattle.std.proofs.Common.{◌≡◌, ◌⊎◌, ℕ, ◌+◌, ◌-◌, ◌*◌, ◌<◌, ◌≤◌, true, false, List, [], length, take, drop, get_or}
+use Rattle.std.proofs.Common.{◌≤◌}
 use Rattle.solver.specs.Marks.{NoneMarked}
 use Rattle.solver.proofs.marks.last_marked.Given as goal
 

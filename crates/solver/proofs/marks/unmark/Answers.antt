@@ -1,4 +1,4 @@
-use Rattle.std.proofs.Common.{◌<◌, length, arith, sym, ◌∙◌, refl}
+use Rattle.std.proofs.Common.{◌<◌, length, arith, refl}
 use Rattle.propagate.proofs.TakeLaws.{item_in}
 use Rattle.solver.proofs.MarkLaws.{unmarked_more}
 use Rattle.solver.proofs.marks.unmark.Goals as goal

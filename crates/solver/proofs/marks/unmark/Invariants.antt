@@ -1,4 +1,4 @@
-use Rattle.std.proofs.Common.{◌≡◌, ◌⊎◌, ℕ, ◌+◌, ◌-◌, ◌*◌, ◌<◌, ◌≤◌, true, false, List, [], length, take, drop, get_or}
+use Rattle.std.proofs.Common.{take}
 use Rattle.solver.specs.Marks.{IsUnmarked}
 use Rattle.solver.proofs.marks.unmark.Given as goal
 

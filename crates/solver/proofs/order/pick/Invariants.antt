@@ -1,4 +1,3 @@
-use Rattle.std.proofs.Common.{◌≡◌, ◌⊎◌, ℕ, ◌+◌, ◌-◌, ◌*◌, ◌<◌, ◌≤◌, true, false, List, [], length, take, drop, get_or}
 use Rattle.std.specs.BinaryHeap.{heap_len}
 use Rattle.solver.proofs.order.pick.Given as goal
 

@@ -1,7 +1,6 @@
-use Rattle.std.proofs.Common.{◌≡◌, ℕ, ◌+◌, ◌-◌, ◌<◌, ◌≤◌, Bool, List, [], length, take, get_or, Some, None, true, false, refl, sym, ap, subst, ◌∙◌, arith}
+use Rattle.std.proofs.Common.{◌≡◌, ℕ, ◌-◌, ◌<◌, ◌≤◌, Bool, List, length, take, false, sym, ap, subst, ◌∙◌, arith}
 use Rattle.std.proofs.lemmas.List.{take_all}
 use Rattle.clause_pool.specs.Literal.{complement}
-use Rattle.propagate.specs.Trail.{Trail}
 use Rattle.solver.specs.Marks.{AreFalseBut, marked, false_at}
 use Rattle.solver.proofs.MarkLaws.{skip_unmarked, skip_opened, step_resolved}
 use Rattle.solver.proofs.LearnLaws.{opened_here}

@@ -1,4 +1,4 @@
-use Rattle.std.proofs.Common.{◌≡◌, ◌+◌, length, arith, ◌∙◌}
+use Rattle.std.proofs.Common.{length, arith, ◌∙◌}
 use Rattle.solver.proofs.LearnLaws.{all_new_more}
 use Rattle.solver.proofs.PoolLaws.{extends_twice}
 use Rattle.solver.proofs.run.run.Goals as goal

@@ -1,6 +1,5 @@
-use Rattle.std.proofs.Common.{◌≡◌, ◌⊎◌, ℕ, ◌+◌, ◌-◌, ◌*◌, ◌<◌, ◌≤◌, true, false, List, [], length, take, drop, get_or}
+use Rattle.std.proofs.Common.{◌≡◌, ℕ, ◌+◌, ◌-◌, ◌≤◌, length}
 use Rattle.clause_pool.specs.Derivation.{Derivation}
-use Rattle.propagate.specs.Trail.{Trail}
 use Rattle.solver.specs.Search.{IsReady, IsSearch, AllNew}
 use Rattle.solver.specs.Solver.{Extends}
 use Rattle.solver.proofs.run.run.Given as goal

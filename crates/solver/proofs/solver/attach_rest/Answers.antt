@@ -1,4 +1,4 @@
-use Rattle.std.proofs.Common.{◌≡◌, ◌*◌, length, ap, sym, ◌∙◌, arith}
+use Rattle.std.proofs.Common.{◌*◌, length, ap, ◌∙◌, arith}
 use Rattle.solver.proofs.PoolLaws.{attached_more, clause_below}
 use Rattle.solver.proofs.solver.attach_rest.Goals as goal
 

@@ -1,4 +1,4 @@
-use Rattle.std.proofs.Common.{◌≡◌, ◌⊎◌, ℕ, ◌+◌, ◌-◌, ◌*◌, ◌<◌, ◌≤◌, true, false, List, [], length, take, drop, get_or}
+use Rattle.std.proofs.Common.{◌≡◌, take, drop}
 use Rattle.solver.proofs.solver.clauses_from.Given as goal
 
 abbrev pub invariant-loop-at : goal.invariant-loop-at

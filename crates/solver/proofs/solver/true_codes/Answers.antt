@@ -1,4 +1,4 @@
-use Rattle.std.proofs.Common.{ℕ, Bool, List, ◌+◌, subst, sym}
+use Rattle.std.proofs.Common.{Bool, List, ◌+◌, subst, sym}
 use Rattle.solver.proofs.EndLaws.{AreCodes, codes_none, codes_skip, codes_more}
 use Rattle.solver.proofs.solver.true_codes.Goals as goal
 

@@ -1,4 +1,4 @@
-use Rattle.std.proofs.Common.{ℕ, Bool, List, [], get_or, refl, subst}
+use Rattle.std.proofs.Common.{ℕ, List, refl, subst}
 use Rattle.solver.specs.Marks.{IsResolved}
 use Rattle.solver.proofs.MarkLaws.{chain_resolved}
 use Rattle.solver.proofs.resolution.Resolution.resolve.Goals as goal

@@ -1,6 +1,5 @@
-use Rattle.std.proofs.Common.{◌≡◌, ℕ, List, ◌+◌, ◌*◌, ◌^◌, ◌<◌, ◌≤◌, true, length, Ok, arith, refl, sym, ap, subst, ◌∙◌}
+use Rattle.std.proofs.Common.{◌≡◌, ℕ, List, ◌^◌, ◌≤◌, true, length, Ok, arith, sym, ap, subst, ◌∙◌}
 use Rattle.clause_pool.specs.Clause.{has}
-use Rattle.clause_pool.specs.Derivation.{Derivation}
 use Rattle.propagate.specs.Quiet.{Quiet}
 use Rattle.solver.specs.Solver.{Solving, given_of}
 use Rattle.solver.proofs.CountLaws.{count_bound}
