@@ -11,7 +11,7 @@ use std::alloc::Global;
 use std::cmp::Reverse;
 use std::collections::BinaryHeap;
 
-/// The step by which activities grow is halved before it reaches this.
+/// Where the step by which activities grow reaches this, all of them are halved 32 times.
 const STEP_LIMIT: u64 = 1 << 48;
 
 /// What a variable has in the order.
@@ -31,6 +31,8 @@ pub(crate) struct Order {
     // An entry counts if its variable's standing names it.
     heap: BinaryHeap<(u64, Reverse<u32>), Global>,
     step: u64,
+    // No activity is above this.
+    top: u64,
     vars: u32,
 }
 
@@ -46,6 +48,7 @@ impl Order {
             standings: vec![in alloc; standing; vars as usize]?,
             heap: BinaryHeap::with_capacity(alloc, vars as usize)?,
             step: 1 << 10,
+            top: 0,
             vars,
         };
         for var in 0..vars {
@@ -67,11 +70,15 @@ impl Order {
         }
     }
 
-    /// The variables of a clause were in a conflict. They have a value, so they aren't in the heap.
+    /// The variables of a clause were in a conflict. They have values, and are entered anew where these are taken
+    /// back.
     pub(crate) fn bump_all(&mut self, lits: &[Lit]) {
         for lit in lits {
             if let Some(standing) = self.standings.get_mut(lit.var() as usize) {
                 standing.activity = standing.activity.saturating_add(self.step);
+                if self.top < standing.activity {
+                    self.top = standing.activity;
+                }
             }
         }
     }
@@ -83,6 +90,7 @@ impl Order {
             return;
         }
         self.step >>= 32;
+        self.top >>= 32;
         for standing in self.standings.iter_mut() {
             standing.activity >>= 32;
         }
@@ -102,7 +110,8 @@ impl Order {
 
     /// The literals of the trail from this place on are taken back: each variable keeps its value to try it again.
     pub(crate) fn put_back(&mut self, lits: &[Lit], from: usize) {
-        for lit in lits.iter().skip(from) {
+        for place in from..lits.len() {
+            let lit = lits[place];
             if let Some(standing) = self.standings.get_mut(lit.var() as usize) {
                 standing.phase = lit.positive();
             }
@@ -112,9 +121,10 @@ impl Order {
 
     /// The variable of this literal is to be decided before the others, with this value.
     pub(crate) fn prefer(&mut self, lit: Lit) {
+        self.top = self.top.saturating_add(self.step);
         if let Some(standing) = self.standings.get_mut(lit.var() as usize) {
             standing.phase = lit.positive();
-            standing.activity = standing.activity.saturating_add(self.step);
+            standing.activity = self.top;
         }
         self.enter(lit.var());
     }
