@@ -119,8 +119,14 @@ fn body(alloc: Global, text: &[u8]) -> Result<Body, Fail> {
     Ok(Body::of(text.to_vec(alloc)?))
 }
 
-// The whole response of this status and this body.
-fn whole(alloc: Global, status: &[u8], kind: &[u8], body: &[u8]) -> Result<Text, Fail> {
+// The whole response of this status and this body, with the field that closes where there is one.
+fn whole(
+    alloc: Global,
+    status: &[u8],
+    kind: &[u8],
+    body: &[u8],
+    close: &[u8],
+) -> Result<Text, Fail> {
     let mut text = Text::new(alloc);
     text.put(b"HTTP/1.1 ")?;
     text.put(status)?;
@@ -128,7 +134,9 @@ fn whole(alloc: Global, status: &[u8], kind: &[u8], body: &[u8]) -> Result<Text,
     text.put(kind)?;
     text.put(b"\r\nContent-Length: ")?;
     text.put_number(body.len() as u64)?;
-    text.put(b"\r\n\r\n")?;
+    text.put(b"\r\n")?;
+    text.put(close)?;
+    text.put(b"\r\n")?;
     for byte in body {
         text.put(if *byte == b'^' {
             b"\n"
@@ -154,7 +162,7 @@ fn each_reply_has_its_response(rt: HostRuntime) -> Result<(), Fail> {
         let response = response_of(alloc, &reply_at(alloc, place)?, false, false)?;
         assert_eq!(rt;
             response.as_slice(),
-            whole(alloc, status, kind, body)?.bytes()
+            whole(alloc, status, kind, body, b"")?.bytes()
         );
     }
     Ok(())
@@ -170,34 +178,30 @@ fn want_of_memory_has_its_response_ready(rt: HostRuntime) -> Result<(), Fail> {
     Ok(())
 }
 
+// The status line and the body of what is no message, by 400, 413, 431 and 501.
+const BAD: &[u8] = b"400 Bad Request|bad request^
+413 Content Too Large|body too large^
+431 Request Header Fields Too Large|head too large^
+501 Not Implemented|transfer encoding^";
+
+fn bad_at(alloc: Global, place: usize) -> Result<Body, Fail> {
+    Ok(match place {
+        0 => bad_response(alloc, 400)?,
+        1 => bad_response(alloc, 413)?,
+        2 => bad_response(alloc, 431)?,
+        _ => bad_response(alloc, 501)?,
+    })
+}
+
 #[test]
 fn what_is_no_message_closes_the_connection(rt: HostRuntime) -> Result<(), Fail> {
     let alloc = rt.alloc();
-    for (status, want) in [
-        (
-            400,
-            "400 Bad Request\r\nContent-Type: text/plain\r\nContent-Length: 12\r\nConnection: close\r\n\r\nbad request\n",
-        ),
-        (
-            413,
-            "413 Content Too Large\r\nContent-Type: text/plain\r\nContent-Length: 15\r\nConnection: close\r\n\r\nbody too large\n",
-        ),
-        (
-            431,
-            "431 Request Header Fields Too Large\r\nContent-Type: text/plain\r\nContent-Length: 15\r\nConnection: close\r\n\r\nhead too large\n",
-        ),
-        (
-            501,
-            "501 Not Implemented\r\nContent-Type: text/plain\r\nContent-Length: 18\r\nConnection: close\r\n\r\ntransfer encoding\n",
-        ),
-    ] {
-        if status == 400 || status == 413 || status == 431 || status == 501 {
-            let response = bad_response(alloc, status)?;
-            assert_eq!(rt;
-                response.as_slice().strip_prefix(b"HTTP/1.1 "),
-                Some(want.as_bytes())
-            );
-        }
+    for (place, row) in BAD.split(|b| *b == b'\n').enumerate() {
+        let mut fields = row.split(|b| *b == b'|');
+        let status = fields.next().ok_or("a status")?;
+        let body = fields.next().ok_or("a body")?;
+        let want = whole(alloc, status, b"text/plain", body, b"Connection: close\r\n")?;
+        assert_eq!(rt; bad_at(alloc, place)?.as_slice(), want.bytes());
     }
     Ok(())
 }
