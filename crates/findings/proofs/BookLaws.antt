@@ -1,18 +1,17 @@
 -- What the notes of all slices come to.
-use Rattle.std.proofs.Common.{◌≡◌, ℕ, ◌≤◌, Bool, true, false, ◌||◌, cond, List, [], ◌∷◌, ◌++◌, Option, Some, None, Result, Ok, Err, All, refl, sym, ap, subst, ◌∙◌, inl, inr, append-nil}
-use Rattle.std.specs.Prelude.{IsSome}
+use Rattle.std.proofs.Common.{◌≡◌, ℕ, ◌≤◌, Bool, true, false, ◌||◌, cond, List, [], ◌∷◌, ◌++◌, Option, Some, None, Result, Ok, Err, All, refl, sym, ap, subst, ◌∙◌}
 use Rattle.std.specs.List.{AllZip, list_any}
 use Rattle.std.specs.Result.{IsErr, IsErrAnd}
 use Rattle.std.specs.Option.{is_none, option_to_list}
 use Rattle.std.proofs.lemmas.List.Folds.{list_any-append}
 use Rattle.std.proofs.lemmas.Slice.Zip.{all_zipped_more}
-use Rattle.std.proofs.lemmas.Bool.{or_parts, true≢false, false≢true, cond-true, cond-false}
+use Rattle.std.proofs.lemmas.Bool.{or_parts, true≢false, false≢true, cond-false}
 use Rattle.pb_base.specs.Answers.{Answers, IfRefused}
 use Rattle.pb_base.specs.declared.answer.Fail.{Fail}
 use Rattle.pb_base.specs.declared.answer.Fail.TheVariants.{Refused, Memory}
 use Rattle.book_model.specs.Contents.{Contents}
 use Rattle.book_model.specs.Book.{IsBook}
-use Rattle.book_model.specs.Slices.{IsOrdered, IsSteady, all_slices}
+use Rattle.book_model.specs.Slices.{IsOrdered, IsSteady}
 use Rattle.book_model.specs.Sound.{IsReleasable}
 use Rattle.book_model.specs.declared.record.Slice.{Slice}
 use Rattle.book_model.proofs.SliceLaws.{slices_ordered, slices_steady}
@@ -25,7 +24,6 @@ use Rattle.derivation.specs.declared.slice_proof.SliceProof.{SliceProof}
 use Rattle.findings.specs.Answering.{ShowsUnlessStopped, stops}
 use Rattle.findings.specs.Certified.{IsAccepted}
 use Rattle.findings.specs.declared.report.Note.{Note}
-use Rattle.findings.specs.declared.report.Verdict.{Verdict}
 use Rattle.findings.specs.declared.report.Verdict.TheVariants as verdicts
 
 -- the slices of a book within the limits are those of its term

@@ -1,10 +1,9 @@
 -- What an answer over the clauses of a slice says of the sets that are good on its days.
-use Rattle.std.proofs.Common.{◌≡◌, ℕ, suc, ◌<◌, ◌≤◌, Bool, true, false, not, eqb, List, [], ◌∷◌, Some, length, refl, sym, ap, subst, ◌∙◌, arith}
+use Rattle.std.proofs.Common.{◌≡◌, ℕ, ◌≤◌, Bool, true, not, eqb, List, [], ◌∷◌, Some, length, refl, sym, ap, ◌∙◌, arith}
 use Rattle.std.specs.Prelude.{IsTrue}
 use Rattle.std.specs.List.{slice_get, list_all}
 use Rattle.std.proofs.lemmas.Bool.{and_from, le-leb, eq-eqb, true≢false, or_left, or_right}
 use Rattle.pb_base.specs.Rule.{holds}
-use Rattle.pb_base.specs.Sets.{has as has_code}
 use Rattle.book_model.specs.Activity.{is_within}
 use Rattle.book_model.specs.Contents.{Contents}
 use Rattle.book_model.specs.Good.{is_good}
@@ -13,8 +12,8 @@ use Rattle.clause_pool.specs.Literal.{complement, is_true}
 use Rattle.clause_pool.specs.Clause.{has, Follows}
 use Rattle.clause_pool.proofs.LiteralLaws.{is_true-complement}
 use Rattle.clause_pool.proofs.ClauseLaws.{TrueLiteral, true_literal, all_found}
-use Rattle.clausify.specs.Coded.{slice_clauses, slice_variables, slice_asked}
-use Rattle.clausify.specs.Lifting.{BeginsWith, BeginsGood, CodesGoodSets}
+use Rattle.clausify.specs.Coded.{slice_clauses, slice_asked}
+use Rattle.clausify.specs.Lifting.{BeginsWith, BeginsGood}
 use Rattle.clausify.specs.Questions.{goal, HasSet}
 use Rattle.clausify.specs.declared.question.Asked.{Asked}
 use Rattle.clausify.specs.declared.question.Question.{Question}

@@ -1,11 +1,9 @@
 -- What is known of a slice's clauses and questions, and what its notes are put together of.
-use Rattle.std.proofs.Common.{◌≡◌, ℕ, zero, suc, ◌+◌, ◌*◌, ◌<◌, ◌≤◌, Bool, true, false, List, [], ◌∷◌, ◌++◌, Some, None, Result, Ok, Err, IfOk, All, length, drop, take, get_or, map, refl, sym, ap, subst, ◌∙◌, arith}
-use Rattle.std.specs.Prelude.{IsTrue}
+use Rattle.std.proofs.Common.{◌≡◌, ℕ, suc, ◌*◌, ◌<◌, ◌≤◌, Bool, true, false, List, [], ◌∷◌, ◌++◌, Some, None, Result, Ok, Err, IfOk, All, length, drop, get_or, refl, sym, ap, subst, ◌∙◌, arith}
 use Rattle.std.specs.List.{filter, list_any, slice_get}
-use Rattle.std.proofs.lemmas.Bool.{false≢true, true≢false, or_left}
+use Rattle.std.proofs.lemmas.Bool.{false≢true, or_left}
 use Rattle.std.proofs.lemmas.List.{take_all}
 use Rattle.std.proofs.lemmas.Option.{slice_get-get_or, slice_get_within, get_or_from_slice_get}
-use Rattle.book_model.specs.Activity.{is_within}
 use Rattle.book_model.specs.Contents.{Contents}
 use Rattle.book_model.specs.Good.{is_good}
 use Rattle.book_model.specs.declared.record.Slice.{Slice}
@@ -14,7 +12,7 @@ use Rattle.clause_pool.specs.Derivation.{Derivation, kernel_of}
 use Rattle.clausify.specs.Coded.{IsCoded, slice_clauses, slice_variables, slice_asked}
 use Rattle.clausify.specs.Goals.{void_asked}
 use Rattle.clausify.specs.Lifting.{CodesGoodSets, CodesSlice, DecidesEach, IsMet}
-use Rattle.clausify.specs.Questions.{HasSet, QuestionFits, is_to_close}
+use Rattle.clausify.specs.Questions.{HasSet, QuestionFits}
 use Rattle.clausify.specs.Ranges.{IsInRange}
 use Rattle.clausify.specs.declared.question.Asked.{Asked}
 use Rattle.clausify.specs.declared.question.Coded.{Coded}
@@ -23,8 +21,8 @@ use Rattle.derivation.specs.Showing.{StandsOver, AllClosed, ShowsSlice}
 use Rattle.derivation.specs.declared.slice_proof.SliceProof.{SliceProof}
 use Rattle.derivation.specs.Stage.{to_close}
 use Rattle.derivation.specs.declared.closing.Closing.{Closing}
-use Rattle.solver.specs.Solver.{Solving, Extends, given_of}
-use Rattle.findings.specs.Findings.{MeetsThrough, NeedsNoNote}
+use Rattle.solver.specs.Solver.{Solving, Extends}
+use Rattle.findings.specs.Findings.{MeetsThrough}
 use Rattle.findings.specs.Notes.{Inquiry, InParts, OwnNotes, IsNoteOf, SliceNotes, is_asked}
 use Rattle.findings.specs.Answering.{SliceFacts, IsAsked, IsOver, AreTold, ShowsUnlessStopped, stops}
 use Rattle.findings.specs.declared.slice.SliceCheck.{SliceCheck}

@@ -1,5 +1,5 @@
 -- What the solver's answers say of the questions of a slice.
-use Rattle.std.proofs.Common.{◌≡◌, ℕ, Bool, List, [], ◌∷◌, Some, Result, Ok, Err, length, take, refl, sym, ap, subst, ◌∙◌}
+use Rattle.std.proofs.Common.{◌≡◌, ℕ, Bool, List, Some, Result, Ok, Err, length, sym, ap, subst, ◌∙◌}
 use Rattle.std.specs.Result.{IfOk}
 use Rattle.std.specs.List.{slice_get}
 use Rattle.book_model.specs.Contents.{Contents}
@@ -10,7 +10,7 @@ use Rattle.clause_pool.proofs.ClauseLaws.{all_found}
 use Rattle.clausify.specs.Coded.{slice_clauses, slice_asked}
 use Rattle.clausify.specs.Questions.{HasSet}
 use Rattle.clausify.specs.declared.question.Asked.{Asked}
-use Rattle.solver.specs.Answer.{Begins, IsSpent}
+use Rattle.solver.specs.Answer.{Begins}
 use Rattle.solver.specs.Solver.{Solving, Extends, ClosedBy, given_of}
 use Rattle.findings.specs.Findings.{MeetsThrough}
 use Rattle.findings.specs.Answering.{SliceFacts, IsOver, IsFound, KnowsUsages, ClosedAt}

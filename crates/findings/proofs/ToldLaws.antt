@@ -1,16 +1,15 @@
 -- What comes of one question, and of one question more.
-use Rattle.std.proofs.Common.{◌≡◌, ℕ, zero, suc, ◌+◌, ◌<◌, ◌≤◌, Bool, true, false, ◌||◌, cond, List, [], ◌∷◌, ◌++◌, Some, None, length, take, get_or, refl, sym, ap, subst, ◌∙◌, inl, inr, arith, append_assoc, append-nil, length-append}
-use Rattle.std.specs.List.{filter, list_any, slice_get, AllZip}
-use Rattle.std.proofs.lemmas.Bool.{cases_Bool, cond_both, cond-true, cond-false, true≢false, false≢true, or_parts}
+use Rattle.std.proofs.Common.{◌≡◌, ℕ, zero, suc, ◌+◌, ◌<◌, ◌≤◌, Bool, true, false, ◌||◌, List, [], ◌∷◌, ◌++◌, Some, None, length, take, get_or, refl, sym, ap, subst, ◌∙◌, inl, inr, arith, append_assoc, append-nil, length-append}
+use Rattle.std.specs.List.{filter, list_any}
+use Rattle.std.proofs.lemmas.Bool.{cases_Bool, cond_both, cond-true, cond-false, true≢false, or_parts}
 use Rattle.std.proofs.lemmas.List.{get_or_append_left, take_more, length-take-le}
 use Rattle.std.proofs.lemmas.List.Elements.{filter-append}
 use Rattle.std.proofs.lemmas.List.Folds.{list_any-append}
-use Rattle.std.proofs.lemmas.Option.{slice_get_within, get_or_from_slice_get, slice_get-get_or}
+use Rattle.std.proofs.lemmas.Option.{slice_get_within, get_or_from_slice_get}
 use Rattle.std.proofs.lemmas.Slice.Zip.{all_zipped_more}
 use Rattle.book_model.specs.Contents.{Contents}
 use Rattle.book_model.specs.declared.record.Slice.{Slice}
 use Rattle.clause_pool.specs.Derivation.{Derivation}
-use Rattle.clausify.specs.Coded.{slice_clauses}
 use Rattle.clausify.specs.Questions.{HasSet, QuestionFits, is_to_close}
 use Rattle.clausify.specs.declared.question.Asked.{Asked}
 use Rattle.clausify.specs.declared.question.Question.{Question}
@@ -20,10 +19,9 @@ use Rattle.derivation.specs.Showing.{Closes, AllClosed}
 use Rattle.derivation.specs.Stage.{to_close}
 use Rattle.derivation.specs.declared.closing.Closing.{Closing}
 use Rattle.derivation.specs.declared.closing.ToClose.{ToClose}
-use Rattle.solver.specs.Answer.{IsSpent}
-use Rattle.solver.specs.Solver.{Extends, given_of}
-use Rattle.findings.specs.Findings.{MeetsThrough, NeedsNoNote, IsFinding}
-use Rattle.findings.specs.Notes.{Inquiry, InParts, OwnNotes, IsNoteOf, is_asked, is_blocking, is_fault, is_left}
+use Rattle.solver.specs.Solver.{Extends}
+use Rattle.findings.specs.Findings.{MeetsThrough}
+use Rattle.findings.specs.Notes.{Inquiry, InParts, OwnNotes, is_asked, is_blocking}
 use Rattle.findings.specs.Outcomes.{outcome_of_set, outcome_of_clause, notes_of, closings_of}
 use Rattle.findings.specs.Answering.{ClosedAt, IsOutcome, AreTold, stops}
 use Rattle.findings.specs.declared.outcome.Outcome.{Outcome}
@@ -31,8 +29,7 @@ use Rattle.findings.specs.declared.outcome.Outcome.TheVariants.{Fine, Closed, No
 use Rattle.findings.specs.declared.outcome.Told.{Told}
 use Rattle.findings.specs.declared.report.Ask.{Ask}
 use Rattle.findings.specs.declared.report.Ask.TheVariants as asks
-use Rattle.findings.specs.declared.report.Note.{Note}
-use Rattle.findings.specs.declared.report.Note.TheVariants.{Finding, Undecided}
+use Rattle.findings.specs.declared.report.Note.TheVariants.{Finding}
 use Rattle.findings.proofs.Lifting.{has_from_meets, closes_from_refutes}
 
 -- a question of the book blocks a release just where it has to be closed

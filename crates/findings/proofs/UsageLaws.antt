@@ -1,8 +1,8 @@
 -- What the kept truths of the variants' formulas say.
-use Rattle.std.proofs.Common.{◌≡◌, ℕ, zero, suc, ◌<◌, Bool, true, false, not, ◌&&◌, ◌||◌, cond, List, [], ◌∷◌, ◌++◌, length, map, get_or, refl, sym, ap, ◌∙◌, arith}
+use Rattle.std.proofs.Common.{◌≡◌, ℕ, zero, suc, ◌<◌, Bool, not, ◌&&◌, ◌||◌, List, [], ◌∷◌, length, map, get_or, refl, ap, ◌∙◌, arith}
 use Rattle.std.specs.List.{filter, list_any, slice_get}
 use Rattle.std.specs.Option.{option_map_or}
-use Rattle.pb_base.specs.Rule.{Rule, negation, both, always, never, holds}
+use Rattle.pb_base.specs.Rule.{Rule, negation, both, never, holds}
 use Rattle.book_model.specs.Contents.{Contents}
 use Rattle.book_model.specs.declared.record.Variant.{Variant}
 use Rattle.clausify.specs.Choices.{usage}

@@ -1,15 +1,14 @@
 -- The reports of the worked book: nothing is wrong with it, without its second rule two motors may be selected at once, and with a
 -- rule that is never met it is void.
-use Rattle.std.proofs.Common.{◌≡◌, ℕ, zero, suc, ◌<◌, ◌≤◌, Bool, true, false, not, ◌&&◌, ◌||◌, cond, eqb, List, [], ◌∷◌, ◌++◌, Some, None, Ok, length, map, refl, sym, ap, subst, ◌∙◌, arith, codes}
-use Rattle.std.specs.List.{filter, list_all, list_any}
-use Rattle.std.specs.Prelude.{IsTrue}
-use Rattle.std.proofs.lemmas.Bool.{and_parts, and_from, false≢true, true≢false, le-leb, eqb-true, not-true}
+use Rattle.std.proofs.Common.{◌≡◌, ℕ, zero, suc, ◌<◌, ◌≤◌, Bool, true, false, not, ◌&&◌, ◌||◌, cond, eqb, List, [], ◌∷◌, ◌++◌, Some, None, length, map, refl, sym, ap, ◌∙◌, arith, codes}
+use Rattle.std.specs.List.{list_all}
+use Rattle.std.proofs.lemmas.Bool.{and_parts, and_from, false≢true, true≢false, le-leb, eqb-true}
 use Rattle.std.proofs.lemmas.List.Folds.{list_all-append, list_all-map}
 use Rattle.pb_base.specs.Rule.{Rule as Formula, holds, never}
 use Rattle.book_model.specs.Activity.{is_within}
 use Rattle.book_model.specs.Contents.{Contents}
 use Rattle.book_model.specs.Good.{is_good, is_closed, is_constructible, breaks}
-use Rattle.book_model.specs.Slices.{AreAlike, IsSteady, slices_of, days_from_to}
+use Rattle.book_model.specs.Slices.{IsSteady, slices_of, days_from_to}
 use Rattle.book_model.specs.WorkedBook.{an_engine, one_engine, a_gearbox, one_gearbox, book_with, book_t, set_t}
 use Rattle.book_model.specs.declared.demand.Demand.TheVariants.{Rule}
 use Rattle.book_model.specs.declared.record.Construct.{Construct}
@@ -21,7 +20,7 @@ use Rattle.clausify.specs.Questions.{goal, none_rule, HasSet, is_to_close}
 use Rattle.clausify.specs.declared.question.Question.{Question}
 use Rattle.clausify.specs.declared.question.Question.TheVariants.{Void, Necessary, Inadmissible, Superfluous, Ambiguous, Uncovered}
 use Rattle.findings.specs.Findings.{MeetsThrough, NeedsNoNote}
-use Rattle.findings.specs.Notes.{Inquiry, IsReport, verdict_of}
+use Rattle.findings.specs.Notes.{IsReport, verdict_of}
 use Rattle.findings.specs.declared.report.Ask.TheVariants.{All, Blocking}
 use Rattle.findings.specs.declared.report.Note.{Note}
 use Rattle.findings.specs.declared.report.Note.TheVariants.{Days, Finding}

@@ -1,11 +1,11 @@
-use Rattle.std.proofs.Common.{◌≡◌, ℕ, Bool, List, [], ◌∷◌, ◌++◌, length, refl, sym, ap, subst, ◌∙◌}
+use Rattle.std.proofs.Common.{[], ◌∷◌, ◌++◌, sym, subst, ◌∙◌}
 use Rattle.std.proofs.lemmas.List.Elements.{All-same, All-push}
 use Rattle.clause_pool.specs.Derivation.{Derivation, AllFollow}
 use Rattle.solver.specs.Answer.{Begins}
 use Rattle.solver.specs.Solver.{ClosedBy, given_of}
 use Rattle.findings.specs.Answering.{IsFound, IsOutcome, IsOver, inquiry}
 use Rattle.findings.specs.Findings.{MeetsThrough}
-use Rattle.findings.specs.Outcomes.{outcome_of_set, outcome_of_clause}
+use Rattle.findings.specs.Outcomes.{outcome_of_set}
 use Rattle.findings.proofs.Lifting.{meets_from_first}
 use Rattle.findings.proofs.SolverLaws.{over_further, meets_by_solver, none_by_solver, closed_at, found_of, of_answer}
 use Rattle.findings.proofs.ToldLaws.{set_outcome, clause_outcome}

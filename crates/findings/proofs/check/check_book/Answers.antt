@@ -1,4 +1,4 @@
-use Rattle.std.proofs.Common.{◌≡◌, Bool, true, false, List, Ok, Err, All, refl, sym, ap, subst, ◌∙◌}
+use Rattle.std.proofs.Common.{◌≡◌, true, false, List, All, refl, sym, ap, subst, ◌∙◌}
 use Rattle.std.specs.List.{list_any, AllZip}
 use Rattle.std.proofs.lemmas.Bool.{true≢false, false≢true}
 use Rattle.book_model.specs.Slices.{IsOrdered, IsSteady}
@@ -6,9 +6,7 @@ use Rattle.book_model.specs.declared.record.Slice.{Slice}
 use Rattle.derivation.specs.Limits.{AreWithin, slices_within}
 use Rattle.derivation.specs.Showing.{ShowsSlice, shown_by}
 use Rattle.findings.specs.Answering.{stops}
-use Rattle.findings.specs.Notes.{Inquiry, InParts, SliceNotes, verdict_of}
-use Rattle.findings.specs.declared.report.Note.{Note}
-use Rattle.findings.specs.declared.report.Verdict.TheVariants as verdicts
+use Rattle.findings.specs.Notes.{Inquiry, InParts, SliceNotes}
 use Rattle.findings.proofs.BookLaws.{steady_within, ordered_within, releasable_when_free, free_when_releasable, refusal_passed, released_by}
 use Rattle.findings.proofs.check.check_book.Goals as goal
 

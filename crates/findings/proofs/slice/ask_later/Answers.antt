@@ -1,9 +1,9 @@
-use Rattle.std.proofs.Common.{◌≡◌, ℕ, List, ◌+◌, ◌≤◌, ◌<◌, length, sym, subst, ◌∙◌, arith}
+use Rattle.std.proofs.Common.{ℕ, List, ◌≤◌, length, sym, subst, ◌∙◌, arith}
 use Rattle.std.proofs.lemmas.List.{take_all}
 use Rattle.std.proofs.lemmas.List.Elements.{All-get_or}
 use Rattle.clausify.specs.declared.question.Asked.{Asked}
 use Rattle.findings.specs.Answering.{IsAsked, AreTold, inquiry}
-use Rattle.findings.proofs.ToldLaws.{told_none, told_next, told_next_same, extends_same, extends_further}
+use Rattle.findings.proofs.ToldLaws.{told_next, told_next_same, extends_further}
 use Rattle.findings.proofs.slice.ask_later.Goals as goal
 
 pub answer-requires-clause-asked : goal.answer-requires-clause-asked
