@@ -28,6 +28,7 @@ fn book_of(alloc: Global) -> Result<Book, Fail> {
     Ok(book)
 }
 
+// A finding that no set shows.
 fn finding(question: Question) -> Note {
     Note::Finding {
         question,
@@ -43,6 +44,14 @@ fn two_engines(alloc: Global) -> Result<CodeSet, Fail> {
     Ok(set)
 }
 
+// A finding that a set shows.
+fn shown(question: Question, set: CodeSet) -> Note {
+    Note::Finding {
+        question,
+        set: Some(set),
+    }
+}
+
 // A question that was left after two learnt clauses.
 fn left(alloc: Global, question: Question) -> Result<Note, Fail> {
     let mut learnt = Pool::new(alloc);
@@ -51,40 +60,56 @@ fn left(alloc: Global, question: Question) -> Result<Note, Fail> {
     Ok(Note::Undecided { question, learnt })
 }
 
+// Notes of each kind in turn.
+fn note_of(alloc: Global, number: u32) -> Result<Note, Fail> {
+    match number {
+        0 => Ok(Note::Days {
+            first: 1,
+            last: 499,
+        }),
+        1 => Ok(finding(Question::Void)),
+        2 => Ok(Note::Days {
+            first: 500,
+            last: 1000,
+        }),
+        3 => Ok(finding(Question::Necessary(0))),
+        4 => Ok(finding(Question::Inadmissible(2))),
+        5 => Ok(finding(Question::Superfluous(2))),
+        6 => {
+            let pair = Question::Ambiguous {
+                position: 0,
+                first: 0,
+                second: 1,
+            };
+            Ok(shown(pair, two_engines(alloc)?))
+        }
+        7 => left(alloc, Question::Uncovered(0)),
+        _ => Ok(shown(Question::Uncovered(1), CodeSet::none(alloc, 3)?)),
+    }
+}
+
+// Their lines.
+const LINES: &[u8] = b"book T 1 1000\n\
+slice 1 499\n\
+void\n\
+slice 500 1000\n\
+necessary M1\n\
+inadmissible SUN\n\
+superfluous V3\n\
+ambiguous P1 V1 V2 with M1 M2\n\
+undecided uncovered P1 after 2\n\
+uncovered P2 with\n\
+end blocked\n";
+
 #[test]
 fn each_note_has_its_line(rt: HostRuntime) -> Result<(), Fail> {
     let alloc = rt.alloc();
     let book = book_of(alloc)?;
     let mut report = Report::new(alloc);
-    report.push(Note::Days {
-        first: 1,
-        last: 499,
-    })?;
-    report.push(finding(Question::Void))?;
-    report.push(Note::Days {
-        first: 500,
-        last: 1000,
-    })?;
-    report.push(finding(Question::Necessary(0)))?;
-    report.push(finding(Question::Inadmissible(2)))?;
-    report.push(finding(Question::Superfluous(2)))?;
-    report.push(Note::Finding {
-        question: Question::Ambiguous {
-            position: 0,
-            first: 0,
-            second: 1,
-        },
-        set: Some(two_engines(alloc)?),
-    })?;
-    report.push(left(alloc, Question::Uncovered(0))?)?;
-    report.push(Note::Finding {
-        question: Question::Uncovered(1),
-        set: Some(CodeSet::none(alloc, 3)?),
-    })?;
-    assert_eq!(rt;
-        report_text(alloc, &book, &report)?.as_slice(),
-        b"book T 1 1000\nslice 1 499\nvoid\nslice 500 1000\nnecessary M1\ninadmissible SUN\nsuperfluous V3\nambiguous P1 V1 V2 with M1 M2\nundecided uncovered P1 after 2\nuncovered P2 with\nend blocked\n".as_slice()
-    );
+    for number in 0..9u32 {
+        report.push(note_of(alloc, number)?)?;
+    }
+    assert_eq!(rt; report_text(alloc, &book, &report)?.as_slice(), LINES);
     Ok(())
 }
 

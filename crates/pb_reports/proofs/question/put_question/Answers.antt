@@ -1,4 +1,3 @@
-use Rattle.std.proofs.Common.{◌≡◌}
 use Rattle.pb_reports.proofs.question.put_question.Goals as goal
 
 pub returns-in-Inadmissible : goal.returns-in-Inadmissible
