@@ -191,7 +191,8 @@ fn order_in(alloc: Global, value: &Value) -> Result<OrderWords, Fail<Denied>>
 }
 
 fn codes_at(alloc: Global, value: &Value, key: &str) -> Result<CodeList, Fail<Denied>>
-    ensures { Answers result (or_denied BadBody (option_and_then codes_in (option_and_then as_array (get key.now (view value.now))))) }
+    ensures { Answers result (or_denied BadBody
+        (option_and_then codes_in (option_and_then as_array (get key.now (view value.now))))) }
 {
     match value.get(key) {
         Some(member) => codes_in(alloc, member),

@@ -13,7 +13,8 @@ pub enum Few<'a> {
 impl<'a> Few<'a> {
     /// With one value more.
     pub fn and(self, value: &'a [u8]) -> Few<'a>
-        ensures { (values : List (List ℕ)) → IsFew values self.entry → IsFew (values ++ value.now ∷ []) result }
+        ensures { (values : List (List ℕ)) → IsFew values self.entry
+            → IsFew (values ++ value.now ∷ []) result }
     {
         match self {
             Few::None => Few::One(value),

@@ -104,7 +104,8 @@ fn front_head(bytes: &[u8], spans: &mut [HeaderSpan]) -> Option<RequestSpans>
     ensures within { IfSome result (IsRequestWithin bytes.now spans.new) }
     ensures head { IfSome result (λ found. (h : RequestHead) × IsRequestAt bytes.now spans.new found h) }
     ensures found { (h : RequestHead) (rest : List ℕ) → ReadsRequest bytes.now h rest
-        → length h.fields ≤ length spans.old → IsSomeAnd result (λ found. IsRequestAt bytes.now spans.new found h) }
+        → length h.fields ≤ length spans.old
+        → IsSomeAnd result (λ found. IsRequestAt bytes.now spans.new found h) }
     ensures room { length spans.new ≡ length spans.old }
 {
     match parse_request(bytes, spans) {
