@@ -14,7 +14,7 @@ use pb_base::{Body, CodeList, CodeName, Fail, Id, Memory};
 use serde_json::Value;
 use std::alloc::Global;
 
-/// The budget of a check or a release whose body names none.
+// The budget of a check or a release whose body names none.
 const DEFAULT_BUDGET: u32 = 10_000;
 
 /// The call that a body completes.
