@@ -1,0 +1,6 @@
+//! Released books: a type that holds no book that can't be released.
+#![tactic(auto)]
+
+mod released;
+
+pub use released::Released;
