@@ -2,7 +2,6 @@
 ghost use Rattle.std.specs.Prelude.{◌<◌, ◌≤◌};
 
 use crate::{FromFault, NotReleased, Released, from_cert, judge, judged_text, try_release};
-use derivation::CertKind;
 use pb_base::{Body, CodeList, CodeName, Text};
 use std::alloc::Global;
 use std::test::Fail;
@@ -40,11 +39,11 @@ construct,B23,*,-P22/-P32,,\nconstruct,B24,*,-P22/-P42,,\nconstruct,B34,*,-P32/-
 construct,C12,*,-P13/-P23,,\nconstruct,C13,*,-P13/-P33,,\nconstruct,C14,*,-P13/-P43,,\n\
 construct,C23,*,-P23/-P33,,\nconstruct,C24,*,-P23/-P43,,\nconstruct,C34,*,-P33/-P43,,\n";
 
-// The book of the engines with these further rows.
-fn engines_with(alloc: Global, rows: &[u8]) -> Result<Body, Fail> {
+// The bytes, and further ones behind them.
+fn with_behind(alloc: Global, bytes: &[u8], behind: &[u8]) -> Result<Body, Fail> {
     let mut text = Text::new(alloc);
-    text.put(ENGINES)?;
-    text.put(rows)?;
+    text.put(bytes)?;
+    text.put(behind)?;
     Ok(text.into_body())
 }
 
@@ -107,18 +106,25 @@ fn fault_of(alloc: Global, released: &Released, day: u32, words: &[u8]) -> Resul
 // May be called with what threads share.
 fn shared<T: Send + Sync>(_value: &T) {}
 
+// Whether orders on both slices come to what they must, and two at fault to their faults.
+fn judges_both_slices(alloc: Global, book: &Released) -> Result<bool, Fail> {
+    let first = b"accepted\ncodes M2 G5\nMOT,P1,A200,1\n";
+    let second = b"accepted\ncodes M2 G5\nMOT,P1,A300,1\n";
+    Ok(
+        comes_to(alloc, book, 500, b"M2 G5", first)?
+            && comes_to(alloc, book, 501, b"M2 G5", second)?
+            && comes_to(alloc, book, 501, b"M1 M2", b"refused C2\n")?
+            && fault_of(alloc, book, 1001, b"M1")? == 1
+            && fault_of(alloc, book, 1000, b"M1 M1")? == 3,
+    )
+}
+
 #[test]
 fn orders_are_judged_by_a_released_book_of_two_slices(rt: HostRuntime) -> Result<(), Fail> {
     let alloc = rt.alloc();
-    let book = released(alloc, engines_with(alloc, TWO_SLICES)?)?;
+    let book = released(alloc, with_behind(alloc, ENGINES, TWO_SLICES)?)?;
     shared(&book);
-    let first = b"accepted\ncodes M2 G5\nMOT,P1,A200,1\n";
-    assert!(rt; comes_to(alloc, &book, 500, b"M2 G5", first)?);
-    let second = b"accepted\ncodes M2 G5\nMOT,P1,A300,1\n";
-    assert!(rt; comes_to(alloc, &book, 501, b"M2 G5", second)?);
-    assert!(rt; comes_to(alloc, &book, 501, b"M1 M2", b"refused C2\n")?);
-    assert!(rt; fault_of(alloc, &book, 1001, b"M1")? == 1);
-    assert!(rt; fault_of(alloc, &book, 1000, b"M1 M1")? == 3);
+    assert!(rt; judges_both_slices(alloc, &book)?);
     Ok(())
 }
 
@@ -154,37 +160,51 @@ fn a_text_is_refused_by_its_cause(rt: HostRuntime) -> Result<(), Fail> {
             rows.put(row)?;
             rows.put(b"\n")?;
         }
-        let cause = cause(alloc, engines_with(alloc, rows.bytes())?, 1000);
+        let cause = cause(alloc, with_behind(alloc, ENGINES, rows.bytes())?, 1000);
         assert!(rt; cause.as_bytes() == wanted);
     }
-    let large = engines_with(alloc, rows_of_65_slices(alloc)?.as_slice())?;
+    let large = with_behind(alloc, ENGINES, rows_of_65_slices(alloc)?.as_slice())?;
     assert!(rt; cause(alloc, large, 1000) == "limit");
     let pigeons = Body::of(Vec::from_slice(alloc, PIGEONS)?);
     assert!(rt; cause(alloc, pigeons, 1) == "undecided");
     Ok(())
 }
 
+// What a text and a certificate come to: a released book that has just these two, or the one that is at fault.
+fn certified(alloc: Global, text: Body, cert: Body, wanted: &Released) -> &'static str {
+    match from_cert(alloc, text, cert) {
+        Ok(again) => {
+            if again.text() == wanted.text() && again.cert() == wanted.cert() {
+                "released"
+            } else {
+                "another"
+            }
+        }
+        Err(pb_base::Fail::Refused(FromFault::Text(_))) => "text",
+        Err(pb_base::Fail::Refused(FromFault::Cert(_))) => "certificate",
+        Err(pb_base::Fail::Memory) => "memory",
+    }
+}
+
+// Whether the book is released again by its own certificate alone.
+fn is_released_again(alloc: Global, book: &Released) -> Result<bool, Fail> {
+    let text = with_behind(alloc, book.text(), b"")?;
+    let cert = with_behind(alloc, book.cert(), b"")?;
+    Ok(certified(alloc, text, cert, book) == "released")
+}
+
+fn is_refused_where_longer(alloc: Global, book: &Released) -> Result<bool, Fail> {
+    let text = with_behind(alloc, book.text(), b"")?;
+    let cert = with_behind(alloc, book.cert(), b"x")?;
+    Ok(certified(alloc, text, cert, book) == "certificate")
+}
+
 #[test]
 fn a_certificate_releases_the_book_again(rt: HostRuntime) -> Result<(), Fail> {
     let alloc = rt.alloc();
-    let first = released(alloc, engines_with(alloc, TWO_SLICES)?)?;
-    let cert = Body::of(Vec::from_slice(alloc, first.cert())?);
-    let Ok(again) = from_cert(alloc, engines_with(alloc, TWO_SLICES)?, cert) else {
-        return Err(Fail::from("a certificate at fault"));
-    };
-    assert!(rt; again.text() == first.text());
-    assert!(rt; again.cert() == first.cert());
-    assert!(rt; again.book().codes().len() == 5);
-    let mut longer = Text::new(alloc);
-    longer.put(first.cert())?;
-    longer.put(b"x")?;
-    let trailing = from_cert(alloc, engines_with(alloc, TWO_SLICES)?, longer.into_body());
-    assert!(rt;
-        matches!(trailing, Err(pb_base::Fail::Refused(FromFault::Cert(fault))) if fault.kind == CertKind::Trailing)
-    );
-    let none = from_cert(alloc, Body::new(alloc), Body::new(alloc));
-    assert!(rt;
-        matches!(none, Err(pb_base::Fail::Refused(FromFault::Text(fault))) if fault.row == 1)
-    );
+    let book = released(alloc, with_behind(alloc, ENGINES, TWO_SLICES)?)?;
+    assert!(rt; is_released_again(alloc, &book)?);
+    assert!(rt; is_refused_where_longer(alloc, &book)?);
+    assert!(rt; certified(alloc, Body::new(alloc), Body::new(alloc), &book) == "text");
     Ok(())
 }
