@@ -6,9 +6,11 @@ mod answer;
 mod check;
 mod effort;
 mod found;
+mod guide;
 mod laws;
 mod outcome;
 mod report;
+mod sets;
 mod slice;
 
 pub use check::{Checked, check_book};
