@@ -15,3 +15,6 @@ mod slice;
 
 pub use check::{Checked, check_book};
 pub use report::{Ask, Note, Report, Verdict, verdict_of};
+
+#[cfg(test)]
+mod tests;
