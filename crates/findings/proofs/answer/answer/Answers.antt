@@ -1,9 +1,8 @@
-use Rattle.std.proofs.Common.{[], ◌∷◌, ◌++◌, sym, subst, ◌∙◌}
-use Rattle.std.proofs.lemmas.List.Elements.{All-same, All-push}
+use Rattle.std.proofs.Common.{sym, subst, ◌∙◌}
 use Rattle.clause_pool.specs.Derivation.{Derivation, AllFollow}
 use Rattle.solver.specs.Answer.{Begins}
 use Rattle.solver.specs.Solver.{ClosedBy, given_of}
-use Rattle.findings.specs.Answering.{IsFound, IsOutcome, IsOver, inquiry}
+use Rattle.findings.specs.Answering.{IsOutcome, IsOver, inquiry}
 use Rattle.findings.specs.Findings.{MeetsThrough}
 use Rattle.findings.specs.Outcomes.{outcome_of_set}
 use Rattle.findings.proofs.Lifting.{meets_from_first}
