@@ -44,7 +44,7 @@ fn engine_book(alloc: Global) -> Result<Book, Fail> {
 // What an order comes to: a day, and codes behind spaces.
 fn outcome_of(alloc: Global, book: &Book, order: &[u8]) -> Result<Outcome, Fail> {
     let mut words = order.split(|b| *b == b' ');
-    let day = words.next().and_then(short_number).ok_or("a day")?;
+    let day = short_number(words.next().ok_or("a day")?).ok_or("a number")?;
     let mut names = Vec::new(alloc);
     for word in words {
         names.push(CodeName::of(word).ok_or("a code")?)?;

@@ -174,12 +174,12 @@ either_prints names l r prints_l prints_r d at rest deep ends =
     (expr_printed names l prints_l d at _ (omega arith) refl)
     (term_printed names r prints_r (is_either r) refl d _ rest (omega arith) ends)
 
--- the name of a code, and that the table has it at its place
 not_false : (b : Bool) → not b ≡ true → b ≡ false
 not_false true h = sym h
 not_false false h = refl
 
-name_place : (names : List (List ℕ)) (place : ℕ) → IsDistinct same_name names → place < length names → place_in names (get_or names place []) ≡ Some place
+-- the name at a place of a table is found there
+pub name_place : (names : List (List ℕ)) (place : ℕ) → IsDistinct same_name names → place < length names → place_in names (get_or names place []) ≡ Some place
 name_place names place apart inside =
     let name = get_or names place [] in
     let len : prefix_len (λ x. not (same_name name x)) names ≡ place =

@@ -7,4 +7,4 @@ mod Sound
 mod Whole
 pub mod Counts
 mod AnswerLemmas
-mod Back
+pub mod Back
