@@ -1,9 +1,8 @@
 -- What is asked of the generated book on a day: two questions of each code, and at most eleven of each position.
-use Rattle.std.proofs.Common.{◌≡◌, ℕ, zero, suc, ◌+◌, ◌*◌, ◌<◌, ◌≤◌, Bool, true, false, List, [], ◌∷◌, ◌++◌, Option, None, Some, length, length-append, refl, ap, ◌∙◌, arith, if◌then◌else◌}
+use Rattle.std.proofs.Common.{ℕ, zero, suc, ◌*◌, ◌≤◌, Bool, true, false, List, [], ◌∷◌, length, length-append, arith, if◌then◌else◌}
 use Rattle.std.specs.Prelude.{filter}
 use Rattle.std.specs.List.{flat_map}
 use Rattle.pb_base.specs.declared.limits.TheConstants.{MOST_QUESTIONS}
-use Rattle.book_model.specs.Contents.{Contents}
 use Rattle.book_model.specs.Parts.{variants_of, is_active_position}
 use Rattle.clausify.specs.Choices.{Choice, active_variants, is_active_variant, choices_from, choices}
 use Rattle.clausify.specs.Questions.{choice_questions, code_questions_from, questions}
@@ -56,5 +55,12 @@ choices_few n day i all (g ∷ gs) = one_choice (is_active_position day (positio
 
 pub sample_questions : (n day : ℕ) (gs : List Group) → Counts n gs → length (questions (sample_contents n gs) day) ≤ MOST_QUESTIONS
 sample_questions n day gs c =
-    omega (arith, length-append (code_questions_from 0 (names 75 n 0)) (flat_map choice_questions (choices (sample_contents n gs) day)),
-    length-code_questions 0 (names 75 n 0), length-names 75 n 0, choices_few n day 0 gs gs, c.codes, c.few)
+    omega (
+      arith,
+      length-append (code_questions_from 0 (names 75 n 0)) (flat_map choice_questions (choices (sample_contents n gs) day)),
+      length-code_questions 0 (names 75 n 0),
+      length-names 75 n 0,
+      choices_few n day 0 gs gs,
+      c.codes,
+      c.few,
+    )

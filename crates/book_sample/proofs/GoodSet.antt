@@ -1,15 +1,15 @@
 -- A good set of the generated book: of each group its first code, or its second where a rule binds the first.
-use Rattle.std.proofs.Common.{◌≡◌, ◌==◌, ℕ, zero, suc, ◌+◌, ◌*◌, ◌<◌, ◌≤◌, Bool, true, false, not, ◌&&◌, ◌||◌, List, [], ◌∷◌, ◌++◌, Option, None, Some, length, get_or, drop, refl, sym, ap, ◌∙◌, arith}
+use Rattle.std.proofs.Common.{◌≡◌, ◌==◌, ℕ, zero, suc, ◌+◌, ◌*◌, ◌<◌, Bool, true, false, not, ◌&&◌, ◌||◌, List, [], ◌∷◌, ◌++◌, Option, None, Some, length, get_or, drop, refl, sym, ap, ◌∙◌, arith}
 use Rattle.std.specs.Prelude.{IfSome}
 use Rattle.std.specs.List.{list_any}
-use Rattle.std.proofs.lemmas.Bool.{and_from, eq-eqb, not_from_false}
+use Rattle.std.proofs.lemmas.Bool.{eq-eqb}
 use Rattle.std.proofs.lemmas.List.{get_or-drop, drop-drop}
 use Rattle.pb_base.specs.Sets.{has}
 use Rattle.book_model.specs.Activity.{is_within}
 use Rattle.book_model.specs.Good.{breaks, fires, is_good}
 use Rattle.book_model.specs.declared.record.Construct.{Construct}
 use Rattle.book_sample.specs.Names.{names, place}
-use Rattle.book_sample.specs.Fits.{BoundFits, GroupFits, GroupsFit}
+use Rattle.book_sample.specs.Fits.{BoundFits, GroupsFit}
 use Rattle.book_sample.specs.declared.group.Bound.{Bound}
 use Rattle.book_sample.specs.declared.group.Group.{Group}
 use Rattle.book_sample.proofs.ByKind.{supplements, bound_rules, constructs, sample_contents}
@@ -61,7 +61,6 @@ absent_at (suc (suc (suc zero))) rest few = refl
 absent_at (suc (suc (suc (suc c)))) rest few = absurd (omega arith)
 
 module _ (day : ℕ) (x : List Bool) where
-
   -- what the set has from a group on
   abbrev IsLeft : ℕ → List Bool → Type 0
   IsLeft j left = drop (4 * j) x ≡ left
@@ -77,24 +76,38 @@ module _ (day : ℕ) (x : List Bool) where
   none_fire : (j : ℕ) (gs : List Group) → IsLeft j (good_set gs) → list_any (fires day x) (supplements j gs) ≡ false
   none_fire j [] h = refl
   none_fire j (g ∷ gs) h =
-      rw (has_at j 0 (good_set (g ∷ gs)) h, has_at j 1 (good_set (g ∷ gs)) h, has_at j 2 (good_set (g ∷ gs)) h, has_at j 3 (good_set (g ∷ gs)) h,
-      quiet (is_within 1 1000 day) (first_bound g.bound) (has x (place j g.adds)))
+      rw (
+        has_at j 0 (good_set (g ∷ gs)) h,
+        has_at j 1 (good_set (g ∷ gs)) h,
+        has_at j 2 (good_set (g ∷ gs)) h,
+        has_at j 3 (good_set (g ∷ gs)) h,
+        quiet (is_within 1 1000 day) (first_bound g.bound) (has x (place j g.adds)),
+      )
       (none_fire (suc j) gs (left_behind j _ _ _ _ (good_set gs) h))
 
   bound_kept : (j : ℕ) (o : Option Bound) (left : List Bool) (rest : List Construct) → IfSome o (BoundFits j)
       → IsLeft j (not (first_bound o) ∷ first_bound o ∷ false ∷ false ∷ left) → list_any (breaks day x) rest ≡ false → list_any (breaks day x) (bound_rules j o ++ rest) ≡ false
   bound_kept j None left rest fit h kept = kept
   bound_kept j (Some b) left rest fit h kept =
-      rw (has_at j b.code (not (b.code == 0) ∷ (b.code == 0) ∷ false ∷ false ∷ left) h ∙ absent_at b.code left fit.code,
-      not_there (is_within 1 1000 day) (not (has x (place b.group b.forbids)))) kept
+      rw (
+        has_at j b.code (not (b.code == 0) ∷ (b.code == 0) ∷ false ∷ false ∷ left) h ∙ absent_at b.code left fit.code,
+        not_there (is_within 1 1000 day) (not (has x (place b.group b.forbids))),
+      ) kept
 
   none_break : (j : ℕ) (gs : List Group) → GroupsFit j gs → IsLeft j (good_set gs) → list_any (breaks day x) (constructs j gs) ≡ false
   none_break j [] fit h = refl
   none_break j (g ∷ gs) (fit, later) h =
       let p = first_bound g.bound in
-      rw (has_at j 0 (good_set (g ∷ gs)) h, has_at j 1 (good_set (g ∷ gs)) h, has_at j 2 (good_set (g ∷ gs)) h, has_at j 3 (good_set (g ∷ gs)) h,
-      some_there (is_within 1 1000 day) p, first_alone (is_within 1 1000 day) p, second_alone (is_within 1 1000 day) p,
-      not_there (is_within 1 1000 day) (not ((not p || p) || false)))
+      rw (
+        has_at j 0 (good_set (g ∷ gs)) h,
+        has_at j 1 (good_set (g ∷ gs)) h,
+        has_at j 2 (good_set (g ∷ gs)) h,
+        has_at j 3 (good_set (g ∷ gs)) h,
+        some_there (is_within 1 1000 day) p,
+        first_alone (is_within 1 1000 day) p,
+        second_alone (is_within 1 1000 day) p,
+        not_there (is_within 1 1000 day) (not ((not p || p) || false)),
+      )
       (bound_kept j g.bound (good_set gs) (constructs (suc j) gs) fit.bound h (none_break (suc j) gs later (left_behind j _ _ _ _ (good_set gs) h)))
 
 pub set_is_good : (n day : ℕ) (gs : List Group) → Counts n gs → GroupsFit 0 gs → is_good (sample_contents n gs) day (good_set gs) ≡ true

@@ -1,8 +1,7 @@
 -- Each order names codes of the book, none twice, and a day of its term.
-use Rattle.std.proofs.Common.{◌≡◌, ℕ, zero, suc, ◌+◌, ◌*◌, ◌<◌, ◌≤◌, Bool, true, false, ◌&&◌, ◌||◌, List, [], ◌∷◌, ◌++◌, Option, None, Some, length, refl, sym, ap, ◌∙◌, inl, inr, arith}
-use Rattle.std.specs.Prelude.{nat_lt, is_none}
+use Rattle.std.proofs.Common.{◌≡◌, ℕ, zero, suc, ◌+◌, ◌*◌, ◌<◌, ◌≤◌, true, false, ◌||◌, List, [], ◌∷◌, ◌++◌, None, Some, length, refl, sym, ap, ◌∙◌, inl, inr, arith}
 use Rattle.std.specs.List.{list_any}
-use Rattle.std.proofs.lemmas.Bool.{and_from, cases_lt, le-leb, le-ltb, lt-ltb, or_from}
+use Rattle.std.proofs.lemmas.Bool.{cases_lt, le-leb, le-ltb, lt-ltb, or_from}
 use Rattle.std.proofs.lemmas.List.Folds.{list_any-append}
 use Rattle.pb_base.specs.Names.{same_name, place_in}
 use Rattle.pb_base.specs.NamedSet.{first_fault}
@@ -10,7 +9,7 @@ use Rattle.book_model.specs.Activity.{is_within}
 use Rattle.rule_text.proofs.Back.{name_place}
 use Rattle.parts_usage.specs.Fault.{order_fault}
 use Rattle.book_sample.specs.Draws.{stepped, drawn}
-use Rattle.book_sample.specs.Names.{name, names, code_name, place}
+use Rattle.book_sample.specs.Names.{names, code_name, place}
 use Rattle.book_sample.specs.Orders.{picks, order_at}
 use Rattle.book_sample.specs.declared.group.Group.{Group}
 use Rattle.book_sample.proofs.Drawn.{drawn-below}

@@ -1,23 +1,23 @@
 -- Every good set of the generated book has exactly one code of each group, and so selects exactly one variant at each position.
-use Rattle.std.proofs.Common.{◌≡◌, ◌==◌, ℕ, zero, suc, ◌+◌, ◌*◌, ◌-◌, ◌<◌, ◌≤◌, Bool, true, false, not, ◌&&◌, ◌||◌, List, [], ◌∷◌, ◌++◌, Option, None, Some, length, get_or, drop, refl, sym, ap, ◌∙◌, inl, inr, arith, if◌then◌else◌}
+use Rattle.std.proofs.Common.{◌≡◌, ◌==◌, ℕ, zero, suc, ◌+◌, ◌<◌, ◌≤◌, Bool, true, false, not, ◌&&◌, ◌||◌, List, [], ◌∷◌, ◌++◌, Option, None, Some, length, drop, refl, sym, ap, ◌∙◌, inl, inr, arith, if◌then◌else◌}
 use Rattle.std.specs.Prelude.{filter, slice_get}
 use Rattle.std.specs.Option.{option_map_or}
 use Rattle.std.specs.List.{list_any}
-use Rattle.std.proofs.lemmas.Bool.{and_from, and_parts, or_parts, cases_eq, eq-eqb, ne_eqb, not-true, not-false}
+use Rattle.std.proofs.lemmas.Bool.{and_parts, or_parts, cases_eq, eq-eqb, ne_eqb, not-true}
 use Rattle.std.proofs.lemmas.List.Folds.{list_any-append}
 use Rattle.pb_base.specs.Rule.{holds}
 use Rattle.pb_base.specs.Sets.{has}
 use Rattle.book_model.specs.Activity.{is_within}
 use Rattle.book_model.specs.Contents.{Contents}
 use Rattle.book_model.specs.Good.{breaks, is_met, is_good, is_closed, is_constructible}
-use Rattle.book_model.specs.Parts.{variants_from, variants_of, is_selected, is_selected_at, selected_of}
+use Rattle.book_model.specs.Parts.{variants_from, is_selected, is_selected_at, selected_of}
 use Rattle.book_model.specs.Sound.{are_fit_from, is_sound}
 use Rattle.book_model.specs.declared.record.Construct.{Construct}
 use Rattle.book_model.specs.declared.record.Variant.{Variant}
 use Rattle.book_sample.specs.Names.{place}
 use Rattle.book_sample.specs.declared.group.Choice.{Choice}
 use Rattle.book_sample.specs.declared.group.Group.{Group}
-use Rattle.book_sample.proofs.Items.{usage, some_of, none_of_three}
+use Rattle.book_sample.proofs.Items.{usage}
 use Rattle.book_sample.proofs.ByKind.{some_rule, alone_rule, bound_rules, constructs, positions, variant_of, variants, sample_contents}
 
 -- ---- exactly one code of each group
@@ -71,8 +71,7 @@ module _ (day : ℕ) (x : List Bool) (inside : is_within 1 1000 day ≡ true) wh
       let third = kept (alone_rule j 2 0 1 3) (alone_rule j 3 0 1 2 ∷ rest) refl refl second.1 in
       let fourth = kept (alone_rule j 3 0 1 2) rest refl refl third.1 in
       let later = or_parts (list_any (breaks day x) bound) (list_any (breaks day x) (constructs (suc j) gs))
-          (sym (list_any-append (breaks day x) bound (constructs (suc j) gs)) ∙ fourth.1) in
-      (
+      (sym (list_any-append (breaks day x) bound (constructs (suc j) gs)) ∙ fourth.1) in (
         exactly_one (has x (place j 0)) (has x (place j 1)) (has x (place j 2)) (has x (place j 3)) some.0 first.0 second.0 third.0,
         one_each (suc j) gs later.1,
       )
@@ -127,8 +126,14 @@ module _ (day : ℕ) (x : List Bool) (inside : is_within 1 1000 day ≡ true) wh
   one_used p j [] each from to = absurd (omega arith)
   one_used p j (g ∷ gs) (one, each) from to = elim (cases_eq j p) [
     | inl same ↦
-        rw (eq-eqb j p same, selected_is j 0 g.first, selected_is j 1 g.second, selected_is j 2 g.third, selected_is j 3 g.fourth,
-        none_used p (suc j) gs (omega arith)) one
+        rw (
+          eq-eqb j p same,
+          selected_is j 0 g.first,
+          selected_is j 1 g.second,
+          selected_is j 2 g.third,
+          selected_is j 3 g.fourth,
+          none_used p (suc j) gs (omega arith),
+        ) one
     | inr differ ↦ rw (ne_eqb j p differ) (omega (arith, one_used p (suc j) gs each (omega arith) (omega arith)))
   ]
 

@@ -1,5 +1,5 @@
 -- The law of generated books, of its parts.
-use Rattle.std.proofs.Common.{◌≡◌, ℕ, ◌+◌, ◌*◌, ◌/◌, ◌%◌, ◌≤◌, Bool, true, List, None, Ok, length, refl, sym, ap, subst, ◌∙◌, arith}
+use Rattle.std.proofs.Common.{◌≡◌, ℕ, ◌/◌, true, List, None, refl, sym, ap, subst, ◌∙◌, arith}
 use Rattle.std.proofs.lemmas.Bool.{le-leb}
 use Rattle.book_model.specs.Activity.{is_within}
 use Rattle.book_model.specs.Sound.{IsReleasable}
@@ -8,7 +8,6 @@ use Rattle.parts_usage.specs.Fault.{order_fault}
 use Rattle.book_sample.specs.Fits.{GroupsFit}
 use Rattle.book_sample.specs.Groups.{groups}
 use Rattle.book_sample.specs.Law.{MaySample, GivesBook}
-use Rattle.book_sample.specs.Lines.{sample_text}
 use Rattle.book_sample.specs.Orders.{order_at}
 use Rattle.book_sample.specs.declared.group.Group.{Group}
 use Rattle.book_sample.proofs.Drawn.{groups_fit, length-groups}

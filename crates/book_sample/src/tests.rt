@@ -49,11 +49,29 @@ fn lines_are_those_of_an_outside_generator(rt: HostRuntime) -> Result<(), Fail> 
     let alloc = rt.alloc();
     let small = sample_book(alloc, 1, 8)?;
     assert!(rt; has_line(&small, 1, b"book,SAMPLE,1,1000"));
-    assert!(rt; has_line(&small, 22, b"supplement,S0001,50,K0006,-K0004+-K0005+-K0006+-K0007,,"));
-    assert!(rt; has_line(&small, 29, b"variant,V0004,P0001,A0004,1,K0004+K0001/K0004+-K0001,,"));
+    assert!(rt;
+        has_line(
+            &small,
+            22,
+            b"supplement,S0001,50,K0006,-K0004+-K0005+-K0006+-K0007,,"
+        )
+    );
+    assert!(rt;
+        has_line(
+            &small,
+            29,
+            b"variant,V0004,P0001,A0004,1,K0004+K0001/K0004+-K0001,,"
+        )
+    );
     let bound = sample_book(alloc, 7, 64)?;
     assert!(rt; has_line(&bound, 238, b"construct,Z0015,K0060,-K0048,,"));
-    assert!(rt; has_line(&bound, 243, b"variant,V0063,P0015,A0063,5,K0063+K0015/K0063+-K0015,,"));
+    assert!(rt;
+        has_line(
+            &bound,
+            243,
+            b"variant,V0063,P0015,A0063,5,K0063+K0015/K0063+-K0015,,"
+        )
+    );
     Ok(())
 }
 
