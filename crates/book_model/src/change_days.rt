@@ -11,7 +11,8 @@ use std::alloc::Global;
 /// The days of a term, in order, on which one of these periods begins or has ended the day before, and the first day of the term.
 pub fn change_days(alloc: Global, term: Slice, periods: &[Slice]) -> Result<Vec<Day>, Memory>
     requires { term.first ≤ term.last }
-    ensures days { IfOk result (λ days. days.items ≡ filter (changes_at term.first periods.now) (days_in term)) }
+    ensures days { IfOk result (λ days.
+        days.items ≡ filter (changes_at term.first periods.now) (days_in term)) }
     ensures count { IfOk result (λ days. vec_len days ≤ 2 * length periods.now + 1) }
 {
     let mut days = turning_days(alloc, term, periods)?;

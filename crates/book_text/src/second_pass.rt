@@ -29,7 +29,8 @@ pub fn second_pass(alloc: Global, survey: &Survey) -> Result<PartialBook, Fail<B
     requires count { length survey.now.entries.items ≡ length (fields_of survey.now.texts) }
     requires few { length survey.now.entries.items ≤ MOST_TEXT_BYTES }
     requires short { IsShort (fields_of survey.now.texts) }
-    ensures value { Gives result records_of (said_pass survey.now.names 2 no_records survey.now.entries.items (fields_of survey.now.texts)) }
+    ensures value { Gives result records_of
+        (said_pass survey.now.names 2 no_records survey.now.entries.items (fields_of survey.now.texts)) }
     ensures grouped { IfOk result (IsGrouped (length survey.now.names.positions)) }
 {
     let mut book = PartialBook::new(alloc, &survey.names)?;
@@ -56,7 +57,8 @@ fn resolve_all(
     requires short { IsShort (fields_of texts.now) }
     requires none { book.old.variants.items ≡ [] }
     requires grouped { IsGrouped (length names.now.positions) book.old }
-    ensures value { Leaves result (records_of book.new) (said_pass names.now 2 (records_of book.old) entries.now (fields_of texts.now)) }
+    ensures value { Leaves result (records_of book.new)
+        (said_pass names.now 2 (records_of book.old) entries.now (fields_of texts.now)) }
     ensures grouped { OnOk result (IsGrouped (length names.now.positions) book.new) }
 {
     for (k, entry) in entries.iter().enumerate() {
@@ -83,7 +85,8 @@ fn resolve(
     requires short { length text.now < 2 ^ 32 }
     requires few { length book.old.variants.items < 2 ^ 32 }
     requires grouped { IsGrouped (length names.now.positions) book.old }
-    ensures value { Leaves result (records_of book.new) (resolved names.now (records_of book.old) entry.now text.now) }
+    ensures value { Leaves result (records_of book.new)
+        (resolved names.now (records_of book.old) entry.now text.now) }
     ensures grouped { OnOk result (IsGrouped (length names.now.positions) book.new) }
     ensures more { OnOk result (length book.new.variants.items ≤ length book.old.variants.items + 1) }
 {

@@ -14,7 +14,7 @@ ghost use Rattle.derivation.specs.Reading.{HasPairs, fault_at, line_of, seen, st
 
 use crate::after::after;
 use crate::fault::{CertFault, CertKind, Certified};
-use crate::laws::book_laws;
+use crate::laws::{book_laws, pieces_laws};
 use crate::limits::slices_within;
 use crate::line::{Line, read_line};
 use crate::pieces::Pieces;
@@ -53,7 +53,7 @@ fn read_cert(
     ensures { Answers result (read_cert book.now cert.now slices.now) }
 {
     let mut texts = Pieces::of(cert, b'\n');
-    let _countable = texts.is_done();
+    pieces_laws(&texts);
     let mut pairs = Vec::new(alloc);
     let mut stage = Stage::Head;
     let mut so_far = Certified {

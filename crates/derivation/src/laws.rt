@@ -1,9 +1,10 @@
 //! What is known of every value of some types. These calls do nothing.
-ghost use Rattle.std.specs.Prelude.{◌≡◌, ◌<◌, ◌^◌, length, true};
+ghost use Rattle.std.specs.Prelude.{◌≡◌, ◌<◌, ◌≤◌, ◌^◌, length, true};
 ghost use Rattle.std.specs.List.{IsDistinct, list_all};
 ghost use Rattle.pb_base.specs.Names.{is_code_name, same_name};
 ghost use Rattle.book_model.specs.Book.{IsBook};
 
+use crate::pieces::Pieces;
 use book_model::Book;
 use clause_pool::Kernel;
 use clausify::Coded;
@@ -16,6 +17,13 @@ pub(crate) fn book_laws(book: &Book)
 {
     let codes = book.codes();
     let _names = codes.len();
+}
+
+/// The pieces of a text can be counted.
+pub(crate) fn pieces_laws(texts: &Pieces)
+    ensures { length texts.now ≤ 2 ^ 63 }
+{
+    let _is_done = texts.is_done();
 }
 
 /// The clauses of a kernel can be counted.

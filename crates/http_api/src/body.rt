@@ -14,7 +14,7 @@ use pb_base::{Body, CodeList, CodeName, Fail, Id, Memory};
 use serde_json::Value;
 use std::alloc::Global;
 
-/// The budget of a check or a release whose body names none.
+// The budget of a check or a release whose body names none.
 const DEFAULT_BUDGET: u32 = 10_000;
 
 /// The call that a body completes.
@@ -191,7 +191,8 @@ fn order_in(alloc: Global, value: &Value) -> Result<OrderWords, Fail<Denied>>
 }
 
 fn codes_at(alloc: Global, value: &Value, key: &str) -> Result<CodeList, Fail<Denied>>
-    ensures { Answers result (or_denied BadBody (option_and_then codes_in (option_and_then as_array (get key.now (view value.now))))) }
+    ensures { Answers result (or_denied BadBody
+        (option_and_then codes_in (option_and_then as_array (get key.now (view value.now))))) }
 {
     match value.get(key) {
         Some(member) => codes_in(alloc, member),

@@ -21,7 +21,8 @@ use std::alloc::Global;
 
 /// The call that one message asks for, or why it asks for none: the first of path, method, caller and body that is wrong. Who has many messages makes `Routes` once.
 pub fn call_of(alloc: Global, message: &Message) -> Result<Call, Fail<Denied>>
-    ensures routed { (route : Route) → Leads (path_of message.now.head.target) route → Answers result (call_at route message.now) }
+    ensures routed { (route : Route) → Leads (path_of message.now.head.target) route
+        → Answers result (call_at route message.now) }
     ensures lost { LeadsNowhere (path_of message.now.head.target) → Answers result (Err NoPath) }
     ensures deniable { IfRefused result (λ denied. CanDeny denied message.now.head.target) }
 {
@@ -32,7 +33,8 @@ pub fn call_of(alloc: Global, message: &Message) -> Result<Call, Fail<Denied>>
 impl Routes {
     /// The call that a message asks for, or why it asks for none: the first of path, method, caller and body that is wrong.
     pub fn call_of(&self, alloc: Global, message: &Message) -> Result<Call, Fail<Denied>>
-        ensures routed { (route : Route) → Leads (path_of message.now.head.target) route → Answers result (call_at route message.now) }
+        ensures routed { (route : Route) → Leads (path_of message.now.head.target) route
+            → Answers result (call_at route message.now) }
         ensures lost { LeadsNowhere (path_of message.now.head.target) → Answers result (Err NoPath) }
         ensures deniable { IfRefused result (λ denied. CanDeny denied message.now.head.target) }
     {

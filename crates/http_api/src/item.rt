@@ -41,7 +41,8 @@ fn path_number(digits: &[u8]) -> Option<u32>
 // What stands between these two texts.
 fn item_in<'a>(path: &'a [u8], front: &[u8], back: &[u8]) -> Option<&'a [u8]>
     ensures found { IfSome result (λ item. path.now ≡ front.now ++ (item.now ++ back.now)) }
-    ensures only { (item : List ℕ) → path.now ≡ front.now ++ (item ++ back.now) → option_map (λ i. i.now) result ≡ Some item }
+    ensures only { (item : List ℕ) → path.now ≡ front.now ++ (item ++ back.now)
+        → option_map (λ i. i.now) result ≡ Some item }
 {
     match path.strip_prefix(front) {
         Some(rest) => rest.strip_suffix(back),

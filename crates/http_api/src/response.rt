@@ -13,7 +13,7 @@ use desk_words::Reply;
 use pb_base::{Body, Memory, Text};
 use std::alloc::Global;
 
-/// Room for the longest head with the longest line of a body.
+// Room for the longest head with the longest line of a body.
 const ROOM: usize = 256;
 
 /// The response of a reply. It says that the connection closes where `close` is true, and leaves the bytes of the body out where `bare` is true.

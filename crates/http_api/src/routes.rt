@@ -64,7 +64,8 @@ fn route_at(kind: Kind, path: &[u8]) -> Option<Route>
 
 fn draft_at(path: &[u8], page: DraftPage) -> Option<Route>
     ensures found { IfSome result (λ route. Leads path.now route) }
-    ensures only { (name : List ℕ) → Leads path.now (Route.Draft name page) → result ≡ Some (Route.Draft name page) }
+    ensures only { (name : List ℕ) → Leads path.now (Route.Draft name page)
+        → result ≡ Some (Route.Draft name page) }
 {
     match name_in(path, b"/drafts/", page.end()) {
         Some(name) => Some(Route::Draft(name, page)),
@@ -74,7 +75,8 @@ fn draft_at(path: &[u8], page: DraftPage) -> Option<Route>
 
 fn book_at(path: &[u8], page: BookPage) -> Option<Route>
     ensures found { IfSome result (λ route. Leads path.now route) }
-    ensures only { (number : ℕ) → Leads path.now (Route.Book number page) → result ≡ Some (Route.Book number page) }
+    ensures only { (number : ℕ) → Leads path.now (Route.Book number page)
+        → result ≡ Some (Route.Book number page) }
 {
     match number_in(path, b"/books/", page.end()) {
         Some(number) => Some(Route::Book(number, page)),

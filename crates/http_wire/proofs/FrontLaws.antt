@@ -153,3 +153,13 @@ none_seen skipped seen held known =
 
 pub none_yet : (skipped seen : ℕ) (held : List ℕ) → seen ≤ skipped → block_length (take (seen - skipped) (drop skipped held)) ≡ None
 none_yet skipped seen held before = let none : seen - skipped ≡ 0 = omega arith in rw none refl
+
+-- what is behind the line ends in front begins with none
+pub skipped_once : (s : List ℕ) → skipped_bytes (drop (skipped_bytes s) s) ≡ 0
+skipped_once [] = refl
+skipped_once (b ∷ s) = by_test (is_line_byte b) refl (skipped_once s) where
+  by_test : (t : Bool) → is_line_byte b ≡ t → skipped_bytes (drop (skipped_bytes s) s) ≡ 0 → skipped_bytes (drop (skipped_bytes (b ∷ s)) (b ∷ s)) ≡ 0
+  by_test true e later =
+      let more : 1 + skipped_bytes s ≡ suc (skipped_bytes s) = omega arith in
+      ap (λ (n : ℕ). skipped_bytes (drop n (b ∷ s))) (ap (λ (t : Bool). cond t (1 + skipped_bytes s) 0) e ∙ more) ∙ later
+  by_test false e later = ap (λ (n : ℕ). skipped_bytes (drop n (b ∷ s))) (ap (λ (t : Bool). cond t (1 + skipped_bytes s) 0) e) ∙ ap (λ (t : Bool). cond t (1 + skipped_bytes s) 0) e

@@ -1,7 +1,9 @@
 mod BlockEnds
 mod LineFeeds
 mod FrontLaws
-mod NamedFields
+mod KnownFields
+mod WholeHeads
+mod FirstHeads
 mod Numbers
 mod LineCounts
 mod StreamEnds

@@ -2,17 +2,21 @@
 use Rattle.std.proofs.Common.{◌≡◌, ◌≤◌, ◌+◌, ◌∙◌, ℕ, List, [], ◌∷◌, ◌++◌, length, cond, refl, ap, arith, append-nil}
 use Rattle.std.specs.Prelude.{count_by}
 use Rattle.std.specs.List.{flat_map}
-use Rattle.std.proofs.lemmas.List.Sums.{sum_by-append}
+use Rattle.std.proofs.lemmas.List.Sums.{sum_by-append, sum_by-cons}
 use Rattle.httparse.specs.Grammar.{LineEnd, crlf, lf, print_end, Field, print_field, print_section, print_blank, print_version, RequestHead, print_request, ReadsRequest}
 use Rattle.http_wire.specs.Front.{is_line_feed}
 use Rattle.http_wire.specs.Reading.{field_lines}
 
-feeds : List ℕ → ℕ
+unfoldable pub feeds : List ℕ → ℕ
 feeds s = count_by is_line_feed s
 
-feeds-append : (s t : List ℕ) → feeds (s ++ t) ≡ feeds s + feeds t
+pub feeds-append : (s t : List ℕ) → feeds (s ++ t) ≡ feeds s + feeds t
 unfolding feeds
 feeds-append s t = sum_by-append (λ b. cond (is_line_feed b) 1 0) s t
+
+pub feeds-cons : (b : ℕ) (s : List ℕ) → feeds (b ∷ s) ≡ cond (is_line_feed b) 1 0 + feeds s
+unfolding feeds
+feeds-cons b s = sum_by-cons (λ c. cond (is_line_feed c) 1 0) b s
 
 ends_line : (end : LineEnd) → feeds (print_end end) ≡ 1
 unfolding feeds

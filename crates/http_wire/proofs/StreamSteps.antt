@@ -11,7 +11,7 @@ use Rattle.http_wire.specs.Reading.{ReadsBlock}
 use Rattle.http_wire.specs.Items.{behind, ReadsFront, ReadsHead}
 use Rattle.http_wire.specs.Stream.{StreamStep}
 
-behind-append : (step : HeadStep) (n : ℕ) (held more : List ℕ) → n ≤ length held → behind step n (held ++ more) ≡ behind step n held ++ more
+pub behind-append : (step : HeadStep) (n : ℕ) (held more : List ℕ) → n ≤ length held → behind step n (held ++ more) ≡ behind step n held ++ more
 behind-append (Head head) n held more within = drop-append-le n held more within
 behind-append NoMore n held more within = refl
 behind-append (Refused status) n held more within = refl

@@ -1,12 +1,12 @@
 pub mod Front
 pub mod Search
 pub mod Fields
-pub mod Wish
 pub mod Parts
 pub mod Reading
 pub mod Few
-pub mod Named
+pub mod Known
 pub mod Number
 pub mod Stream
 pub mod Items
 pub mod Fronts
+pub mod FirstHeads

@@ -1,16 +1,18 @@
 //! What the parts of a head come to.
-ghost use Rattle.std.specs.Prelude.{◌≡◌, ◌≤◌, IfOk, IfSome, codes, true};
+ghost use Rattle.std.specs.Prelude.{◌≡◌, ◌≤◌, ℕ, List, IfOk, IfSome, true};
 ghost use Rattle.std.specs.List.{list_all};
 ghost use Rattle.pb_base.specs.Digits.{is_digit};
-ghost use Rattle.http_wire.specs.Fields.{values_of, is_digits, length_by, body_length, one_caller};
-ghost use Rattle.http_wire.specs.Reading.{lacks_host, is_coded, closes, expects, kept_of, judge, HasSmallBody};
+ghost use Rattle.http_wire.specs.Few.{IsFew};
+ghost use Rattle.http_wire.specs.Known.{AreKnown};
+ghost use Rattle.http_wire.specs.Fields.{is_digits, length_by, body_length, one_caller};
+ghost use Rattle.http_wire.specs.Reading.{lacks_host, is_coded, kept_of, judge, HasSmallBody};
 ghost use Rattle.http_wire.specs.Number.{number_up_to};
 ghost use Rattle.pb_base.specs.declared.limits.TheConstants.{MOST_TEXT_BYTES};
 
-use crate::fields::{Few, Fields};
+use crate::few::Few;
 use crate::head::{Head, HeadStep};
+use crate::known::KnownFields;
 use crate::parts::Parts;
-use crate::wish::Wish;
 use pb_base::limits::MOST_TEXT_BYTES;
 use pb_base::{Id, Memory, Sequence};
 use std::alloc::Global;
@@ -20,38 +22,41 @@ pub fn judge(alloc: Global, parts: &Parts) -> Result<HeadStep, Memory>
     ensures step { IfOk result (λ step. step ≡ judge parts.now) }
     ensures small { IfOk result HasSmallBody }
 {
-    if lacks_host(parts) {
+    let known = parts.fields.known();
+    if lacks_host(parts, &known) {
         return Ok(HeadStep::Bad(400));
     }
-    if is_coded(parts) {
+    if is_coded(parts, &known) {
         return Ok(HeadStep::Bad(501));
     }
-    match body_length(&parts.fields) {
-        Ok(length) => Ok(HeadStep::Head(kept_of(alloc, parts, length)?)),
+    match body_length(known.length) {
+        Ok(length) => Ok(HeadStep::Head(kept_of(alloc, parts, &known, length)?)),
         Err(status) => Ok(HeadStep::Bad(status)),
     }
 }
 
 /// Whether the one Host field is missing that HTTP/1.1 asks for.
-fn lacks_host(parts: &Parts) -> bool
+fn lacks_host(parts: &Parts, known: &KnownFields) -> bool
+    requires { AreKnown parts.now.fields known.now }
     ensures { result ≡ lacks_host parts.now }
 {
-    parts.minor == 1 && !matches!(parts.fields.few(b"Host"), Few::One(_))
+    parts.minor == 1 && !matches!(known.host, Few::One(_))
 }
 
 /// Whether the body is in pieces of another coding.
-fn is_coded(parts: &Parts) -> bool
+fn is_coded(parts: &Parts, known: &KnownFields) -> bool
+    requires { AreKnown parts.now.fields known.now }
     ensures { result ≡ is_coded parts.now }
 {
-    !matches!(parts.fields.few(b"Transfer-Encoding"), Few::None)
+    !matches!(known.coding, Few::None)
 }
 
 /// The length of the body, or the status by which the head is refused.
-fn body_length(fields: &Fields) -> Result<u32, u16>
-    ensures length { result ≡ body_length (values_of (codes "Content-Length") fields.now) }
+fn body_length(length: Few) -> Result<u32, u16>
+    ensures length { (values : List (List ℕ)) → IsFew values length.entry → result ≡ body_length values }
     ensures small { IfOk result (λ length. length ≤ MOST_TEXT_BYTES) }
 {
-    match fields.few(b"Content-Length") {
+    match length {
         Few::None => Ok(0),
         Few::One(value) => length_by(value),
         Few::More => Err(400),
@@ -99,36 +104,25 @@ fn number_up_to(digits: &[u8], limit: u32) -> Option<u32>
 }
 
 /// What is kept of a head whose body has this length.
-fn kept_of(alloc: Global, parts: &Parts, length: u32) -> Result<Head, Memory>
+fn kept_of(alloc: Global, parts: &Parts, known: &KnownFields, length: u32) -> Result<Head, Memory>
+    requires { AreKnown parts.now.fields known.now }
     ensures { IfOk result (λ head. head ≡ kept_of parts.now length) }
 {
     Ok(Head {
         method: Sequence::of(Vec::from_slice(alloc, parts.method)?),
         target: Sequence::of(Vec::from_slice(alloc, parts.target)?),
         version: parts.minor,
-        close: closes(parts),
+        close: parts.minor == 0 || known.close,
         length,
-        expects: expects(parts, length),
-        caller: one_caller(&parts.fields),
+        expects: parts.minor == 1 && length > 0 && known.expect,
+        caller: one_caller(known.caller),
     })
 }
 
-fn closes(parts: &Parts) -> bool
-    ensures { result ≡ closes parts.now }
+fn one_caller(caller: Few) -> Option<Id>
+    ensures { (values : List (List ℕ)) → IsFew values caller.entry → result ≡ one_caller values }
 {
-    parts.minor == 0 || parts.fields.ask_for(Wish::Close)
-}
-
-fn expects(parts: &Parts, length: u32) -> bool
-    ensures { result ≡ expects parts.now length }
-{
-    parts.minor == 1 && length > 0 && parts.fields.ask_for(Wish::Continue)
-}
-
-fn one_caller(fields: &Fields) -> Option<Id>
-    ensures { result ≡ one_caller (values_of (codes "X-Caller") fields.now) }
-{
-    match fields.few(b"X-Caller") {
+    match caller {
         Few::One(value) => Id::of(value),
         _ => None,
     }

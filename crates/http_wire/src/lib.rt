@@ -3,11 +3,13 @@
 
 mod block;
 mod fault;
+mod few;
 mod fields;
 mod front;
 mod front_reader;
 mod head;
 mod judge;
+mod known;
 mod law;
 pub mod limits;
 mod message;
@@ -16,7 +18,6 @@ mod reading;
 mod search;
 mod source;
 mod wire;
-mod wish;
 mod word;
 
 pub use fault::ReadFault;

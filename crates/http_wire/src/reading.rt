@@ -1,10 +1,11 @@
 //! Reading the bytes of a head.
-ghost use Rattle.std.specs.Prelude.{◌≡◌, ◌≤◌, ℕ, [], IfOk, IfSome, IfNone, length, count_by, nat_lt};
+ghost use Rattle.std.specs.Prelude.{◌≡◌, ◌≤◌, ℕ, List, IfOk, IfSome, IsSomeAnd, length, count_by};
 ghost use Rattle.httparse.specs.Grammar.{RequestHead, ReadsRequest};
 ghost use Rattle.httparse.specs.Spans.{IsRequestAt, IsRequestWithin};
-ghost use Rattle.http_wire.specs.Front.{is_line_feed};
-ghost use Rattle.http_wire.specs.Reading.{field_lines, ReadsBlock, HasSmallBody};
-ghost use Rattle.http_wire.specs.declared.limits.TheConstants.{MOST_FIELD_LINES};
+ghost use Rattle.http_wire.specs.Front.{is_line_feed, skipped_bytes};
+ghost use Rattle.http_wire.specs.FirstHeads.{IsFirstHead};
+ghost use Rattle.http_wire.specs.Parts.{parts_of};
+ghost use Rattle.http_wire.specs.Reading.{field_lines, judge, ReadsBlock, HasSmallBody};
 
 use crate::fields::Fields;
 use crate::head::HeadStep;
@@ -16,8 +17,33 @@ use httparse::spans::{EMPTY_HEADER_SPAN, HeaderSpan, RequestSpans, parse_request
 use pb_base::Memory;
 use std::alloc::Global;
 
-/// The room for fields that is tried first.
+/// The most fields of a head that is read before it is searched for its end.
 const USUAL_FIELDS: usize = 16;
+
+/// What the bytes come to that a head is made of, and how many these are.
+#[derive(Drop)]
+pub struct FirstHead {
+    pub step: HeadStep,
+    pub length: usize,
+}
+
+/// The head in front of the bytes, where one of the grammar stands there that has no more fields than usual. It is found
+/// without a search for its end.
+pub fn first_head(alloc: Global, bytes: &[u8]) -> Result<Option<FirstHead>, Memory>
+    requires { skipped_bytes bytes.now ≡ 0 }
+    ensures head { IfOk result (λ found. IfSome found (IsFirstHead bytes.now)) }
+    ensures within { IfOk result (λ found. IfSome found (λ first. first.length ≤ length bytes.now)) }
+    ensures small { IfOk result (λ found. IfSome found (λ first. HasSmallBody first.step)) }
+{
+    let mut spans = [EMPTY_HEADER_SPAN; USUAL_FIELDS];
+    let Some(head) = front_head(bytes, &mut spans) else {
+        return Ok(None);
+    };
+    Ok(Some(FirstHead {
+        step: judged(alloc, bytes, &spans, head)?,
+        length: head.len,
+    }))
+}
 
 /// The head that the bytes are, or the status by which they are refused.
 pub fn read_block(alloc: Global, block: &[u8]) -> Result<HeadStep, Memory>
@@ -27,50 +53,32 @@ pub fn read_block(alloc: Global, block: &[u8]) -> Result<HeadStep, Memory>
     if field_lines(block) > MOST_FIELD_LINES {
         return Ok(HeadStep::Bad(431));
     }
-    let mut spans = [EMPTY_HEADER_SPAN; USUAL_FIELDS];
-    if let Some(step) = read_lines(alloc, block, &mut spans)? {
-        return Ok(step);
+    let mut spans = [EMPTY_HEADER_SPAN; MOST_FIELD_LINES];
+    match front_head(block, &mut spans) {
+        Some(head) if head.len == block.len() => judged(alloc, block, &spans, head),
+        _ => Ok(HeadStep::Bad(400)),
     }
-    read_any(alloc, block)
 }
 
-/// The same with room for all fields. It is a function of its own, since a function clears its room when it is entered.
-#[cold]
-#[inline(never)]
-fn read_any(alloc: Global, block: &[u8]) -> Result<HeadStep, Memory>
-    requires { field_lines block.now ≤ MOST_FIELD_LINES }
-    ensures step { IfOk result (ReadsBlock block.now) }
+/// What the head comes to whose parts lie there.
+fn judged(
+    alloc: Global,
+    bytes: &[u8],
+    spans: &[HeaderSpan],
+    head: RequestSpans,
+) -> Result<HeadStep, Memory>
+    requires { IsRequestWithin bytes.now spans.now head }
+    ensures step { IfOk result (λ step. (h : RequestHead) → IsRequestAt bytes.now spans.now head h
+        → step ≡ judge (parts_of h)) }
     ensures small { IfOk result HasSmallBody }
 {
-    let mut spans = [EMPTY_HEADER_SPAN; MOST_FIELD_LINES];
-    match read_lines(alloc, block, &mut spans)? {
-        Some(step) => Ok(step),
-        None => Ok(HeadStep::Bad(400)),
-    }
-}
-
-/// The same where there are not too many lines, or None where they are no head with no more fields than there is room.
-fn read_lines(
-    alloc: Global,
-    block: &[u8],
-    spans: &mut [HeaderSpan],
-) -> Result<Option<HeadStep>, Memory>
-    requires { field_lines block.now ≤ MOST_FIELD_LINES }
-    ensures step { IfOk result (λ found. IfSome found (ReadsBlock block.now)) }
-    ensures small { IfOk result (λ found. IfSome found HasSmallBody) }
-    ensures none { IfOk result (λ found. IfNone found ((h : RequestHead) → ReadsRequest block.now h []
-        → length h.fields ≤ length spans.old → ⊥)) }
-{
-    let Some(head) = whole_head(block, spans) else {
-        return Ok(None);
-    };
     let parts = Parts {
-        method: head.method.of(block),
-        target: head.path.of(block),
+        method: head.method.of(bytes),
+        target: head.path.of(bytes),
         minor: head.version,
-        fields: Fields::of(block, &spans[..head.headers]),
+        fields: Fields::of(bytes, &spans[..head.headers]),
     };
-    Ok(Some(judge(alloc, &parts)?))
+    judge(alloc, &parts)
 }
 
 /// The lines between the request line and the empty line.
@@ -90,16 +98,18 @@ fn line_feeds(block: &[u8]) -> usize
     count
 }
 
-/// Where the parts of the head lie that the bytes are, if they are one with no more fields than there is room.
-fn whole_head(block: &[u8], spans: &mut [HeaderSpan]) -> Option<RequestSpans>
-    ensures within { IfSome result (IsRequestWithin block.now spans.new) }
-    ensures whole { IfSome result (λ found. found.len ≡ length block.now) }
-    ensures head { IfSome result (λ found. (h : RequestHead) × IsRequestAt block.now spans.new found h) }
-    ensures none { IfNone result ((h : RequestHead) → ReadsRequest block.now h []
-        → length h.fields ≤ length spans.old → ⊥) }
+/// Where the parts of the head lie that stands in front of the bytes, if there is one with no more fields than there is
+/// room.
+fn front_head(bytes: &[u8], spans: &mut [HeaderSpan]) -> Option<RequestSpans>
+    ensures within { IfSome result (IsRequestWithin bytes.now spans.new) }
+    ensures head { IfSome result (λ found. (h : RequestHead) × IsRequestAt bytes.now spans.new found h) }
+    ensures found { (h : RequestHead) (rest : List ℕ) → ReadsRequest bytes.now h rest
+        → length h.fields ≤ length spans.old
+        → IsSomeAnd result (λ found. IsRequestAt bytes.now spans.new found h) }
+    ensures room { length spans.new ≡ length spans.old }
 {
-    match parse_request(block, spans) {
-        Ok(Status::Complete(head)) if head.len == block.len() => Some(head),
+    match parse_request(bytes, spans) {
+        Ok(Status::Complete(head)) => Some(head),
         _ => None,
     }
 }

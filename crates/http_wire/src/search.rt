@@ -84,7 +84,7 @@ impl Search {
 }
 
 /// How many CR and LF bytes stand in front.
-fn line_bytes(bytes: &[u8]) -> usize
+pub fn line_bytes(bytes: &[u8]) -> usize
     ensures skipped { result ≡ skipped_bytes bytes.now }
     ensures within { result ≤ length bytes.now }
 {

@@ -1,9 +1,10 @@
 //! Messages from a source, one after the other.
-ghost use Rattle.std.specs.Prelude.{◌≡◌, ◌+◌, ◌≤◌, [], Ok, Some, IfOk, OnOk, OnErr, IfSome, length, take, drop};
+ghost use Rattle.std.specs.Prelude.{◌≡◌, ◌+◌, ◌≤◌, [], false, Ok, Some, IfOk, OnOk, OnErr, IfSome, IfNone, length, take, drop};
 ghost use Rattle.pb_base.specs.Answers.{IfRefused};
 ghost use Rattle.pb_outside.specs.Faults.{IsLater};
+ghost use Rattle.http_wire.specs.FirstHeads.{ReadsHeld};
 ghost use Rattle.http_wire.specs.Fronts.{HasFront, IsHeld};
-ghost use Rattle.http_wire.specs.Items.{ReadsFront, ReadsHead, ReadsBody, IsWhole};
+ghost use Rattle.http_wire.specs.Items.{behind, ReadsFront, ReadsHead, ReadsBody, IsWhole};
 ghost use Rattle.http_wire.specs.Reading.{HasSmallBody};
 ghost use Rattle.http_wire.specs.Stream.{ReadFails, StreamStep, SameStream};
 ghost use Rattle.http_wire.specs.declared.limits.TheConstants.{MOST_HEAD_BYTES};
@@ -12,10 +13,11 @@ use crate::fault::ReadFault;
 use crate::front::Front;
 use crate::front_reader::read_front;
 use crate::head::{Head, HeadStep};
+use crate::limits::MOST_HEAD_BYTES;
 use crate::message::{BodyStep, Message};
-use crate::reading::read_block;
-use crate::search::Search;
-use crate::source::read_until;
+use crate::reading::{first_head, read_block};
+use crate::search::{Search, line_bytes};
+use crate::source::{read_more, read_until};
 use pb_base::{Fail, Memory, Sequence};
 use pb_outside::Source;
 use std::alloc::Global;
@@ -69,8 +71,53 @@ impl Wire {
         ensures other_end { S.output source.new ≡ S.output source.old }
         ensures same_names { S.names source.new ≡ S.names source.old }
     {
+        if !self.fill(source)? {
+            return Ok(HeadStep::End);
+        }
+        if let Some(step) = self.usual_head()? {
+            return Ok(step);
+        }
         let front = self.front(source)?;
         Ok(self.step(front)?)
+    }
+
+    /// Reads once where nothing is held, and answers whether something is held then.
+    fn fill<S: Source>(&mut self, source: &mut S) -> Result<bool, Fail<ReadFault>>
+        ensures stream { let left = (S.input source.old).left in
+            let left' = (S.input source.new).left in
+            StreamStep SameStream self.old left self.new left' }
+        ensures ended { let left' = (S.input source.new).left in
+            result ≡ Ok false → (self.new ≡ []) × IfSome (S.input source.old).left (λ _. left' ≡ Some []) }
+        ensures small { length self.new ≤ MOST_HEAD_BYTES }
+        ensures stays { OnOk result ((S.input source.new).faults.count ≡ (S.input source.old).faults.count) }
+        ensures cause { IfRefused result (ReadFails (S.input source.old).faults (S.input source.new).faults) }
+        ensures later { IsLater (S.input source.old).faults (S.input source.new).faults }
+        ensures other_end { S.output source.new ≡ S.output source.old }
+        ensures same_names { S.names source.new ≡ S.names source.old }
+    {
+        if self.used < self.bytes.len() {
+            return Ok(true);
+        }
+        self.bytes.clear();
+        self.used = 0;
+        Ok(read_more(&mut self.bytes, source, MOST_HEAD_BYTES)? > 0)
+    }
+
+    /// The head that comes next, where all of it is held and it has no more fields than usual. It is used up.
+    fn usual_head(&mut self) -> Result<Option<HeadStep>, Memory>
+        ensures step { IfOk result (λ found. IfSome found (λ step. ReadsHeld step self.old self.new)) }
+        ensures none { IfOk result (λ found. IfNone found (self.new ≡ self.old)) }
+        ensures lost { OnErr result (self.new ≡ self.old) }
+        ensures small_body { IfOk result (λ found. IfSome found HasSmallBody) }
+        ensures small { length self.new ≤ MOST_HEAD_BYTES }
+    {
+        let held = self.held();
+        let skipped = line_bytes(held);
+        let Some(first) = first_head(self.alloc, &held[skipped..])? else {
+            return Ok(None);
+        };
+        self.pass(&first.step, skipped + first.length);
+        Ok(Some(first.step))
     }
 
     /// What that comes to which stands at the front. It is used up if it is a head.
@@ -89,15 +136,20 @@ impl Wire {
             Front::Bad(status) => Ok(HeadStep::Bad(status)),
             Front::Block { skipped, length } => {
                 let block = &self.held()[skipped..skipped + length];
-                match read_block(self.alloc, block)? {
-                    HeadStep::Head(head) => {
-                        self.used += skipped + length;
-                        Ok(HeadStep::Head(head))
-                    }
-                    HeadStep::End => Ok(HeadStep::End),
-                    HeadStep::Bad(status) => Ok(HeadStep::Bad(status)),
-                }
+                let step = read_block(self.alloc, block)?;
+                self.pass(&step, skipped + length);
+                Ok(step)
             }
+        }
+    }
+
+    /// Uses up the bytes of a head, so many. What is refused stays.
+    fn pass(&mut self, step: &HeadStep, count: usize)
+        requires { count ≤ length self.old }
+        ensures { self.new ≡ behind step.now count self.old }
+    {
+        if matches!(step, HeadStep::Head(_)) {
+            self.used += count;
         }
     }
 

@@ -10,12 +10,14 @@ use Rattle.partsbook.specs.Replies.{RepliesTo, FailsAtFile, KeepsFiles}
 use Rattle.partsbook.specs.Tells.{IsWritten, Tells}
 use Rattle.partsbook.specs.Run.{Due, answer, source_fault, file_fault, no_memory, AnswersBook, AnswersUsage, DoesAsked, Does}
 use Rattle.partsbook.specs.declared.command.BookCommand.{BookCommand}
-use Rattle.partsbook.specs.declared.command.BookCommand.TheVariants.{Order, Verify}
+use Rattle.partsbook.specs.declared.command.BookCommand.TheVariants.{Order, Check, Prove, Verify}
 
 -- files that nobody touched
 pub KeepsFiles-same : (command : BookCommand) (files : FilesTold) → KeepsFiles command files files
 unfolding KeepsFiles
 KeepsFiles-same (Order day ordered) files = refl
+KeepsFiles-same (Check budget) files = refl
+KeepsFiles-same (Prove budget) files = refl
 KeepsFiles-same (Verify file) files = record { same = refl; later = record { never_falls = omega arith; kept = λ h. h } }
 
 -- what was read is a front of what was left

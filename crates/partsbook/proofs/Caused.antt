@@ -10,7 +10,7 @@ use Rattle.partsbook.specs.Replies.{FailsAtFile}
 use Rattle.partsbook.specs.Tells.{IsTold}
 use Rattle.partsbook.specs.Run.{Due, answer, source_fault, file_fault, no_memory, AnswersBook, AnswersUsage, DoesAsked, Does, IsCaused, by_words, by_inputs, by_sink, by_memory, by_reply}
 use Rattle.partsbook.specs.declared.command.BookCommand.{BookCommand}
-use Rattle.partsbook.specs.declared.command.BookCommand.TheVariants.{Order, Verify}
+use Rattle.partsbook.specs.declared.command.BookCommand.TheVariants.{Order, Check, Prove, Verify}
 use Rattle.partsbook.proofs.Statuses.{IsReplyStatus, replies-kind}
 use Rattle.partsbook.proofs.Told.{Ends-of_tells}
 
@@ -22,6 +22,8 @@ is_none asked e = subst (λ (o : Option BookCommand). is_some o ≡ false) (sym 
 pub file_rose : (command : BookCommand) (input : List ℕ) (files files' : FilesTold) → FailsAtFile command input files files' → Rose files.faults.count files'.faults.count
 unfolding FailsAtFile
 file_rose (Order day ordered) input files files' h = absurd h
+file_rose (Check budget) input files files' h = absurd h
+file_rose (Prove budget) input files files' h = absurd h
 file_rose (Verify file) input files files' h = h.fault.rose
 
 -- a command that was answered

@@ -1,8 +1,7 @@
-pub mod NamesText
-pub mod Texts
+pub mod SlicesTold
 pub mod Statuses
 pub mod Told
 pub mod Asked
 pub mod Caused
-pub mod Verified
+pub mod Releasable
 pub mod Sure

@@ -12,16 +12,12 @@ use Rattle.partsbook.specs.Outside.{Inputs, Outside, input_limit}
 use Rattle.partsbook.specs.RunReply.{RunReply, memory_reply, memory_text}
 use Rattle.partsbook.specs.Replies.{IsCertificate, HasCertificate, IsValidCommand, RepliesTo, FailsAtFile}
 use Rattle.partsbook.specs.Tells.{IsTold}
-use Rattle.partsbook.specs.Run.{Due, answer, source_fault, file_fault, no_memory, AnswersBook, DoesAsked, Does, FitsReplies, IsValid, IsUnfailing, IsSure}
+use Rattle.partsbook.specs.Run.{Due, answer, source_fault, file_fault, no_memory, AnswersBook, DoesAsked, Does, FitsReplies, IsValid, IsServed, IsUnfailing, IsSure}
 use Rattle.partsbook.specs.declared.command.BookCommand.{BookCommand}
-use Rattle.partsbook.specs.declared.command.BookCommand.TheVariants.{Order, Verify}
-use Rattle.partsbook.proofs.Statuses.{valid-status}
+use Rattle.partsbook.specs.declared.command.BookCommand.TheVariants.{Order, Check, Prove, Verify}
+use Rattle.partsbook.proofs.Statuses.{IsAnswered, valid-answered}
 use Rattle.partsbook.proofs.Told.{Ends-of_tells, told_whole}
 use Rattle.partsbook.proofs.Caused.{file_rose}
-
--- the status of a command that was answered, or of want of memory
-abbrev pub IsServed : ℕ → Type 0
-IsServed status = (status ≤ 1) ⊎ (status ≡ 9)
 
 -- what was asked was done
 answered : (asked : Option BookCommand) (command : BookCommand) (before after : Outside) (status : ℕ) → asked ≡ Some command
@@ -35,10 +31,17 @@ same_input None left' input read given h = absurd given
 same_input (Some all) left' input read given h = given ∙ sym h.0
 
 -- a reply that was told to a valid command
-told_status : (command : BookCommand) (input read : List ℕ) (files files' : FilesTold) (reply : RunReply) → input ≡ read
-    → IsValidCommand command input files.files → RepliesTo command read files files' reply → reply.status ≤ 1
-told_status command input read files files' reply e valid h =
-    valid-status command read files files' reply (subst (λ (i : List ℕ). IsValidCommand command i files.files) e valid) h
+told_answer : (reply : RunReply) (before after : Outside) (status : ℕ) → IsAnswered reply
+    → IsTold reply before.writes after.writes status → IsServed before after status
+told_answer reply before after status h told = elim h [
+  | inl done ↦ inl (subst (λ (s : ℕ). s ≤ 1) (sym told.ends) done)
+  | inr left ↦ inr (inl (record { ends = told.ends ∙ left.ends; notes = reply.notes; noted = told.notes; spent = left.spent }))
+]
+
+valid_answer : (command : BookCommand) (input read : List ℕ) (files files' : FilesTold) (reply : RunReply) → input ≡ read
+    → IsValidCommand command input files.files → RepliesTo command read files files' reply → IsAnswered reply
+valid_answer command input read files files' reply e valid h =
+    valid-answered command read files files' reply (subst (λ (i : List ℕ). IsValidCommand command i files.files) e valid) h
 
 -- a file with a certificate is there
 has_file : (found : Option (List ℕ)) (b : Contents) → IsSomeAnd found (IsCertificate b) → found ≡ None → ⊥
@@ -60,6 +63,8 @@ no_file_fault : (command : BookCommand) (input read : List ℕ) (files files' : 
     → IsValidCommand command input files.files → files.faults.faultless ≡ true → FailsAtFile command read files files' → ⊥
 unfolding FailsAtFile IsValidCommand
 no_file_fault (Order day ordered) input read files files' e valid sure h = absurd h
+no_file_fault (Check budget) input read files files' e valid sure h = absurd h
+no_file_fault (Prove budget) input read files files' e valid sure h = absurd h
 no_file_fault (Verify file) input read files files' e valid sure h = has_certificate (book_of input) files.files file valid.book valid.certificate (h.fault.possible sure)
 
 -- nothing fails from here on
@@ -70,12 +75,12 @@ sure : (command : BookCommand) (input : List ℕ) (before after : Outside) (stat
     → (IsSomeAnd before.writes.sink.room (FitsReplies command input before.reads.files))
     → Due command before.reads after.reads reply
     → ((IsSomeAnd before.writes.sink.room (λ bytes. length reply.text ≤ bytes)) → IsTold reply before.writes after.writes status ⊎ (status ≡ 9))
-    → IsServed status
+    → IsServed before after status
 sure command input before after status reply given valid source files room (answer read reads replies) tells =
     let same : input ≡ read = same_input before.reads.source.left after.reads.source.left input read given reads.text in
     elim (tells (fits before.writes.sink.room same room)) [
-      | inl told ↦ inl (subst (λ (s : ℕ). s ≤ 1) (sym told.ends) (told_status command input read before.reads.files after.reads.files reply same valid replies))
-      | inr nine ↦ inr nine
+      | inl told ↦ told_answer reply before after status (valid_answer command input read before.reads.files after.reads.files reply same valid replies) told
+      | inr nine ↦ inr (inr nine)
     ]
   where
     fits : (room' : Option ℕ) → input ≡ read → IsSomeAnd room' (FitsReplies command input before.reads.files) → IsSomeAnd room' (λ bytes. length reply.text ≤ bytes)
@@ -87,8 +92,8 @@ sure command input before after status reply given valid source files room (file
     absurd (no_file_fault command input read before.reads.files after.reads.files (same_input before.reads.source.left after.reads.source.left input read given reads.text) valid files fails)
 sure command input before after status reply given valid source files room (no_memory front is) tells =
     elim (tells (fits before.writes.sink.room room)) [
-      | inl told ↦ inr (told.ends ∙ ap (λ (r : RunReply). r.status) is)
-      | inr nine ↦ inr nine
+      | inl told ↦ inr (inr (told.ends ∙ ap (λ (r : RunReply). r.status) is))
+      | inr nine ↦ inr (inr nine)
     ]
   where
     fits : (room' : Option ℕ) → IsSomeAnd room' (FitsReplies command input before.reads.files) → IsSomeAnd room' (λ bytes. length reply.text ≤ bytes)
@@ -100,7 +105,7 @@ memory_fits : (room : Option ℕ) (command : BookCommand) (input : List ℕ) (fi
 memory_fits None command input files fit = fit
 memory_fits (Some bytes) command input files fit = fit.memory
 
-pub Does-sure : (words : List (List ℕ)) (before after : Outside) (status : ℕ) → Does words before after status → IsSure words before → IsServed status
+pub Does-sure : (words : List (List ℕ)) (before after : Outside) (status : ℕ) → Does words before after status → IsSure words before → IsServed before after status
 unfolding Does
 Does-sure words before after status does s =
     let h : AnswersBook s.valid.command before after status = answered (command_in words) s.valid.command before after status s.valid.asked does in
@@ -111,21 +116,21 @@ Does-sure words before after status does s =
 unfailing : (command : BookCommand) (input : List ℕ) (before after : Outside) (status : ℕ) (reply : RunReply)
     → IsSomeAnd before.reads.source.left (λ all. input ≡ take input_limit all)
     → IsValidCommand command input before.reads.files.files → IsUnfailing before after
-    → Due command before.reads after.reads reply → IsTold reply before.writes after.writes status → IsServed status
+    → Due command before.reads after.reads reply → IsTold reply before.writes after.writes status → IsServed before after status
 unfailing command input before after status reply given valid none (answer read reads replies) told =
     let same : input ≡ read = same_input before.reads.source.left after.reads.source.left input read given reads.text in
-    inl (subst (λ (s : ℕ). s ≤ 1) (sym told.ends) (told_status command input read before.reads.files after.reads.files reply same valid replies))
+    told_answer reply before after status (valid_answer command input read before.reads.files after.reads.files reply same valid replies) told
 unfailing command input before after status reply given valid none (source_fault fails same is) told = absurd (none.source fails.fault.rose)
 unfailing command input before after status reply given valid none (file_fault read reads fails is) told =
     absurd (none.files (file_rose command read before.reads.files after.reads.files fails))
-unfailing command input before after status reply given valid none (no_memory front is) told = inr (told.ends ∙ ap (λ (r : RunReply). r.status) is)
+unfailing command input before after status reply given valid none (no_memory front is) told = inr (inr (told.ends ∙ ap (λ (r : RunReply). r.status) is))
 
 pub Does-unfailing : (words : List (List ℕ)) (before after : Outside) (status : ℕ) → Does words before after status → IsValid words before.reads
-    → IsUnfailing before after → IsServed status
+    → IsUnfailing before after → IsServed before after status
 unfolding Does
 Does-unfailing words before after status does v none =
     let h : AnswersBook v.command before after status = answered (command_in words) v.command before after status v.asked does in
     elim (Ends-of_tells h.reply before.writes after.writes status h.told) [
       | inl told ↦ unfailing v.command v.input before after status h.reply v.given v.valid none h.due told
-      | inr failed ↦ elim failed [ inl sink ↦ absurd (none.sink sink.rose) | inr nine ↦ inr nine ]
+      | inr failed ↦ elim failed [ inl sink ↦ absurd (none.sink sink.rose) | inr nine ↦ inr (inr nine) ]
     ]

@@ -1,8 +1,9 @@
 pub mod Words
-pub mod OutcomeText
 pub mod CertText
 pub mod Outside
+pub mod Logged
 pub mod RunReply
+pub mod Checks
 pub mod Replies
 pub mod Tells
 pub mod Run

@@ -8,9 +8,10 @@ use Rattle.parts_usage.specs.Fault.{order_fault}
 use Rattle.derivation.specs.Certificate.{cert_answer}
 use Rattle.pb_outside.specs.Faults.{IsLater}
 use Rattle.pb_outside.specs.Files.{NamedBytes, FilesTold, content_of, ReadsFile, FailsToRead}
+use Rattle.partsbook.specs.Checks.{RepliesToCheck, RepliesToProof, IsCheckable}
 use Rattle.partsbook.specs.RunReply.{RunReply, book_fault_reply, order_reply, content_reply}
 use Rattle.partsbook.specs.declared.command.BookCommand.{BookCommand}
-use Rattle.partsbook.specs.declared.command.BookCommand.TheVariants.{Order, Verify}
+use Rattle.partsbook.specs.declared.command.BookCommand.TheVariants.{Order, Check, Prove, Verify}
 
 -- the certificate is the content of its file, of which a longer one than the limit has none
 pub record RepliesToFile (b : Contents) (file : List ℕ) (files files' : FilesTold) (reply : RunReply) : Type 0 where
@@ -28,9 +29,9 @@ abbrev pub RepliesToVerify : Result Contents BookFault → List ℕ → FilesTol
 RepliesToVerify (Ok b) file files files' reply = RepliesToFile b file files files' reply
 RepliesToVerify (Err fault) file files files' reply = RepliesToFault fault files files' reply
 
--- the order is answered of the input alone, and no file was touched
-pub record RepliesToOrder (answer : RunReply) (files files' : FilesTold) (reply : RunReply) : Type 0 where
-  pub answered : reply ≡ answer
+-- the reply is such an answer to the input alone, and no file was touched
+pub record RepliesAlone (IsAnswer : RunReply → Type 0) (files files' : FilesTold) (reply : RunReply) : Type 0 where
+  pub is_answer : IsAnswer reply
   pub untouched : files' ≡ files
 
 -- the files stay as they are, and may have been read
@@ -64,20 +65,28 @@ pub record IsValidVerify (input : List ℕ) (files : Option (List NamedBytes)) (
 
 -- what a command answers to its input, with the files before and after
 unfoldable pub RepliesTo : BookCommand → List ℕ → FilesTold → FilesTold → RunReply → Type 0
-RepliesTo (Order day ordered) input files files' reply = RepliesToOrder (order_reply (book_of input) day ordered) files files' reply
+RepliesTo (Order day ordered) input files files' reply = RepliesAlone (λ r. r ≡ order_reply (book_of input) day ordered) files files' reply
+RepliesTo (Check budget) input files files' reply = RepliesAlone (RepliesToCheck (book_of input) budget) files files' reply
+RepliesTo (Prove budget) input files files' reply = RepliesAlone (RepliesToProof (book_of input) budget) files files' reply
 RepliesTo (Verify file) input files files' reply = RepliesToVerify (book_of input) file files files' reply
 
 -- the files failed, at a file that the command has to read
 unfoldable pub FailsAtFile : BookCommand → List ℕ → FilesTold → FilesTold → Type 0
 FailsAtFile (Order day ordered) input files files' = ⊥
+FailsAtFile (Check budget) input files files' = ⊥
+FailsAtFile (Prove budget) input files files' = ⊥
 FailsAtFile (Verify file) input files files' = FailsAtCertificate file input files files'
 
 -- what a command leaves as it is of the files, however it ends
 unfoldable pub KeepsFiles : BookCommand → FilesTold → FilesTold → Type 0
 KeepsFiles (Order day ordered) files files' = files' ≡ files
+KeepsFiles (Check budget) files files' = files' ≡ files
+KeepsFiles (Prove budget) files files' = files' ≡ files
 KeepsFiles (Verify file) files files' = ReadsFiles files files'
 
 -- the input, and what else the command reads, has no fault
 unfoldable pub IsValidCommand : BookCommand → List ℕ → Option (List NamedBytes) → Type 0
 IsValidCommand (Order day ordered) input files = IsValidOrder input day ordered
+IsValidCommand (Check budget) input files = IsCheckable (book_of input)
+IsValidCommand (Prove budget) input files = IsCheckable (book_of input)
 IsValidCommand (Verify file) input files = IsValidVerify input files file

@@ -1,5 +1,6 @@
 -- What a run does.
-use Rattle.std.specs.Prelude.{◌≡◌, ◌⊎◌, ℕ, ◌≤◌, true, List, Option, None, Some, IfSome, IsSomeAnd, IsNone, IsOkAnd, length, take}
+use Rattle.std.specs.Prelude.{◌≡◌, ◌⊎◌, ℕ, ◌≤◌, Bool, true, false, List, ◌++◌, Option, None, Some, IfSome, IsSomeAnd, IsNone, IsOkAnd, IsTrue, length, take}
+use Rattle.std.specs.List.{list_any}
 use Rattle.book_model.specs.Sound.{IsReleasable}
 use Rattle.book_text.specs.BookText.{book_of}
 use Rattle.pb_outside.specs.Faults.{Rose, Fails, IsLater}
@@ -8,10 +9,12 @@ use Rattle.pb_outside.specs.Files.{FilesTold}
 use Rattle.partsbook.specs.Words.{command_in}
 use Rattle.partsbook.specs.Outside.{Inputs, Outside, input_limit, ReadsInput, FailsAtInput}
 use Rattle.partsbook.specs.RunReply.{RunReply, usage_reply, memory_reply, memory_text, read_fault_reply}
+use Rattle.partsbook.specs.Logged.{is_spent}
 use Rattle.partsbook.specs.Replies.{RepliesTo, FailsAtFile, KeepsFiles, IsValidCommand}
 use Rattle.partsbook.specs.Tells.{IsTold, Tells}
+use Rattle.partsbook.specs.declared.log.Note.{Note}
 use Rattle.partsbook.specs.declared.command.BookCommand.{BookCommand}
-use Rattle.partsbook.specs.declared.command.BookCommand.TheVariants.{Verify}
+use Rattle.partsbook.specs.declared.command.BookCommand.TheVariants.{Order, Check, Prove, Verify}
 
 -- the reply that is due to a command: to what it read, or to a fault of what it reads from; want of memory is free
 pub data Due (command : BookCommand) (before after : Inputs) (reply : RunReply) : Type 0 where
@@ -64,7 +67,7 @@ pub record GivesReply (words : List (List ℕ)) (before after : Outside) (status
   pub read : ReadsInput before.reads.source after.reads.source input
   pub replies : RepliesTo command input before.reads.files after.reads.files reply
   pub told : IsTold reply before.writes after.writes status
-  pub statuses : (status ≤ 1) ⊎ (status ≡ 3) ⊎ (status ≡ 8)
+  pub statuses : (status ≤ 1) ⊎ (status ≡ 3) ⊎ (status ≡ 7) ⊎ (status ≡ 8)
 
 -- the source or the files failed
 abbrev pub FailsToReadFrom : Inputs → Inputs → Type 0
@@ -78,10 +81,21 @@ pub data IsCaused (words : List (List ℕ)) (before after : Outside) (status : �
   by_memory : status ≡ 9 → IsCaused words before after status
   by_reply : GivesReply words before after status → IsCaused words before after status
 
--- where the words ask for the check of a certificate, the input is a book that can be released: on every day of its term
--- some set of codes is good, and every good set selects one variant at each mandatory position and nowhere two
-abbrev pub ShowsReleasable : List (List ℕ) → Option (List ℕ) → Type 0
-ShowsReleasable words left = (file : List ℕ) → command_in words ≡ Some (Verify file) → IfSome left (λ all. IsOkAnd (book_of (take input_limit all)) IsReleasable)
+-- the command asks whether the book can be released
+abbrev pub asks_release : BookCommand → Bool
+asks_release (Order day ordered) = false
+asks_release (Check budget) = true
+asks_release (Prove budget) = true
+asks_release (Verify file) = true
+
+-- the words ask whether the book can be released
+abbrev pub AskRelease : List (List ℕ) → Type 0
+AskRelease words = IsSomeAnd (command_in words) (λ command. IsTrue (asks_release command))
+
+-- the input is a book that can be released: on every day of its term some set of codes is good, and every good set
+-- selects one variant at each mandatory position and nowhere two
+abbrev pub IsReleasableInput : Option (List ℕ) → Type 0
+IsReleasableInput left = IfSome left (λ all. IsOkAnd (book_of (take input_limit all)) IsReleasable)
 
 -- so many bytes are enough for each reply that the command may have, and for the line of want of memory
 pub record FitsReplies (command : BookCommand) (input : List ℕ) (files : FilesTold) (bytes : ℕ) : Type 0 where
@@ -95,6 +109,17 @@ pub record IsValid (words : List (List ℕ)) (reads : Inputs) : Type 0 where
   pub asked : command_in words ≡ Some command
   pub given : IsSomeAnd reads.source.left (λ all. input ≡ take input_limit all)
   pub valid : IsValidCommand command input reads.files.files
+
+-- no finding keeps the book from its release, but a question was left, of which the log has what was learnt
+pub record IsLeft (before after : Outside) (status : ℕ) : Type 0 where
+  pub ends : status ≡ 7
+  pub notes : List Note
+  pub noted : after.writes.log ≡ before.writes.log ++ notes
+  pub spent : list_any is_spent notes ≡ true
+
+-- the command was answered, memory allowing
+abbrev pub IsServed : Outside → Outside → ℕ → Type 0
+IsServed before after status = (status ≤ 1) ⊎ IsLeft before after status ⊎ (status ≡ 9)
 
 -- no count rose
 pub record IsUnfailing (before after : Outside) : Type 0 where

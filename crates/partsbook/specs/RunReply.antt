@@ -1,13 +1,15 @@
 -- What a run answers: a text, a status, and what the status rests on.
---     status 0     the order is accepted, or the certificate has no fault
---     status 1     the order is refused, or unfit
+--     status 0     the order is accepted, the book can be released, or the certificate has no fault
+--     status 1     the order is refused, or unfit, or a finding keeps the book from its release
 --     status 2     the words are of no form
---     status 3     the book or the order has a fault
+--     status 3     the book or the order has a fault, or the book exceeds a limit of checking
 --     status 4     the source or the files failed
+--     status 7     no finding keeps the book from its release, but a question was left
 --     status 8     the certificate has a fault
 --     status 9     want of memory
 use Rattle.std.specs.Prelude.{ℕ, List, [], ◌∷◌, Option, None, Some, Result, Ok, Err, codes}
 use Rattle.book_model.specs.Contents.{Contents}
+use Rattle.book_model.specs.declared.slicing.LimitFault.{LimitFault}
 use Rattle.book_text.specs.declared.fault.BookFault.{BookFault}
 use Rattle.parts_usage.specs.Outcome.{outcome_of}
 use Rattle.parts_usage.specs.declared.fault.OrderFault.{OrderFault}
@@ -17,11 +19,18 @@ use Rattle.derivation.specs.Certificate.{cert_answer}
 use Rattle.derivation.specs.declared.fault.CertFault.{CertFault}
 use Rattle.derivation.specs.declared.fault.CertKind.TheVariants.{TooLarge}
 use Rattle.derivation.specs.declared.fault.Certified.{Certified}
-use Rattle.desk_words.specs.FaultText.{book_fault_text, order_fault_text}
-use Rattle.partsbook.specs.OutcomeText.{outcome_text}
+use Rattle.desk_words.specs.FaultText.{book_fault_text, order_fault_text, limit_fault_text}
+use Rattle.findings.specs.Notes.{verdict_of}
+use Rattle.findings.specs.declared.report.Note.{Note as Told}
+use Rattle.findings.specs.declared.report.Verdict.{Verdict}
+use Rattle.findings.specs.declared.report.Verdict.TheVariants.{Releasable, Blocked, Undecided}
+use Rattle.order_text.specs.OutcomeText.{outcome_text}
+use Rattle.pb_reports.specs.ReportText.{report_text}
 use Rattle.partsbook.specs.CertText.{cert_fault_text, verified_text}
+use Rattle.partsbook.specs.Logged.{logged}
 use Rattle.partsbook.specs.declared.log.Note.{Note}
-use Rattle.partsbook.specs.declared.log.Note.TheVariants.{Text as TextNote, Order as OrderNote, Refused as RefusedNote, Unfit as UnfitNote, Cert as CertNote, Count as CountNote}
+use Rattle.partsbook.specs.declared.log.Note.TheVariants.{Text as TextNote, Order as OrderNote, Limit as LimitNote}
+use Rattle.partsbook.specs.declared.log.Note.TheVariants.{Refused as RefusedNote, Unfit as UnfitNote, Cert as CertNote, Count as CountNote}
 
 pub record RunReply : Type 0 where
   pub text : List ℕ
@@ -29,7 +38,7 @@ pub record RunReply : Type 0 where
   pub notes : List Note
 
 abbrev pub usage_text : List ℕ
-usage_text = codes "usage: order DAY CODE.. | verify CERTFILE\n"
+usage_text = codes "usage: order DAY CODE.. | check [--budget N] | prove [--budget N] | verify CERTFILE\n"
 
 abbrev pub usage_reply : RunReply
 usage_reply = record { text = usage_text; status = 2; notes = [] }
@@ -74,6 +83,24 @@ judged_reply b (Err fault) = order_fault_reply fault
 abbrev pub order_reply : Result Contents BookFault → ℕ → List (List ℕ) → RunReply
 order_reply (Ok b) day ordered = judged_reply b (outcome_of b day ordered)
 order_reply (Err fault) day ordered = book_fault_reply fault
+
+-- the book exceeds a limit of checking
+abbrev pub limit_fault_reply : LimitFault → RunReply
+limit_fault_reply fault = record { text = limit_fault_text fault; status = 3; notes = LimitNote fault ∷ [] }
+
+abbrev pub verdict_status : Verdict → ℕ
+verdict_status Releasable = 0
+verdict_status Blocked = 1
+verdict_status Undecided = 7
+
+-- the report on a book, which stands in the log
+abbrev pub report_reply : Contents → List Told → RunReply
+report_reply b report =
+    record { text = report_text b report; status = verdict_status (verdict_of report); notes = logged report }
+
+-- a certificate that the book can be released
+abbrev pub certificate_reply : List ℕ → RunReply
+certificate_reply text = record { text = text; status = 0; notes = [] }
 
 abbrev pub cert_fault_reply : CertFault → RunReply
 cert_fault_reply fault = record { text = cert_fault_text fault; status = 8; notes = CertNote fault ∷ [] }

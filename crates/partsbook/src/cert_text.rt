@@ -5,11 +5,11 @@ ghost use Rattle.partsbook.specs.CertText.{cert_number, limit_behind, cert_detai
 use book_model::{Book, LimitFault};
 use derivation::{CertFault, CertKind, Certified};
 use desk_words::{put_limit, put_number};
-use pb_base::{Memory, Text};
+use pb_base::{Body, Memory, Text};
 use std::alloc::Global;
 
 /// `verified NAME slices S steps N`.
-pub fn verified_text(alloc: Global, book: &Book, certified: Certified) -> Result<Text, Memory>
+pub fn verified_text(alloc: Global, book: &Book, certified: Certified) -> Result<Body, Memory>
     ensures { IfOk result (λ text. text ≡ verified_text book.now certified) }
 {
     let mut text = Text::new(alloc);
@@ -20,11 +20,11 @@ pub fn verified_text(alloc: Global, book: &Book, certified: Certified) -> Result
     text.put(b" steps")?;
     put_number(&mut text, certified.steps)?;
     text.put(b"\n")?;
-    Ok(text)
+    Ok(text.into_body())
 }
 
 /// `certificate fault LINE KIND`, and behind it what the kind has to add.
-pub fn cert_fault_text(alloc: Global, fault: &CertFault) -> Result<Text, Memory>
+pub fn cert_fault_text(alloc: Global, fault: &CertFault) -> Result<Body, Memory>
     ensures { IfOk result (λ text. text ≡ cert_fault_text fault.now) }
 {
     let mut text = Text::new(alloc);
@@ -33,7 +33,7 @@ pub fn cert_fault_text(alloc: Global, fault: &CertFault) -> Result<Text, Memory>
     put_number(&mut text, cert_number(&fault.kind))?;
     put_cert_detail(&mut text, &fault.kind)?;
     text.put(b"\n")?;
-    Ok(text)
+    Ok(text.into_body())
 }
 
 fn cert_number(kind: &CertKind) -> u64

@@ -1,5 +1,6 @@
 //! The commands of the program.
 
+use crate::budget::Budget;
 use crate::file_name::FileName;
 use pb_base::{CodeList, Day};
 
@@ -8,6 +9,10 @@ use pb_base::{CodeList, Day};
 pub enum BookCommand {
     /// What the order of these codes on this day comes to.
     Order { day: Day, codes: CodeList },
+    /// What is wrong with the book, by all questions, each with this budget.
+    Check { budget: Budget },
+    /// A certificate that nothing keeps the book from its release, or what does, with this budget for each question.
+    Prove { budget: Budget },
     /// Whether the certificate in this file shows that the book can be released.
     Verify { file: FileName },
 }

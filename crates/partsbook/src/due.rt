@@ -7,6 +7,7 @@ ghost use Rattle.partsbook.specs.Replies.{RepliesTo, FailsAtFile, KeepsFiles};
 ghost use Rattle.partsbook.specs.Run.{Due};
 
 use crate::certify::verify_reply;
+use crate::check::{check_reply, proof_reply};
 use crate::command::BookCommand;
 use crate::judge::order_reply;
 use crate::run_reply::RunReply;
@@ -66,6 +67,8 @@ fn command_reply<F: Files>(
 {
     match command {
         BookCommand::Order { day, codes } => Ok(order_reply(alloc, input, *day, codes)?),
+        BookCommand::Check { budget } => Ok(check_reply(alloc, input, budget)?),
+        BookCommand::Prove { budget } => Ok(proof_reply(alloc, input, budget)?),
         BookCommand::Verify { file } => verify_reply(alloc, input, file, files),
     }
 }

@@ -8,10 +8,10 @@ ghost use Rattle.partsbook.specs.RunReply.{outcome_reply, judged_reply, order_re
 
 use crate::fault_text::{book_fault_text, order_fault_text};
 use crate::log::Note;
-use crate::outcome_text::outcome_text;
 use crate::run_reply::RunReply;
 use book_model::Book;
 use book_text::{BookFault, read_book};
+use order_text::outcome_text;
 use parts_usage::{OrderFault, Outcome, outcome};
 use pb_base::{CodeList, CodeName, Day, Fail, Memory};
 use std::alloc::Global;

@@ -1,28 +1,53 @@
 //! What a run's status rests on.
 ghost use Rattle.std.specs.Prelude.{◌≡◌, ◌++◌, [], ◌∷◌, OnOk, OnErr};
 
+use book_model::LimitFault;
 use book_text::BookFault;
+use clause_pool::Pool;
+use clausify::Question;
 use derivation::CertFault;
 use parts_usage::OrderFault;
-use pb_base::Memory;
+use pb_base::{CodeSet, Memory};
 use std::alloc::Global;
 use std::marker::Model;
 
 /// One thing that a status rests on. Places count from 0.
-#[derive(Debug, Drop, PartialEq, Eq)]
+#[derive(Drop)]
 pub enum Note {
     /// The text of the book has this fault.
     Text(BookFault),
     /// The order has this fault.
     Order(OrderFault),
+    /// The book exceeds this limit of checking.
+    Limit(LimitFault),
     /// The constructibility rule at this place refuses the order.
     Refused(u32),
     /// The order selects so many variants of the position at this place, which may not be.
-    Unfit { position: u32, count: u32 },
+    Unfit {
+        position: u32,
+        count: u32,
+    },
+    /// Something is wrong with the slice at this place: a question has no set that should have one, or this set meets a
+    /// question that should have none.
+    Finding {
+        slice: u32,
+        question: Question,
+        set: Option<CodeSet>,
+    },
+    /// A question of the slice at this place was left when these clauses had been learnt for it.
+    Spent {
+        slice: u32,
+        question: Question,
+        learnt: Pool,
+    },
     /// The certificate has this fault.
     Cert(CertFault),
     /// The count of faults of an object that was handed in rose: 1 for the source, 2 for the files, 3 for the sink.
-    Count { which: u8, before: u64, after: u64 },
+    Count {
+        which: u8,
+        before: u64,
+        after: u64,
+    },
 }
 
 /// The notes of one run, in the order in which they were made.

@@ -1,8 +1,10 @@
 //! The program: it reads a book from standard input and does what its words ask.
 #![tactic(auto)]
 
+mod budget;
 mod cert_text;
 mod certify;
+mod check;
 mod command;
 mod due;
 mod fault_text;
@@ -10,7 +12,7 @@ mod file_name;
 mod given;
 mod judge;
 mod log;
-mod outcome_text;
+mod logged;
 mod run;
 mod run_reply;
 mod tell;

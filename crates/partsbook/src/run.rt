@@ -1,8 +1,8 @@
 //! The top call: words, an input and files in, a text and a status out.
-ghost use Rattle.std.specs.Prelude.{◌≡◌, ◌⊎◌, ◌≤◌, IsNone};
+ghost use Rattle.std.specs.Prelude.{◌≡◌, ◌⊎◌, IsNone};
 ghost use Rattle.partsbook.specs.Outside.{outside};
-ghost use Rattle.partsbook.specs.Run.{AnswersBook, Does, IsCaused, ShowsReleasable};
-ghost use Rattle.partsbook.specs.Run.{IsValid, IsSure, IsUnfailing};
+ghost use Rattle.partsbook.specs.Run.{AnswersBook, Does, IsCaused, AskRelease, IsReleasableInput};
+ghost use Rattle.partsbook.specs.Run.{IsValid, IsSure, IsUnfailing, IsServed};
 ghost use Rattle.partsbook.specs.Words.{texts_of, command_in};
 
 use crate::command::BookCommand;
@@ -14,9 +14,9 @@ use pb_base::Memory;
 use pb_outside::{Files, Sink, Source};
 use std::alloc::Global;
 
-/// Does what the words ask, and gives the status with which the program ends: 0 done, 1 refused or unfit,
-/// 2 usage, 3 a fault of the book or the order, 4 a read fault, 5 a write fault, 8 a fault of the certificate,
-/// 9 want of memory. `words` are those after the program's name; the log starts empty.
+/// Does what the words ask, and gives the status with which the program ends: 0 done, 1 refused or unfit, or blocked,
+/// 2 usage, 3 a fault of the book or the order, or a limit of checking, 4 a read fault, 5 a write fault, 7 undecided,
+/// 8 a fault of the certificate, 9 want of memory. `words` are those after the program's name; the log starts empty.
 pub fn run<S: Source, K: Sink, F: Files>(
     alloc: Global,
     words: &[String],
@@ -34,17 +34,19 @@ pub fn run<S: Source, K: Sink, F: Files>(
         let after = outside (S.input source.new) (F.told files.new) (K.output sink.new) log.new in
         IsCaused asked before after result }
     ensures usage { IsNone (command_in (texts_of words.now)) → (result ≡ 2) ⊎ (result ≡ 5) ⊎ (result ≡ 9) }
-    // What was verified can be released.
-    ensures verified { result ≡ 0 → ShowsReleasable (texts_of words.now) (S.input source.old).left }
+    // Where the words ask whether the book can be released, 0 says that it can.
+    ensures released { let left = (S.input source.old).left in
+        result ≡ 0 → AskRelease (texts_of words.now) → IsReleasableInput left }
     // Where no call fails from here on, valid words and inputs have their answer, memory allowing.
     ensures complete { let asked = texts_of words.now in
         let before = outside (S.input source.old) (F.told files.old) (K.output sink.old) log.old in
-        IsSure asked before → (result ≤ 1) ⊎ (result ≡ 9) }
+        let after = outside (S.input source.new) (F.told files.new) (K.output sink.new) log.new in
+        IsSure asked before → IsServed before after result }
     // The same where no count rose.
     ensures unfailing { let asked = texts_of words.now in
         let before = outside (S.input source.old) (F.told files.old) (K.output sink.old) log.old in
         let after = outside (S.input source.new) (F.told files.new) (K.output sink.new) log.new in
-        IsValid asked before.reads → IsUnfailing before after → (result ≤ 1) ⊎ (result ≡ 9) }
+        IsValid asked before.reads → IsUnfailing before after → IsServed before after result }
 {
     do_words(alloc, words, source, sink, files, log)
 }

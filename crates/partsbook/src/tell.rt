@@ -26,7 +26,7 @@ pub fn tell<K: Sink>(reply: RunReply, sink: &mut K, log: &mut RunLog) -> u8
 {
     let (text, status, notes) = reply.into_parts();
     match log.append(notes) {
-        Ok(()) => write(text.bytes(), status, sink, log),
+        Ok(()) => write(text.as_slice(), status, sink, log),
         Err(Memory) => tell_want_of_memory(sink, log),
     }
 }
@@ -38,7 +38,7 @@ pub fn tell_usage<K: Sink>(sink: &mut K, log: &mut RunLog) -> u8
         IsWritten usage_reply before after result }
 {
     write(
-        b"usage: order DAY CODE.. | verify CERTFILE\n",
+        b"usage: order DAY CODE.. | check [--budget N] | prove [--budget N] | verify CERTFILE\n",
         USAGE,
         sink,
         log,

@@ -1,7 +1,9 @@
 //! Reads the words of a command line.
-ghost use Rattle.std.specs.Prelude.{◌≡◌, IfOk};
-ghost use Rattle.partsbook.specs.Words.{texts_of, codes_in, order_in, is_file_name, verify_in, command_in};
+ghost use Rattle.std.specs.Prelude.{◌≡◌, IfOk, string_bytes};
+ghost use Rattle.partsbook.specs.Words.{texts_of, codes_in, order_in, budget_word, budget_in};
+ghost use Rattle.partsbook.specs.Words.{is_file_name, verify_in, named_command, command_in};
 
+use crate::budget::Budget;
 use crate::command::BookCommand;
 use crate::file_name::FileName;
 use pb_base::{CodeList, CodeName, Memory, short_number};
@@ -15,12 +17,22 @@ pub fn command_in(alloc: Global, words: &[String]) -> Result<Option<BookCommand>
     let Some((name, rest)) = words.split_first() else {
         return Ok(None);
     };
-    if name.as_str() == "order" {
-        order_in(alloc, rest)
-    } else if name.as_str() == "verify" {
-        verify_in(alloc, rest)
-    } else {
-        Ok(None)
+    named_command(alloc, name, rest)
+}
+
+fn named_command(
+    alloc: Global,
+    name: &String,
+    words: &[String],
+) -> Result<Option<BookCommand>, Memory>
+    ensures { IfOk result (λ command. command ≡ named_command (string_bytes name.now) (texts_of words.now)) }
+{
+    match name.as_str() {
+        "order" => order_in(alloc, words),
+        "check" => Ok(budget_in(words).map(|budget| BookCommand::Check { budget })),
+        "prove" => Ok(budget_in(words).map(|budget| BookCommand::Prove { budget })),
+        "verify" => verify_in(alloc, words),
+        _ => Ok(None),
     }
 }
 
@@ -50,6 +62,33 @@ fn codes_in(alloc: Global, words: &[String]) -> Result<Option<CodeList>, Memory>
         }
     }
     Ok(Some(codes))
+}
+
+// No word, `--budget=N`, or `--budget N`.
+fn budget_in(words: &[String]) -> Option<Budget>
+    ensures { result ≡ budget_in (texts_of words.now) }
+{
+    let Some((word, rest)) = words.split_first() else {
+        return Some(Budget::usual());
+    };
+    let Some((number, further)) = rest.split_first() else {
+        return budget_word(word.as_bytes());
+    };
+    if further.is_empty() && word.as_str() == "--budget" {
+        Budget::of(number.as_bytes())
+    } else {
+        None
+    }
+}
+
+// A word `--budget=N`.
+fn budget_word(word: &[u8]) -> Option<Budget>
+    ensures { result ≡ budget_word word.now }
+{
+    match word.strip_prefix(b"--budget=") {
+        Some(number) => Budget::of(number),
+        None => None,
+    }
 }
 
 fn verify_in(alloc: Global, words: &[String]) -> Result<Option<BookCommand>, Memory>

@@ -49,6 +49,13 @@ impl<T> Sequence<T> {
     {
         &self.items
     }
+
+    /// The items, each to be moved on. None is copied.
+    pub fn into_items(self) -> Vec<T>
+        ensures { result.items ≡ self }
+    {
+        self.items
+    }
 }
 
 impl<T: Drop> Sequence<T> {

@@ -7,8 +7,8 @@ ghost use Rattle.pb_outside.specs.Sink.{no_output};
 use crate::{Ends, FaultCount, OutError, Sink, Source};
 use std::io::{Read, Write};
 
-/// How many bytes one read asks for at most.
-const CHUNK: usize = 16_384;
+/// How many bytes one read asks for at most. So many are cleared for each read, and a reader seldom has more.
+const CHUNK: usize = 8_192;
 
 /// A source over a reader. Each error of the reader is a fault.
 #[derive(Drop)]

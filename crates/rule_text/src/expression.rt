@@ -10,8 +10,8 @@ use pb_base::{Formula, Leaf, Memory, Node};
 use std::alloc::Global;
 use std::marker::Model;
 
-/// An expression, as far as it was read, as one list of nodes. What stands before the last slash is whole, and behind it comes the
-/// last term. So a word or a bracket is joined in place, and no term has a list of its own.
+// An expression, as far as it was read, as one list of nodes. What stands before the last slash is whole, and behind it comes the
+// last term. So a word or a bracket is joined in place, and no term has a list of its own.
 #[derive(Drop)]
 pub(crate) struct Expression {
     nodes: Vec<Node>,

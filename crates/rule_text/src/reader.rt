@@ -23,10 +23,10 @@ use pb_base::{CodeName, CodeTable, Fail, Formula, Leaf, Memory};
 use std::alloc::Global;
 use std::mem;
 
-/// How many nodes of what stands in a bracket there is room for at first.
+// How many nodes of what stands in a bracket there is room for at first.
 const ROOM_IN_BRACKET: usize = 16;
 
-/// What was read so far.
+// What was read so far.
 #[derive(Drop)]
 pub(crate) struct Reader {
     pub(crate) stage: Stage,

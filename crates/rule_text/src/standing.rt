@@ -1,6 +1,6 @@
 //! What the tests of a token hang on, beside the number of nodes.
 
-/// What may come next, by the token before.
+// What may come next, by the token before.
 #[derive(Clone, Copy)]
 pub(crate) enum Stage {
     /// At the start and behind `+`, `/`, `-` and `(`: a factor has to come.
@@ -11,7 +11,7 @@ pub(crate) enum Stage {
     Ended,
 }
 
-/// What is pending at a place of a text.
+// What is pending at a place of a text.
 #[derive(Clone, Copy, Default)]
 pub(crate) enum Pending {
     /// A bracket that is not yet closed.

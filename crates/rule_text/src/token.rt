@@ -8,7 +8,7 @@ ghost use Rattle.rule_text.specs.Views.{misplaced, token_of, IsLexed};
 use crate::RuleFault;
 use pb_base::is_name_byte;
 
-/// A token of a rule.
+// A token of a rule.
 #[derive(Clone, Copy)]
 pub(crate) enum Token<'a> {
     /// A longest run of A to Z and 0 to 9.

@@ -6,16 +6,16 @@ use std::collections::LinkedList;
 use std::marker::PhantomData;
 use std::snapshot::Snapshot;
 
-/// The word with the next ticket.
+// The word with the next ticket.
 pub(crate) const TICKET: usize = 0;
 
-/// The word with the ticket that is served.
+// The word with the ticket that is served.
 pub(crate) const SERVING: usize = 1;
 
-/// The word with the length of the history.
+// The word with the length of the history.
 pub(crate) const LENGTH: usize = 2;
 
-/// The slot with the machine.
+// The slot with the machine.
 pub(crate) const MACHINE: usize = 0;
 
 /// Where a seat is within a call.

@@ -141,7 +141,8 @@ fn orders_against_a_book_at_every_limit(rt: HostRuntime) -> Result<(), Fail> {
         words,
         b"0",
         want.bytes(),
-    )
+    )?;
+    Ok(())
 }
 
 #[test]

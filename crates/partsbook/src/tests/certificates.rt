@@ -35,7 +35,7 @@ fn certificate_to(alloc: Global, front: u64, line: &[u8]) -> Result<Vec<u8>, Fai
 }
 
 // A file C of this content.
-fn file_c(alloc: Global, content: Vec<u8>) -> Result<Vec<NamedFile>, Fail> {
+pub fn file_c(alloc: Global, content: Vec<u8>) -> Result<Vec<NamedFile>, Fail> {
     let mut files = Vec::new(alloc);
     let name = String::from_str(alloc, "C")?;
     files.push(NamedFile { name, content })?;
@@ -76,7 +76,8 @@ fn near_row_answers(rt: &impl Abort, alloc: Global, row: &[u8]) -> Result<(), Fa
     let front = number_within(front, 1).ok_or("a number of lines")?;
     let files = file_c(alloc, certificate_to(alloc, front, line)?)?;
     let input = ENGINE.to_vec(alloc)?;
-    answers(rt, alloc, input, files, b"verify C", status, output)
+    answers(rt, alloc, input, files, b"verify C", status, output)?;
+    Ok(())
 }
 
 #[test]
@@ -88,7 +89,7 @@ fn certificates_near_to_the_right_one(rt: HostRuntime) -> Result<(), Fail> {
 }
 
 // A book with a rule for each day from the second on: 65 slices.
-fn many_slices(alloc: Global) -> Result<Text, Memory> {
+pub fn many_slices(alloc: Global) -> Result<Text, Memory> {
     let mut text = Text::new(alloc);
     text.put(b"book,T,1,1000\n")?;
     for day in 2u64..66 {
@@ -122,5 +123,6 @@ fn limits_of_certificates(rt: HostRuntime) -> Result<(), Fail> {
     let none = file_c(alloc, Vec::new(alloc))?;
     let input = text_with(alloc, 1, b"FFFFFFFFFFF")?.bytes().to_vec(alloc)?;
     let fault = b"certificate fault 0 9 limit questions 0 221114^";
-    answers(&rt, alloc, input, none, b"verify C", b"8", fault)
+    answers(&rt, alloc, input, none, b"verify C", b"8", fault)?;
+    Ok(())
 }

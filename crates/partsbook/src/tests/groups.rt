@@ -1,9 +1,7 @@
 //! The answers of `run` to a book of form 2, whose constructibility rules are groups of codes.
 
-use super::{unfolded, words_of};
-use crate::log::RunLog;
-use crate::run::run;
-use pb_outside::{MemoryFiles, MemorySink, MemorySource, NamedFile};
+use super::{answers, unfolded};
+use pb_outside::NamedFile;
 use std::alloc::Global;
 use std::process::Abort;
 use std::test::Fail;
@@ -66,34 +64,8 @@ fn grouped_with(alloc: Global, old: &[u8], new: &[u8]) -> Result<Vec<u8>, Fail> 
     Ok(text)
 }
 
-// Asserts what a run with these words writes for this input, where these files are there, and its status.
-fn tells(
-    rt: &impl Abort,
-    alloc: Global,
-    input: Vec<u8>,
-    files: Vec<NamedFile>,
-    words: &[u8],
-    status: &[u8],
-    output: &[u8],
-) -> Result<(), Fail> {
-    let Ok(words) = str::from_utf8(words) else {
-        return Err("words are text".into());
-    };
-    let all = words_of(alloc, words)?;
-    let want = unfolded(alloc, output)?;
-    let mut source = MemorySource::new(input, Vec::new(alloc), Vec::new(alloc));
-    let mut sink = MemorySink::new(alloc, 1000, Vec::new(alloc))?;
-    let mut files = MemoryFiles::new(files, Vec::new(alloc));
-    let mut log = RunLog::new(alloc);
-    let found = run(alloc, &all, &mut source, &mut sink, &mut files, &mut log);
-    let told = found.to_string(alloc)?;
-    assert_eq!(rt; sink.taken(), want.as_slice(), "text of {words}");
-    assert_eq!(rt; told.as_bytes(), status, "status of {words}");
-    Ok(())
-}
-
 // Asserts a row of a table.
-fn row_tells(rt: &impl Abort, alloc: Global, row: &[u8]) -> Result<(), Fail> {
+fn row_answers(rt: &impl Abort, alloc: Global, row: &[u8]) -> Result<(), Fail> {
     let mut fields = row.split(|b| *b == b'~');
     let (Some(old), Some(new)) = (fields.next(), fields.next()) else {
         return Err("a line and another".into());
@@ -103,23 +75,17 @@ fn row_tells(rt: &impl Abort, alloc: Global, row: &[u8]) -> Result<(), Fail> {
         return Err("words, a status and an output".into());
     };
     let input = grouped_with(alloc, old, new)?;
-    tells(rt, alloc, input, Vec::new(alloc), words, status, output)
+    answers(rt, alloc, input, Vec::new(alloc), words, status, output)?;
+    Ok(())
 }
 
 #[test]
 fn orders_against_groups(rt: HostRuntime) -> Result<(), Fail> {
     let alloc = rt.alloc();
-    for row in ORDERS.split(|b| *b == b'\n') {
-        row_tells(&rt, alloc, row)?;
-    }
-    Ok(())
-}
-
-#[test]
-fn faults_of_groups(rt: HostRuntime) -> Result<(), Fail> {
-    let alloc = rt.alloc();
-    for row in FAULTS.split(|b| *b == b'\n') {
-        row_tells(&rt, alloc, row)?;
+    for table in [ORDERS, FAULTS] {
+        for row in table.split(|b| *b == b'\n') {
+            row_answers(&rt, alloc, row)?;
+        }
     }
     Ok(())
 }
@@ -135,7 +101,7 @@ fn a_group_too_many(rt: HostRuntime) -> Result<(), Fail> {
         }
     }
     let output = b"book fault 1004 13 groups^";
-    tells(
+    answers(
         &rt,
         alloc,
         text,
@@ -143,7 +109,8 @@ fn a_group_too_many(rt: HostRuntime) -> Result<(), Fail> {
         b"order 1 A",
         b"3",
         output,
-    )
+    )?;
+    Ok(())
 }
 
 #[test]
@@ -169,7 +136,7 @@ fn a_certificate_over_groups(rt: HostRuntime) -> Result<(), Fail> {
         files.push(NamedFile { name, content })?;
         let input = GROUPED.to_vec(alloc)?;
         let want = output.as_bytes();
-        tells(&rt, alloc, input, files, b"verify C", status, want)?;
+        answers(&rt, alloc, input, files, b"verify C", status, want)?;
     }
     Ok(())
 }

@@ -38,7 +38,7 @@ fn the_empty_set_breaks_a_rule_and_selects_nothing(rt: HostRuntime) -> Result<()
     Ok(())
 }
 
-/// What may be handed from thread to thread.
+// What may be handed from thread to thread.
 fn is_shared<T: Send + Sync>() {}
 
 // Books beside their texts, maps and names, as a server keeps them.

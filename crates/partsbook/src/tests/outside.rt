@@ -4,31 +4,61 @@ use super::{ENGINE, USAGE, words_of};
 use crate::given::run_given;
 use crate::log::{Note, RunLog};
 use crate::run::run;
-use book_text::{BookFault, BookKind};
-use parts_usage::OrderFault;
+use desk_words::{put_book_fault, put_limit_fault, put_number, put_order_fault};
+use pb_base::{Memory, Text};
 use pb_outside::{Files, MemoryFiles, MemorySink, MemorySource, Sink, Source};
 use std::alloc::Global;
 use std::io;
 use std::process::Abort;
 use std::test::Fail;
 
-fn counted(which: u8) -> Note {
-    Note::Count {
-        which,
-        before: 0,
-        after: 1,
+// A note as a line.
+fn put_note(text: &mut Text, note: &Note) -> Result<(), Memory> {
+    match note {
+        Note::Text(fault) => put_book_fault(text, fault),
+        Note::Order(fault) => put_order_fault(text, fault),
+        Note::Limit(fault) => put_limit_fault(text, fault),
+        Note::Refused(rule) => put_numbers(text, b"refused", &[u64::from(*rule)]),
+        Note::Finding { slice, .. } => put_numbers(text, b"finding", &[u64::from(*slice)]),
+        Note::Spent { slice, learnt, .. } => {
+            put_numbers(text, b"spent", &[u64::from(*slice), learnt.len() as u64])
+        }
+        Note::Count {
+            which,
+            before,
+            after,
+        } => put_numbers(text, b"count", &[u64::from(*which), *before, *after]),
+        _ => text.put(b"other\n"),
     }
 }
 
+// A word and numbers behind it, as a line.
+fn put_numbers(text: &mut Text, word: &[u8], numbers: &[u64]) -> Result<(), Memory> {
+    text.put(word)?;
+    for number in numbers {
+        put_number(text, *number)?;
+    }
+    text.put(b"\n")
+}
+
+// The notes of a log, a line each.
+pub fn notes_of(alloc: Global, log: &RunLog) -> Result<Text, Memory> {
+    let mut text = Text::new(alloc);
+    for note in log.notes() {
+        put_note(&mut text, note)?;
+    }
+    Ok(text)
+}
+
 // Asserts what a run against the engine book leaves behind, where the calls of these numbers on the source, the files
-// and the sink fail: the status with the text, the one note, and the counts of faults of the three.
+// and the sink fail: the status with the text, the notes, and the counts of faults of the three.
 fn leaves(
     rt: &impl Abort,
     alloc: Global,
     words: &str,
     fails: (u64, u64, u64),
     answer: (u8, &str),
-    note: Note,
+    notes: &str,
     faults: (u64, u64, u64),
 ) -> Result<(), Fail> {
     let all = words_of(alloc, words)?;
@@ -41,8 +71,11 @@ fn leaves(
     let status = run(alloc, &all, &mut source, &mut sink, &mut files, &mut log);
     assert_eq!(rt; status, answer.0, "status of {words}");
     assert_eq!(rt; sink.taken(), answer.1.as_bytes(), "text of {words}");
-    assert_eq!(rt; log.notes().len(), 1, "notes of {words}");
-    assert!(rt; log.notes().first() == Some(&note), "note of {words}");
+    assert_eq!(rt;
+        notes_of(alloc, &log)?.bytes(),
+        notes.as_bytes(),
+        "notes of {words}"
+    );
     let counts = (source.read_faults(), files.faults(), sink.write_faults());
     assert_eq!(rt; counts, faults, "faults of {words}");
     Ok(())
@@ -60,7 +93,7 @@ fn faults_of_the_outside_and_the_log(rt: HostRuntime) -> Result<(), Fail> {
         words,
         (1, 99, 99),
         answer,
-        counted(1),
+        "count 1 0 1\n",
         (1, 0, 0),
     )?;
     leaves(
@@ -69,7 +102,7 @@ fn faults_of_the_outside_and_the_log(rt: HostRuntime) -> Result<(), Fail> {
         "verify C",
         (99, 99, 99),
         answer,
-        counted(2),
+        "count 2 0 1\n",
         (0, 1, 0),
     )?;
     leaves(
@@ -78,10 +111,19 @@ fn faults_of_the_outside_and_the_log(rt: HostRuntime) -> Result<(), Fail> {
         "order x",
         (0, 0, 0),
         (5, ""),
-        counted(3),
+        "count 3 0 1\n",
         (0, 0, 1),
     )?;
-    let refused = Note::Refused(0);
+    leaves(
+        &rt,
+        alloc,
+        "check",
+        (99, 99, 0),
+        (5, ""),
+        "count 3 0 1\n",
+        (0, 0, 1),
+    )?;
+    let refused = "refused 0\n";
     let answer = (1, "refused C1\n");
     leaves(
         &rt,
@@ -92,7 +134,7 @@ fn faults_of_the_outside_and_the_log(rt: HostRuntime) -> Result<(), Fail> {
         refused,
         (0, 0, 0),
     )?;
-    let fault = Note::Order(OrderFault::DayOutsideTerm);
+    let fault = "order fault 1\n";
     let answer = (3, "order fault 1\n");
     leaves(&rt, alloc, "order 0", (99, 0, 99), answer, fault, (0, 0, 0))
 }
@@ -101,15 +143,9 @@ fn faults_of_the_outside_and_the_log(rt: HostRuntime) -> Result<(), Fail> {
 fn inputs_that_are_no_book(rt: HostRuntime) -> Result<(), Fail> {
     let alloc = rt.alloc();
     let long = vec![in alloc; b'x'; 1_048_578]?;
-    for (input, text, row, kind, rest) in [
-        (
-            Vec::new(alloc),
-            "book fault 1 3\n",
-            1,
-            BookKind::NoBookRecord,
-            0,
-        ),
-        (long, "book fault 0 1\n", 0, BookKind::TooLarge, 1),
+    for (input, text, rest) in [
+        (Vec::new(alloc), "book fault 1 3\n", 0),
+        (long, "book fault 0 1\n", 1),
     ] {
         // The file is not there, but a fault of the book comes first.
         let all = words_of(alloc, "verify C")?;
@@ -120,10 +156,7 @@ fn inputs_that_are_no_book(rt: HostRuntime) -> Result<(), Fail> {
         let status = run(alloc, &all, &mut source, &mut sink, &mut files, &mut log);
         assert_eq!(rt; (status, files.faults()), (3, 0));
         assert_eq!(rt; sink.taken(), text.as_bytes());
-        assert_eq!(rt;
-            log.notes(),
-            [Note::Text(BookFault { row, kind })].as_slice()
-        );
+        assert_eq!(rt; notes_of(alloc, &log)?.bytes(), text.as_bytes());
         let mut left = Vec::new(alloc);
         assert_eq!(rt; source.read(&mut left, 9), Ok(rest));
     }

@@ -1,5 +1,5 @@
 use Rattle.partsbook.proofs.Caused.{Does-caused, Does-usage}
-use Rattle.partsbook.proofs.Verified.{IsCaused-released}
+use Rattle.partsbook.proofs.Releasable.{IsCaused-released}
 use Rattle.partsbook.proofs.Sure.{Does-sure, Does-unfailing}
 use Rattle.partsbook.proofs.run.run.Goals as goal
 
@@ -9,8 +9,8 @@ returns-clause-causes g c = Does-caused _ _ _ _ c.do_words.ensures
 pub returns-clause-usage : goal.returns-clause-usage
 returns-clause-usage g c = Does-usage _ _ _ _ c.do_words.ensures
 
-pub returns-clause-verified : goal.returns-clause-verified
-returns-clause-verified g c = IsCaused-released _ _ _ _ (Does-caused _ _ _ _ c.do_words.ensures)
+pub returns-clause-released : goal.returns-clause-released
+returns-clause-released g c = IsCaused-released _ _ _ _ (Does-caused _ _ _ _ c.do_words.ensures)
 
 pub returns-clause-complete : goal.returns-clause-complete
 returns-clause-complete g c = Does-sure _ _ _ _ c.do_words.ensures

@@ -1,0 +1,9 @@
+pub mod PlainWalk
+pub mod Fronts
+pub mod Rows
+pub mod OptionWalk
+pub mod FormReads
+pub mod Tops
+pub mod Laws
+pub mod Meanings
+pub mod Grammars

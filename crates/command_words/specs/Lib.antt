@@ -1,0 +1,4 @@
+pub mod Parts
+pub mod Meaning
+pub mod Prepared
+pub mod Grammar

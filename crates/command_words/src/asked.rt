@@ -1,0 +1,233 @@
+//! What a command word asks with a budget and operands.
+ghost use Rattle.std.specs.Prelude.{◌≡◌, ◌≤◌, IfOk, IfSome, option_map};
+ghost use Rattle.command_words.specs.Prepared.{lent, lent_option};
+ghost use Rattle.command_words.specs.Meaning.{number_in, codes_of, order_of, budget_of, check_of, only_one, file_of};
+ghost use Rattle.command_words.specs.Meaning.{door_of, serve_of, codes_number, sample_of, asked};
+ghost use Rattle.command_words.specs.declared.command.Command.TheVariants.{Check, Prove, Verify, Desk};
+
+use crate::command::Command;
+use crate::file_name::FileName;
+use pb_base::{CodeList, CodeName, Memory, number_within, short_number};
+use std::alloc::Global;
+
+/// The command, or None where the word is no command word, or takes other operands or no budget.
+pub fn asked(
+    alloc: Global,
+    name: &str,
+    budget: Option<&str>,
+    operands: &[&str],
+) -> Result<Option<Command>, Memory>
+    ensures { IfOk result (λ command. command
+        ≡ asked name.now (lent_option budget.entry) (lent operands.now)) }
+{
+    if name == "order" {
+        order_of(alloc, budget, operands)
+    } else if name == "check" {
+        Ok(check_of(budget, operands))
+    } else if name == "prove" {
+        Ok(prove_of(budget, operands))
+    } else if name == "verify" {
+        verify_of(alloc, budget, operands)
+    } else if name == "desk" {
+        desk_of(alloc, budget, operands)
+    } else if name == "serve" {
+        serve_of(alloc, budget, operands)
+    } else if name == "sample" {
+        Ok(sample_of(budget, operands))
+    } else {
+        Ok(None)
+    }
+}
+
+fn order_of(
+    alloc: Global,
+    budget: Option<&str>,
+    operands: &[&str],
+) -> Result<Option<Command>, Memory>
+    ensures { IfOk result (λ command. command
+        ≡ order_of (lent_option budget.entry) (lent operands.now)) }
+{
+    if budget.is_some() {
+        return Ok(None);
+    }
+    let Some((day, names)) = operands.split_first() else {
+        return Ok(None);
+    };
+    let Some(day) = short_number(day.as_bytes()) else {
+        return Ok(None);
+    };
+    match codes_of(alloc, names)? {
+        Some(codes) => Ok(Some(Command::Order { day, codes })),
+        None => Ok(None),
+    }
+}
+
+fn codes_of(alloc: Global, names: &[&str]) -> Result<Option<CodeList>, Memory>
+    ensures { IfOk result (λ codes. codes ≡ codes_of (lent names.now)) }
+{
+    let mut codes = CodeList::new(alloc);
+    for name in names {
+        match CodeName::of(name.as_bytes()) {
+            Some(code) => codes.push(code)?,
+            None => return Ok(None),
+        }
+    }
+    Ok(Some(codes))
+}
+
+fn check_of(budget: Option<&str>, operands: &[&str]) -> Option<Command>
+    ensures { result ≡ check_of Check (lent_option budget.entry) (lent operands.now) }
+{
+    if !operands.is_empty() {
+        return None;
+    }
+    let budget = budget_of(budget)?;
+    Some(Command::Check { budget })
+}
+
+fn prove_of(budget: Option<&str>, operands: &[&str]) -> Option<Command>
+    ensures { result ≡ check_of Prove (lent_option budget.entry) (lent operands.now) }
+{
+    if !operands.is_empty() {
+        return None;
+    }
+    let budget = budget_of(budget)?;
+    Some(Command::Prove { budget })
+}
+
+// The most work for one question, which is 10,000 where the words say none.
+fn budget_of(text: Option<&str>) -> Option<u32>
+    ensures { result ≡ budget_of (lent_option text.entry) }
+{
+    match text {
+        Some(text) => number_in(text, 1, 50_000),
+        None => Some(10_000),
+    }
+}
+
+fn verify_of(
+    alloc: Global,
+    budget: Option<&str>,
+    operands: &[&str],
+) -> Result<Option<Command>, Memory>
+    ensures { IfOk result (λ command. command
+        ≡ file_of Verify (lent_option budget.entry) (lent operands.now)) }
+{
+    match only_one(budget, operands) {
+        Some(name) => {
+            let file = FileName::of(alloc, name)?;
+            Ok(Some(Command::Verify { file }))
+        }
+        None => Ok(None),
+    }
+}
+
+fn desk_of(
+    alloc: Global,
+    budget: Option<&str>,
+    operands: &[&str],
+) -> Result<Option<Command>, Memory>
+    ensures { IfOk result (λ command. command
+        ≡ file_of Desk (lent_option budget.entry) (lent operands.now)) }
+{
+    match only_one(budget, operands) {
+        Some(name) => {
+            let store = FileName::of(alloc, name)?;
+            Ok(Some(Command::Desk { store }))
+        }
+        None => Ok(None),
+    }
+}
+
+// The one operand, where there is no budget.
+fn only_one<'a>(budget: Option<&str>, operands: &[&'a str]) -> Option<&'a str>
+    ensures { option_map (λ word. word.now) result ≡ only_one (lent_option budget.entry) (lent operands.now) }
+{
+    if budget.is_some() {
+        return None;
+    }
+    let (word, further) = operands.split_first()?;
+    if further.is_empty() {
+        Some(*word)
+    } else {
+        None
+    }
+}
+
+fn serve_of(
+    alloc: Global,
+    budget: Option<&str>,
+    operands: &[&str],
+) -> Result<Option<Command>, Memory>
+    ensures { IfOk result (λ command. command
+        ≡ serve_of (lent_option budget.entry) (lent operands.now)) }
+{
+    if budget.is_some() {
+        return Ok(None);
+    }
+    let Some((store, numbers)) = operands.split_first() else {
+        return Ok(None);
+    };
+    let Some((port, workers, links)) = door_of(numbers) else {
+        return Ok(None);
+    };
+    let store = FileName::of(alloc, store)?;
+    Ok(Some(Command::Serve {
+        store,
+        port,
+        workers,
+        links,
+    }))
+}
+
+// The port, the workers and the links.
+fn door_of(operands: &[&str]) -> Option<(u16, u32, u32)>
+    ensures { result ≡ door_of (lent operands.now) }
+{
+    let [port, workers, links] = operands else {
+        return None;
+    };
+    let port = number_in(port, 1, 65_535)? as u16;
+    let workers = number_in(workers, 1, 16)?;
+    let links = number_in(links, 1, 1_000_000)?;
+    Some((port, workers, links))
+}
+
+fn sample_of(budget: Option<&str>, operands: &[&str]) -> Option<Command>
+    ensures { result ≡ sample_of (lent_option budget.entry) (lent operands.now) }
+{
+    if budget.is_some() {
+        return None;
+    }
+    let [start, size, orders] = operands else {
+        return None;
+    };
+    let start = number_in(start, 0, u32::MAX)?;
+    let codes = codes_number(size)?;
+    let orders = number_in(orders, 0, 10_000)?;
+    Some(Command::Sample {
+        start,
+        codes,
+        orders,
+    })
+}
+
+fn codes_number(text: &str) -> Option<u32>
+    ensures { result ≡ codes_number text.now }
+{
+    let number = number_in(text, 8, 2_000)?;
+    if number % 4 == 0 { Some(number) } else { None }
+}
+
+// The number of 1 to 10 digits, where it lies in the range.
+fn number_in(text: &str, least: u32, most: u32) -> Option<u32>
+    ensures number { result ≡ number_in least most text.now }
+    ensures range { IfSome result (λ number. number ≤ most) }
+{
+    let number = number_within(text.as_bytes(), 10)?;
+    if u64::from(least) <= number && number <= u64::from(most) {
+        Some(number as u32)
+    } else {
+        None
+    }
+}

@@ -1,0 +1,54 @@
+//! The grammar of the words, as the option parser is given it.
+ghost use Rattle.std.specs.Prelude.{◌≡◌, IfOk, false};
+ghost use Rattle.clap.specs.Words.{app_of};
+ghost use Rattle.clap.specs.declared.builder.command.Command.TheViews.{out-Command};
+ghost use Rattle.command_words.specs.Grammar.{form, with_form, book_forms, grammar, top};
+
+use clap::{Arg, ArgAction, Command};
+use pb_base::Memory;
+use std::alloc::Global;
+
+/// The grammar: a command word, and behind it operands with at most one option among them.
+pub fn grammar<'a>(alloc: Global) -> Result<Command<'a>, Memory>
+    ensures { IfOk result (λ command. app_of command ≡ grammar) }
+{
+    let command = with_form(alloc, book_forms(alloc)?, "desk")?;
+    let command = with_form(alloc, command, "serve")?;
+    with_form(alloc, command, "sample")
+}
+
+fn book_forms<'a>(alloc: Global) -> Result<Command<'a>, Memory>
+    ensures app { IfOk result (λ command. app_of command ≡ book_forms) }
+{
+    let command = with_form(alloc, top(alloc), "order")?;
+    let command = with_form(alloc, command, "check")?;
+    let command = with_form(alloc, command, "prove")?;
+    with_form(alloc, command, "verify")
+}
+
+fn top<'a>(alloc: Global) -> Command<'a>
+    ensures { app_of result ≡ top }
+{
+    Command::new(alloc, "partsbook")
+        .no_binary_name(true)
+        .disable_help_flag(true)
+        .disable_help_subcommand(true)
+        .disable_version_flag(true)
+        .subcommand_required(true)
+}
+
+fn with_form<'a>(alloc: Global, command: Command<'a>, name: &'a str) -> Result<Command<'a>, Memory>
+    ensures { IfOk result (λ r. app_of r ≡ with_form (app_of command.entry) name.entry.now) }
+{
+    let form = form(alloc, name)?;
+    Ok(command.subcommand(form)?)
+}
+
+fn form<'a>(alloc: Global, name: &'a str) -> Result<Command<'a>, Memory>
+    ensures app { IfOk result (λ r. app_of r ≡ form name.entry.now) }
+    ensures local { IfOk result (λ r. (out-Command r).has_globals ≡ false) }
+{
+    let budget = Arg::new(alloc, "budget").long("budget");
+    let operands = Arg::new(alloc, "operands").action(ArgAction::Append);
+    Ok(Command::new(alloc, name).arg(budget)?.arg(operands)?)
+}

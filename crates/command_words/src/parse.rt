@@ -1,0 +1,48 @@
+//! Reads prepared words by the option parser.
+ghost use Rattle.std.specs.Prelude.{◌≡◌, IfOk, true};
+ghost use Rattle.clap.specs.Words.{found_of, rows_of, subcommand_rows_of};
+ghost use Rattle.command_words.specs.Meaning.{asked};
+ghost use Rattle.command_words.specs.Prepared.{lent};
+ghost use Rattle.command_words.specs.Grammar.{is_prepared, parsed, read, form_read};
+
+use crate::asked::asked;
+use crate::command::Command;
+use crate::grammar::grammar;
+use clap::ArgMatches;
+use clap::error::ErrorKind;
+use pb_base::Memory;
+use std::alloc::Global;
+
+/// The command that prepared words ask for, or None where they ask for none.
+pub fn parse(alloc: Global, words: &[&str]) -> Result<Option<Command>, Memory>
+    requires { is_prepared (lent words.now) ≡ true }
+    ensures { IfOk result (λ command. command ≡ parsed (lent words.now)) }
+{
+    match grammar(alloc)?.try_get_matches_from(words) {
+        Ok(matches) => read(alloc, &matches),
+        Err(error) => match error.kind() {
+            ErrorKind::OutOfMemory => Err(Memory),
+            _ => Ok(None),
+        },
+    }
+}
+
+// Reads what the parser found.
+fn read(alloc: Global, matches: &ArgMatches<'_>) -> Result<Option<Command>, Memory>
+    ensures { IfOk result (λ command. command ≡ read (subcommand_rows_of matches.now)) }
+{
+    match matches.subcommand() {
+        Some((name, found)) => read_form(alloc, name, found),
+        None => Ok(None),
+    }
+}
+
+fn read_form(alloc: Global, name: &str, found: &ArgMatches<'_>) -> Result<Option<Command>, Memory>
+    ensures { IfOk result (λ command. command ≡ form_read name.now (rows_of (found_of found.now))) }
+{
+    let budget = found.get_str("budget");
+    match found.get_strs("operands") {
+        Some(operands) => asked(alloc, name, budget, operands),
+        None => asked(alloc, name, budget, &[]),
+    }
+}

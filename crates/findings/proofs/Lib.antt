@@ -1,0 +1,7 @@
+pub mod Lifting
+pub mod UsageLaws
+pub mod ToldLaws
+pub mod SliceLaws
+pub mod BookLaws
+pub mod SolverLaws
+mod WorkedReports

@@ -1,0 +1,5 @@
+pub mod Findings
+pub mod Notes
+pub mod Outcomes
+pub mod Answering
+pub mod Certified

@@ -1,0 +1,61 @@
+//! The answer to a question of a slice.
+ghost use Rattle.std.specs.Prelude.{◌≡◌, ◌<◌, ◌≤◌, All, IfOk};
+ghost use Rattle.solver.specs.Solver.{Extends};
+ghost use Rattle.findings.specs.Answering.{SliceFacts, IsAsked, IsOver, IsFound, IsOutcome, inquiry};
+
+use crate::effort::Effort;
+use crate::found::{Found, first_met, found_with};
+use crate::outcome::{Outcome, from_clause, from_set};
+use crate::report::Note;
+use book_model::{Book, Slice};
+use clausify::Asked;
+use pb_base::Memory;
+use solver::{Answer, Solver};
+use std::alloc::Global;
+
+/// What comes of a question. A set that was found before may answer it; else the solver does, and a set that it finds is
+/// kept for the questions behind it.
+pub(crate) fn answer(
+    alloc: Global,
+    book: &Book,
+    slice: &Slice,
+    effort: Effort,
+    asked: &Asked,
+    solver: &mut Solver,
+    sets: &mut Vec<Found>,
+) -> Result<Outcome, Memory>
+    requires facts { SliceFacts book.now slice.now }
+    requires asked { IsAsked book.now slice.now solver.old.vars asked.now }
+    requires over { IsOver book.now slice.now solver.old }
+    requires sets { All (IsFound book.now slice.now) sets.old.items }
+    requires some { 0 < effort.budget }
+    requires budget { effort.budget ≤ 50000 }
+    ensures extends { Extends solver.old.kernel solver.new.kernel }
+    ensures vars { solver.new.vars ≡ solver.old.vars }
+    ensures over { IsOver book.now slice.now solver.new }
+    ensures sets { All (IsFound book.now slice.now) sets.new.items }
+    ensures outcome { IfOk result (IsOutcome (inquiry book.now effort) slice.now
+        solver.new.kernel.clauses asked.now) }
+{
+    match first_met(book, slice, sets, asked.question) {
+        Some(found) => return from_set(alloc, asked.question, found),
+        None => {}
+    }
+    let searched = solver.solve(asked.goal, effort.budget)?;
+    match searched {
+        Answer::Set(set) => {
+            let found = found_with(alloc, book, set)?;
+            let outcome = from_set(alloc, asked.question, &found)?;
+            sets.push(found)?;
+            Ok(outcome)
+        }
+        Answer::Closed(at) => {
+            solver.kernel().pool();
+            Ok(from_clause(asked.question, at))
+        }
+        Answer::Spent(learnt) => Ok(Outcome::Noted(Note::Undecided {
+            question: asked.question,
+            learnt,
+        })),
+    }
+}

@@ -1,0 +1,117 @@
+//! The check of a book.
+ghost use Rattle.std.specs.Prelude.{◌≡◌, ◌↔◌, ◌<◌, ◌≤◌, All, IfOk, IfSome, IsSome, OnOk, Err, false, ◌++◌, ◌||◌};
+ghost use Rattle.std.specs.List.{AllZip, list_any};
+ghost use Rattle.std.specs.Option.{is_none, option_to_list};
+ghost use Rattle.pb_base.specs.Answers.{IfRefused};
+ghost use Rattle.book_model.specs.Slices.{IsOrdered, IsSteady};
+ghost use Rattle.book_model.specs.Sound.{IsReleasable};
+ghost use Rattle.derivation.specs.Limits.{AreWithin, slices_within};
+ghost use Rattle.derivation.specs.Showing.{ShowsSlice};
+ghost use Rattle.findings.specs.Notes.{InParts, IsReport, SliceNotes, verdict_of};
+ghost use Rattle.findings.specs.Answering.{inquiry, stops};
+ghost use Rattle.findings.specs.Certified.{IsAccepted};
+
+use crate::effort::Effort;
+use crate::laws::book_laws;
+use crate::report::{Ask, Note, Report, Verdict};
+use crate::slice::{SliceCheck, check_slice};
+use book_model::{Book, LimitFault, Slice};
+use derivation::{SliceProof, slices_within, write_cert};
+use pb_base::{Body, Fail, Memory};
+use std::alloc::Global;
+
+/// What a check of a book tells, and the certificate that nothing keeps it from its release.
+#[derive(Drop)]
+pub struct Checked {
+    pub report: Report,
+    /// It is there just where the report's verdict is that the book can be released.
+    pub cert: Option<Body>,
+}
+
+/// Asks the questions of every slice of a book. A question is left where so many clauses were learnt for it, each of which
+/// says what propagation did not. A book that exceeds the limits of checking is refused with the first of them.
+pub fn check_book(
+    alloc: Global,
+    book: &Book,
+    budget: u32,
+    ask: Ask,
+) -> Result<Checked, Fail<LimitFault>>
+    requires some { 0 < budget }
+    requires most { budget ≤ 50000 }
+    ensures limits { IfRefused result (λ fault. slices_within book.now ≡ Err fault) }
+    ensures report { IfOk result (λ c.
+        IsReport (record { book = book.now; ask = ask; budget = budget }) c.report) }
+    ensures cert { IfOk result (λ c. IsSome c.cert ↔ (verdict_of c.report ≡ Verdict.Releasable)) }
+    ensures accepted { IfOk result (λ c. IfSome c.cert (IsAccepted book.now)) }
+    ensures released { IfOk result (λ c. verdict_of c.report ≡ Verdict.Releasable → IsReleasable book.now) }
+{
+    book_laws(book);
+    let slices = slices_within(alloc, book)?;
+    let effort = Effort { ask, budget };
+    let checked = check_slices(alloc, book, slices.as_slice(), effort)?;
+    let stopped = checked.stopped;
+    let report = Report::of(checked.notes);
+    if stopped {
+        return Ok(Checked { report, cert: None });
+    }
+    let cert = write_cert(alloc, book, &checked.proofs)?;
+    Ok(Checked {
+        report,
+        cert: Some(cert),
+    })
+}
+
+/// What a check of slices tells: their notes, and where none of these keeps the book from its release, a proof for each slice.
+#[derive(Drop)]
+struct SliceChecks {
+    notes: Vec<Note>,
+    proofs: Vec<SliceProof>,
+    stopped: bool,
+}
+
+fn check_slices(
+    alloc: Global,
+    book: &Book,
+    slices: &[Slice],
+    effort: Effort,
+) -> Result<SliceChecks, Memory>
+    requires steady { All (IsSteady book.now) slices.now }
+    requires order { All IsOrdered slices.now }
+    requires few { AreWithin book.now slices.now }
+    requires some { 0 < effort.budget }
+    requires budget { effort.budget ≤ 50000 }
+    ensures notes { IfOk result (λ c.
+        InParts (SliceNotes (inquiry book.now effort)) slices.now c.notes.items) }
+    ensures stopped { IfOk result (λ c. c.stopped ≡ list_any stops c.notes.items) }
+    ensures proofs { IfOk result (λ c.
+        c.stopped ≡ false → AllZip (ShowsSlice book.now) slices.now c.proofs.items) }
+{
+    let mut all = SliceChecks {
+        notes: Vec::new(alloc),
+        proofs: Vec::new(alloc),
+        stopped: false,
+    };
+    for slice in slices {
+        let checked = check_slice(alloc, book, slice, effort)?;
+        all.put(checked)?;
+    }
+    Ok(all)
+}
+
+impl SliceChecks {
+    /// Puts down what the check of a further slice tells.
+    fn put(&mut self, checked: SliceCheck) -> Result<(), Memory>
+        ensures notes { OnOk result (self.new.notes.items ≡ self.old.notes.items ++ checked.notes.items) }
+        ensures stopped { OnOk result (self.new.stopped ≡ (self.old.stopped || is_none checked.proof)) }
+        ensures proofs { OnOk result (self.new.proofs.items
+            ≡ self.old.proofs.items ++ option_to_list checked.proof) }
+    {
+        let SliceCheck { mut notes, proof } = checked;
+        self.notes.append(&mut notes)?;
+        match proof {
+            Some(proof) => self.proofs.push(proof)?,
+            None => self.stopped = true,
+        }
+        Ok(())
+    }
+}

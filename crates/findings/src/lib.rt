@@ -1,0 +1,15 @@
+//! The findings of a book: what is wrong with it on which days, each with what shows it, or a certificate that nothing keeps
+//! it from its release.
+#![tactic(auto)]
+
+mod answer;
+mod check;
+mod effort;
+mod found;
+mod laws;
+mod outcome;
+mod report;
+mod slice;
+
+pub use check::{Checked, check_book};
+pub use report::{Ask, Note, Report, Verdict, verdict_of};

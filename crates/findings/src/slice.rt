@@ -1,0 +1,208 @@
+//! The questions of a slice.
+ghost use Rattle.std.specs.Prelude.{◌≡◌, ◌+◌, ◌<◌, ◌≤◌, ◌^◌, [], ◌∷◌, All, IfOk, None, Some, drop, length, slice_get};
+ghost use Rattle.std.specs.List.{list_any};
+ghost use Rattle.book_model.specs.Slices.{IsOrdered, IsSteady};
+ghost use Rattle.clausify.specs.Coded.{slice_clauses, slice_asked};
+ghost use Rattle.clausify.specs.declared.question.Asked.{Asked};
+ghost use Rattle.derivation.specs.Limits.{asked_of};
+ghost use Rattle.derivation.specs.Showing.{StandsOver};
+ghost use Rattle.pb_base.specs.declared.limits.TheConstants.{MOST_QUESTIONS};
+ghost use Rattle.solver.specs.Solver.{Extends};
+ghost use Rattle.findings.specs.Notes.{SliceNotes};
+ghost use Rattle.findings.specs.Findings.{MeetsThrough};
+ghost use Rattle.findings.specs.Answering.{SliceFacts, IsAsked, IsOver, IsFound, AreTold, ShowsUnlessStopped, inquiry, stops};
+
+use crate::answer::answer;
+use crate::effort::{Effort, is_asked};
+use crate::found::{Found, found_with};
+use crate::outcome::Told;
+use crate::report::{Note, is_fault, is_left};
+use book_model::{Book, Slice};
+use clause_pool::{Kernel, Lit};
+use clausify::{Asked, Question, coded_slice};
+use derivation::SliceProof;
+use pb_base::{CodeSet, Memory};
+use solver::{Answer, Solver};
+use std::alloc::Global;
+
+/// What a check of a slice tells: its notes, and where none of them keeps the book from its release, what shows that.
+#[derive(Drop)]
+pub(crate) struct SliceCheck {
+    pub(crate) notes: Vec<Note>,
+    pub(crate) proof: Option<SliceProof>,
+}
+
+/// Asks the questions of a slice. Where Void has no set or is left, nothing more is asked.
+pub(crate) fn check_slice(
+    alloc: Global,
+    book: &Book,
+    slice: &Slice,
+    effort: Effort,
+) -> Result<SliceCheck, Memory>
+    requires steady { IsSteady book.now slice.now }
+    requires order { IsOrdered slice.now }
+    requires few { asked_of book.now slice.now ≤ MOST_QUESTIONS }
+    requires some { 0 < effort.budget }
+    requires budget { effort.budget ≤ 50000 }
+    ensures notes { IfOk result (λ c. SliceNotes (inquiry book.now effort) slice.now c.notes.items) }
+    ensures proof { IfOk result (λ c. ShowsUnlessStopped book.now slice.now c.notes.items c.proof) }
+{
+    let coded = coded_slice(alloc, book, slice)?;
+    let void = first_goal(&coded.questions);
+    let kernel = Kernel::of(alloc, coded.pool);
+    let mut solver = Solver::new(alloc, kernel, coded.vars, book.codes().len())?;
+    let searched = solver.solve(void, effort.budget)?;
+    match searched {
+        Answer::Set(set) => {
+            let later = behind_first(&coded.questions);
+            return check_later(alloc, book, slice, effort, later, solver, set);
+        }
+        Answer::Closed(_) => {
+            solver.kernel().pool();
+            let note = Note::Finding {
+                question: Question::Void,
+                set: None,
+            };
+            return only_void(alloc, slice, note);
+        }
+        Answer::Spent(learnt) => {
+            let note = Note::Undecided {
+                question: Question::Void,
+                learnt,
+            };
+            return only_void(alloc, slice, note);
+        }
+    }
+}
+
+/// The goal of the first question.
+fn first_goal(questions: &[Asked]) -> Lit
+    requires { 0 < length questions.now }
+    ensures { (a : Asked) → slice_get questions.now 0 ≡ Some a → result ≡ a.goal }
+{
+    questions[0].goal
+}
+
+/// The questions behind the first.
+fn behind_first(questions: &[Asked]) -> &[Asked]
+    requires { 0 < length questions.now }
+    ensures { result.now ≡ drop 1 questions.now }
+{
+    &questions[1..]
+}
+
+/// The notes of a slice of which only Void was asked.
+fn only_void(alloc: Global, slice: &Slice, note: Note) -> Result<SliceCheck, Memory>
+    ensures notes { IfOk result (λ c. c.notes.items
+        ≡ Note.Days slice.now.first slice.now.last ∷ note ∷ []) }
+    ensures proof { IfOk result (λ c. c.proof ≡ None) }
+{
+    let mut notes = days_note(alloc, slice)?;
+    notes.push(note)?;
+    Ok(SliceCheck { notes, proof: None })
+}
+
+/// The note that the notes of a slice begin with.
+fn days_note(alloc: Global, slice: &Slice) -> Result<Vec<Note>, Memory>
+    ensures { IfOk result (λ notes. notes.items ≡ Note.Days slice.now.first slice.now.last ∷ []) }
+{
+    let mut notes = Vec::new(alloc);
+    notes.push(Note::Days {
+        first: slice.first,
+        last: slice.last,
+    })?;
+    Ok(notes)
+}
+
+/// Asks the questions behind Void, which this set answers.
+fn check_later(
+    alloc: Global,
+    book: &Book,
+    slice: &Slice,
+    effort: Effort,
+    later: &[Asked],
+    mut solver: Solver,
+    set: CodeSet,
+) -> Result<SliceCheck, Memory>
+    requires facts { SliceFacts book.now slice.now }
+    requires asked { All (IsAsked book.now slice.now solver.vars) later.now }
+    requires later { later.now ≡ drop 1 (slice_asked book.now slice.now.first) }
+    requires count { length later.now + 1 < 2 ^ 32 }
+    requires given { StandsOver (slice_clauses book.now slice.now.first) solver.kernel }
+    requires over { IsOver book.now slice.now solver }
+    requires counted { length set ≡ length book.now.codes }
+    requires void { MeetsThrough book.now slice.now Question.Void set }
+    requires some { 0 < effort.budget }
+    requires budget { effort.budget ≤ 50000 }
+    ensures notes { IfOk result (λ c. SliceNotes (inquiry book.now effort) slice.now c.notes.items) }
+    ensures proof { IfOk result (λ c. ShowsUnlessStopped book.now slice.now c.notes.items c.proof) }
+{
+    let found = found_with(alloc, book, set)?;
+    let set = found.set.copy(alloc)?;
+    let mut sets = Vec::new(alloc);
+    sets.push(found)?;
+    let mut told = ask_later(alloc, book, slice, effort, later, &mut solver, &mut sets)?;
+    let mut notes = days_note(alloc, slice)?;
+    let stopped = any_stops(&told.notes);
+    notes.append(&mut told.notes)?;
+    if stopped {
+        return Ok(SliceCheck { notes, proof: None });
+    }
+    let proof = SliceProof {
+        set,
+        kernel: solver.into_kernel(),
+        closed: told.closed,
+    };
+    Ok(SliceCheck {
+        notes,
+        proof: Some(proof),
+    })
+}
+
+/// Asks the questions of a slice behind Void, of which the first has the number 1.
+fn ask_later(
+    alloc: Global,
+    book: &Book,
+    slice: &Slice,
+    effort: Effort,
+    later: &[Asked],
+    solver: &mut Solver,
+    sets: &mut Vec<Found>,
+) -> Result<Told, Memory>
+    requires facts { SliceFacts book.now slice.now }
+    requires asked { All (IsAsked book.now slice.now solver.old.vars) later.now }
+    requires count { length later.now + 1 < 2 ^ 32 }
+    requires over { IsOver book.now slice.now solver.old }
+    requires sets { All (IsFound book.now slice.now) sets.old.items }
+    requires some { 0 < effort.budget }
+    requires budget { effort.budget ≤ 50000 }
+    ensures extends { Extends solver.old.kernel solver.new.kernel }
+    ensures told { IfOk result (λ told. AreTold (inquiry book.now effort) slice.now later.now told
+        solver.new.kernel.clauses) }
+{
+    let mut told = Told {
+        notes: Vec::new(alloc),
+        closed: Vec::new(alloc),
+    };
+    for (place, asked) in later.iter().enumerate() {
+        if !is_asked(effort.ask, asked.question) {
+            continue;
+        }
+        let outcome = answer(alloc, book, slice, effort, asked, solver, sets)?;
+        told.put(place as u32 + 1, outcome)?;
+    }
+    Ok(told)
+}
+
+/// Whether some note keeps the book from its release.
+fn any_stops(notes: &[Note]) -> bool
+    ensures { result ≡ list_any stops notes.now }
+{
+    notes.iter().any(|note| stops(note))
+}
+
+fn stops(note: &Note) -> bool
+    ensures { result ≡ stops note.now }
+{
+    is_fault(note) || is_left(note)
+}

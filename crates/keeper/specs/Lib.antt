@@ -1,0 +1,5 @@
+pub mod Put
+pub mod Keys
+pub mod Rows
+pub mod Causes
+pub mod MemoryKeeper

@@ -1,0 +1,2 @@
+pub mod NamesText
+pub mod Texts

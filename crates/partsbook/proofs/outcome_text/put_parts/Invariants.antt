@@ -1,8 +1,0 @@
-use Rattle.std.proofs.Common.{◌≡◌, ◌++◌, drop}
-use Rattle.std.specs.List.{flat_map}
-use Rattle.partsbook.specs.OutcomeText.{parts_line}
-use Rattle.partsbook.proofs.outcome_text.put_parts.Given as goal
-
--- the text so far and the lines that are left make the whole
-abbrev pub invariant-loop-line : goal.invariant-loop-line
-invariant-loop-line l = l.text ++ flat_map (parts_line l.book) (drop l.line-index l.lines) ≡ l.initial.text ++ flat_map (parts_line l.book) l.lines

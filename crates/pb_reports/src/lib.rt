@@ -1,0 +1,12 @@
+//! The texts in which partsbook tells what it found.
+#![tactic(auto)]
+
+mod note;
+mod question;
+mod report;
+
+pub use order_text::outcome_text;
+pub use report::report_text;
+
+#[cfg(test)]
+mod tests;

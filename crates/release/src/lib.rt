@@ -1,0 +1,19 @@
+//! Released books: a type that holds no book that can't be released.
+#![tactic(auto)]
+
+mod answer_text;
+mod certified;
+mod judging;
+mod not_released;
+mod released;
+mod releasing;
+
+pub use answer_text::judged_text;
+pub use certified::{FromFault, from_cert};
+pub use judging::{Judged, judge};
+pub use not_released::NotReleased;
+pub use released::Released;
+pub use releasing::try_release;
+
+#[cfg(test)]
+mod tests;
