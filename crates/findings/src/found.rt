@@ -76,7 +76,8 @@ fn is_used(book: &Book, found: &Found, variant: u32) -> bool
 fn is_used_on(book: &Book, day: Day, found: &Found, variant: u32) -> bool
     requires usages { KnowsUsages book.now found.now }
     requires place { variant < length book.now.variants }
-    ensures { result ≡ (is_active_variant book.now day variant && holds (usage book.now variant) found.now.set) }
+    ensures { result
+        ≡ (is_active_variant book.now day variant && holds (usage book.now variant) found.now.set) }
 {
     let record = &book.variants()[variant as usize];
     active(record.from, record.until, day) && is_used(book, found, variant)
