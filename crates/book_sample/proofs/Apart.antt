@@ -1,6 +1,6 @@
 -- The names of the generated book are names, and no two records of a kind have the same.
-use Rattle.std.proofs.Common.{◌≡◌, ℕ, zero, suc, ◌+◌, ◌*◌, ◌/◌, ◌%◌, ◌<◌, ◌≤◌, Bool, true, false, not, ◌&&◌, ◌||◌, List, [], ◌∷◌, ◌++◌, Option, None, Some, length, refl, sym, ◌∙◌, arith}
-use Rattle.std.specs.Prelude.{nat_eq, nat_le}
+use Rattle.std.proofs.Common.{◌≡◌, ℕ, zero, suc, ◌+◌, ◌*◌, ◌/◌, ◌%◌, ◌<◌, ◌≤◌, true, false, List, [], ◌∷◌, ◌++◌, Option, None, Some, length, refl, arith}
+use Rattle.std.specs.Prelude.{nat_eq}
 use Rattle.std.specs.List.{IsDistinct, AllByRecursion, list_all}
 use Rattle.std.specs.Cmp.Lexicographic.{bytes_decides}
 use Rattle.std.proofs.lemmas.Bool.{false_from_ne_true}
@@ -102,8 +102,7 @@ variants_distinct j (g ∷ gs) room =
     let apart : (e f : ℕ) → e < f → f < 4 → same_name (name 86 (place j e)) (name 86 (place j f)) ≡ false =
     λ e f less few. name_apart 86 86 (place j e) (place j f) (omega arith) (omega arith) (λ _ same. omega arith) in
     let later : (e : ℕ) → e < 4 → IsAbsent (name 86 (place j e)) (variant_ids (suc j) gs) =
-    λ e few. absent_variants (place j e) (suc j) gs (omega arith) (omega arith) in
-    (
+    λ e few. absent_variants (place j e) (suc j) gs (omega arith) (omega arith) in (
       (apart 0 1 (omega arith) (omega arith), (apart 0 2 (omega arith) (omega arith), (apart 0 3 (omega arith) (omega arith), later 0 (omega arith)))),
       (
         (apart 1 2 (omega arith) (omega arith), (apart 1 3 (omega arith) (omega arith), later 1 (omega arith))),
@@ -121,8 +120,7 @@ absent_rules : (letter i j : ℕ) (gs : List Group) → i < 10000 → HasRoom j 
 absent_rules letter i j [] in_i room h71 h88 h90 = tt
 absent_rules letter i j (g ∷ gs) in_i room h71 h88 h90 =
     let other : (e : ℕ) → e < 4 → same_name (name letter i) (name 88 (place j e)) ≡ false =
-    λ e few. name_apart letter 88 i (place j e) in_i (omega arith) (λ same number. let below = h88 same in omega arith) in
-    (
+    λ e few. name_apart letter 88 i (place j e) in_i (omega arith) (λ same number. let below = h88 same in omega arith) in (
       name_apart letter 71 i j in_i (omega arith) (λ same number. let below = h71 same in omega arith),
       (
         other 0 (omega arith),
@@ -133,9 +131,9 @@ absent_rules letter i j (g ∷ gs) in_i room h71 h88 h90 =
             (
               other 3 (omega arith),
               absent-append (bound_ids j g.bound) (rule_ids (suc j) gs) (name letter i)
-              (absent_bound letter i j g.bound in_i (omega arith) h90)
-              (absent_rules letter i (suc j) gs in_i (omega arith) (λ same. let below = h71 same in omega arith) (λ same. let below = h88 same in omega arith)
-              (λ same. let below = h90 same in omega arith)),
+                  (absent_bound letter i j g.bound in_i (omega arith) h90)
+                  (absent_rules letter i (suc j) gs in_i (omega arith) (λ same. let below = h71 same in omega arith) (λ same. let below = h88 same in omega arith)
+                  (λ same. let below = h90 same in omega arith)),
             ),
           ),
         ),
@@ -163,8 +161,7 @@ rules_distinct j (g ∷ gs) room =
     let apart : (e f : ℕ) → e < f → f < 4 → same_name (name 88 (place j e)) (name 88 (place j f)) ≡ false =
     λ e f less few. name_apart 88 88 (place j e) (place j f) (omega arith) (omega arith) (λ _ same. omega arith) in
     let later : (e : ℕ) → e < 4 → IsAbsent (name 88 (place j e)) (bound_ids j g.bound ++ rule_ids (suc j) gs) =
-    λ e few. behind 88 (place j e) j g gs (omega arith) room (λ same. omega arith) (λ _. omega arith) (λ same. omega arith) in
-    (
+    λ e few. behind 88 (place j e) j g gs (omega arith) room (λ same. omega arith) (λ _. omega arith) (λ same. omega arith) in (
       (
         some_alone 0 (omega arith),
         (
@@ -184,8 +181,8 @@ rules_distinct j (g ∷ gs) room =
             (
               later 3 (omega arith),
               bound_before j g.bound (rule_ids (suc j) gs)
-              (absent_rules 90 j (suc j) gs (omega arith) (omega arith) (λ same. omega arith) (λ same. omega arith) (λ _. omega arith))
-              (rules_distinct (suc j) gs (omega arith)),
+                  (absent_rules 90 j (suc j) gs (omega arith) (omega arith) (λ same. omega arith) (λ same. omega arith) (λ _. omega arith))
+                  (rules_distinct (suc j) gs (omega arith)),
             ),
           ),
         ),

@@ -1,16 +1,14 @@
 -- What is drawn is in its range, and a loop that draws comes one group further with each step.
-use Rattle.std.proofs.Common.{◌≡◌, ◌==◌, ℕ, zero, suc, ◌+◌, ◌-◌, ◌*◌, ◌/◌, ◌%◌, ◌<◌, ◌≤◌, Bool, true, false, List, [], ◌∷◌, ◌++◌, Option, Some, None, length, refl, ap, sym, ◌∙◌, append_assoc, arith, if◌then◌else◌}
-use Rattle.std.specs.Prelude.{IfSome, nat_lt}
+use Rattle.std.proofs.Common.{◌≡◌, ◌==◌, ℕ, zero, suc, ◌+◌, ◌-◌, ◌*◌, ◌%◌, ◌<◌, ◌≤◌, Bool, true, false, List, [], ◌∷◌, ◌++◌, Some, None, length, refl, ap, sym, ◌∙◌, append_assoc, arith, if◌then◌else◌}
+use Rattle.std.specs.Prelude.{IfSome}
 use Rattle.std.proofs.lemmas.Bool.{eqb-true, eqb-false, lt-ltb, le-ltb}
 use Rattle.std.proofs.lemmas.List.{append-nil}
 use Rattle.book_sample.specs.Draws.{stepped, drawn}
 use Rattle.book_sample.specs.Names.{code_name, place}
-use Rattle.book_sample.specs.Groups.{bound_at, behind_bound, choice_at, behind_choice, before_choice, group_at, behind_group, groups, behind_groups}
+use Rattle.book_sample.specs.Groups.{bound_at, choice_at, before_choice, group_at, behind_group, groups, behind_groups}
 use Rattle.book_sample.specs.Fits.{BoundFits, ChoiceFits, GroupFits, GroupsFit}
 use Rattle.book_sample.specs.Lines.{code_line, codes_text, group_text, groups_text}
 use Rattle.book_sample.specs.Orders.{picks, behind_picks}
-use Rattle.book_sample.specs.declared.group.Bound.{Bound}
-use Rattle.book_sample.specs.declared.group.Choice.{Choice}
 
 pub drawn-below : (x k : ℕ) → 0 < k → drawn x k < k
 unfolding drawn

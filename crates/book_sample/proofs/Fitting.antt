@@ -1,25 +1,25 @@
 -- The records of the generated book fit, so that its text reads back.
-use Rattle.std.proofs.Common.{◌≡◌, ◌==◌, ℕ, zero, suc, ◌+◌, ◌*◌, ◌<◌, ◌≤◌, Bool, true, false, ◌&&◌, List, [], ◌∷◌, ◌++◌, Option, None, Some, Ok, length, get_or, refl, sym, ap, subst, ◌∙◌, inl, inr, arith, if◌then◌else◌}
+use Rattle.std.proofs.Common.{◌≡◌, ◌==◌, ℕ, zero, suc, ◌+◌, ◌*◌, ◌<◌, ◌≤◌, true, false, List, [], ◌∷◌, Option, None, Some, Ok, length, refl, sym, ap, subst, ◌∙◌, inl, inr, arith}
 use Rattle.std.specs.Prelude.{codes, nat_lt, IfSome}
 use Rattle.std.specs.List.{AllByRecursion, IsDistinct}
 use Rattle.std.proofs.lemmas.Bool.{cases_eq, eq-eqb, ne_eqb, lt-ltb}
 use Rattle.pb_base.specs.Names.{same_name}
-use Rattle.pb_base.specs.Rule.{Rule, nodes}
-use Rattle.book_model.specs.Parts.{variants_from, variants_of}
+use Rattle.pb_base.specs.Rule.{nodes}
+use Rattle.book_model.specs.Parts.{variants_from}
 use Rattle.book_text.specs.BookText.{book_of}
 use Rattle.book_text.specs.declared.names.Names.{Names}
 use Rattle.written_book.specs.Item.{Item, a_module}
-use Rattle.written_book.specs.Book.{names_of, records_of, text_of, contents_of}
+use Rattle.written_book.specs.Book.{names_of, text_of}
 use Rattle.written_book.specs.Written.{AreNames, HeadingFits, ItemFits, IsWritten, RuleFits}
 use Rattle.written_book.proofs.BookBack.{book_back}
 use Rattle.written_book.proofs.Length.{line_most, lines_most, text_length}
 use Rattle.book_sample.specs.Names.{name, names, place}
-use Rattle.book_sample.specs.Fits.{BoundFits, ChoiceFits, GroupFits, GroupsFit}
+use Rattle.book_sample.specs.Fits.{BoundFits, ChoiceFits, GroupsFit}
 use Rattle.book_sample.specs.declared.group.Bound.{Bound}
 use Rattle.book_sample.specs.declared.group.Choice.{Choice}
 use Rattle.book_sample.specs.declared.group.Group.{Group}
-use Rattle.book_sample.proofs.Items.{heading, none_of, some_of, none_of_three, usage, alone_item, bound_item, variant_item, bound_then, variants_then, group_items, code_items, sample_items}
-use Rattle.book_sample.proofs.ByKind.{position_ids, supplement_ids, variant_ids, rule_ids, bound_count, rule_count, variants, sample_names, names_are, records_are, sample_contents, contents_are}
+use Rattle.book_sample.proofs.Items.{heading, none_of, some_of, none_of_three, usage, alone_item, variant_item, bound_then, variants_then, group_items, code_items, sample_items}
+use Rattle.book_sample.proofs.ByKind.{position_ids, supplement_ids, variant_ids, bound_count, rule_count, variants, sample_names, names_are, records_are, sample_contents, contents_are}
 use Rattle.book_sample.proofs.Apart.{name_is, part_is, code_name_is, names_distinct, all_rules_distinct, positions_distinct, variants_distinct}
 
 pub length-names : (letter n i : ℕ) → length (names letter n i) ≡ n
@@ -108,12 +108,18 @@ module _ (n : Names) (m : ℕ) (codes_are : length n.codes ≡ 4 * m) (modules_a
 
   bound_fits : (j : ℕ) (o : Option Bound) (items : List Item) → j < m → IfSome o (BoundFits j) → AllByRecursion (ItemFits n) items → AllByRecursion (ItemFits n) (bound_then j o items)
   bound_fits j None items inside h rest = rest
-  bound_fits j (Some b) items inside h rest =
-      ((name_is 90 j refl, code_in j b.code inside h.code, record {
+  bound_fits j (Some b) items inside h rest = (
+    (
+      name_is 90 j refl,
+      code_in j b.code inside h.code,
+      record {
         in_range = code_test b.group b.forbids (omega (arith, h.group)) h.forbids;
         depth = omega arith;
         size = omega arith;
-      }), rest)
+      },
+    ),
+    rest,
+  )
 
   variant_fits : (j e : ℕ) (c : Choice) → j < m → e < 4 → ChoiceFits j c → ItemFits n (variant_item j e c)
   variant_fits j e c inside few h =
@@ -125,8 +131,7 @@ module _ (n : Names) (m : ℕ) (codes_are : length n.codes ≡ 4 * m) (modules_a
   group_items_fit : (j : ℕ) (gs : List Group) → GroupsFit j gs → j + length gs ≤ m → AllByRecursion (ItemFits n) (group_items j gs)
   group_items_fit j [] fit room = tt
   group_items_fit j (g ∷ gs) (fit, rest) room =
-      let inside : j < m = omega arith in
-      (
+      let inside : j < m = omega arith in (
         (name_is 83 j refl, omega (arith, fit.rank), code_in j g.adds inside fit.adds, none_fits j inside),
         (
           (name_is 71 j refl, tt, some_fits j inside),
@@ -138,8 +143,7 @@ module _ (n : Names) (m : ℕ) (codes_are : length n.codes ≡ 4 * m) (modules_a
                 alone_fits j 2 0 1 3 inside (omega arith) (omega arith) (omega arith) (omega arith),
                 (
                   alone_fits j 3 0 1 2 inside (omega arith) (omega arith) (omega arith) (omega arith),
-                  bound_fits j g.bound (variants_then j g (group_items (suc j) gs)) inside fit.bound
-                  (
+                  bound_fits j g.bound (variants_then j g (group_items (suc j) gs)) inside fit.bound (
                     (name_is 80 j refl, omega (arith, modules_are)),
                     (
                       variant_fits j 0 g.first inside (omega arith) fit.first,
@@ -205,8 +209,15 @@ lines_of_bound j (Some b) items = omega arith
 lines_of_groups : (j : ℕ) (gs : List Group) → lines_most (group_items j gs) ≤ 1400 * length gs
 lines_of_groups j [] = omega arith
 lines_of_groups j (g ∷ gs) =
-    omega (arith, lines_of_bound j g.bound (variants_then j g (group_items (suc j) gs)), line_of_usage j 0 g.first, line_of_usage j 1 g.second,
-    line_of_usage j 2 g.third, line_of_usage j 3 g.fourth, lines_of_groups (suc j) gs)
+    omega (
+      arith,
+      lines_of_bound j g.bound (variants_then j g (group_items (suc j) gs)),
+      line_of_usage j 0 g.first,
+      line_of_usage j 1 g.second,
+      line_of_usage j 2 g.third,
+      line_of_usage j 3 g.fourth,
+      lines_of_groups (suc j) gs,
+    )
 
 -- ---- so the text reads as the book
 
@@ -216,8 +227,14 @@ is_written n gs c fit = record {
   names = subst AreNames (sym (names_are n gs)) (names_fit n gs c);
   each = items_fit n gs c fit;
   choices = λ place. rw (records_are n gs) (omega (arith, few_variants 0 place 0 gs));
-  size = omega (arith, text_length heading (sample_items n gs) heading_fits (items_fit n gs c fit),
-      lines_of_codes n 0 (a_module (codes "M") ∷ group_items 0 gs), lines_of_groups 0 gs, c.codes, c.few);
+  size = omega (
+    arith,
+    text_length heading (sample_items n gs) heading_fits (items_fit n gs c fit),
+    lines_of_codes n 0 (a_module (codes "M") ∷ group_items 0 gs),
+    lines_of_groups 0 gs,
+    c.codes,
+    c.few,
+  );
 }
 
 pub sample_back : (n : ℕ) (gs : List Group) → Counts n gs → GroupsFit 0 gs → book_of (text_of heading (sample_items n gs)) ≡ Ok (sample_contents n gs)

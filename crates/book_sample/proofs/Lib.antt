@@ -4,3 +4,9 @@ pub mod ByKind
 pub mod Apart
 pub mod Fitting
 pub mod Spelled
+pub mod OneSlice
+pub mod FewQuestions
+pub mod GoodSet
+pub mod SoundSets
+pub mod OrdersFit
+pub mod Whole

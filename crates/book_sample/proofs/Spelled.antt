@@ -1,5 +1,5 @@
 -- The lines of the generated book are those of its records.
-use Rattle.std.proofs.Common.{◌≡◌, ℕ, zero, suc, ◌+◌, ◌*◌, ◌/◌, ◌<◌, ◌≤◌, List, [], ◌∷◌, ◌++◌, Option, None, Some, length, get_or, refl, sym, ap, ◌∙◌, append_assoc, arith}
+use Rattle.std.proofs.Common.{◌≡◌, ℕ, zero, suc, ◌+◌, ◌*◌, ◌<◌, ◌≤◌, List, [], ◌∷◌, ◌++◌, Option, None, Some, length, get_or, refl, sym, ap, ◌∙◌, append_assoc, arith}
 use Rattle.std.specs.Prelude.{codes, map, IfSome}
 use Rattle.std.specs.List.{concat}
 use Rattle.std.specs.Fmt.{decimal}
@@ -8,10 +8,10 @@ use Rattle.book_text.specs.declared.names.Names.{Names}
 use Rattle.written_book.specs.Item.{Item, a_module}
 use Rattle.written_book.specs.Rows.{name_at, heading_row, row_of}
 use Rattle.written_book.specs.Text.{line_of, text_of_rows}
-use Rattle.written_book.specs.Book.{names_of, text_of}
+use Rattle.written_book.specs.Book.{text_of}
 use Rattle.book_sample.specs.Names.{name, names, code_name, place}
-use Rattle.book_sample.specs.Fits.{BoundFits, ChoiceFits, GroupFits, GroupsFit}
-use Rattle.book_sample.specs.Lines.{heading_line, code_line, module_line, supplement_line, some_line, alone_line, bound_line, bound_text, position_line, variant_line, group_text, codes_text, groups_text}
+use Rattle.book_sample.specs.Fits.{BoundFits, ChoiceFits, GroupsFit}
+use Rattle.book_sample.specs.Lines.{heading_line, code_line, module_line, supplement_line, some_line, alone_line, bound_line, bound_text, position_line, variant_line, codes_text, groups_text}
 use Rattle.book_sample.specs.declared.group.Bound.{Bound}
 use Rattle.book_sample.specs.declared.group.Choice.{Choice}
 use Rattle.book_sample.specs.declared.group.Group.{Group}

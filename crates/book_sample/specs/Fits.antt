@@ -1,7 +1,7 @@
 -- What is drawn is in its range.
 --     GroupFits j g       of the group of number j
 --     GroupsFit j gs      of all, of which the first has the number j
-use Rattle.std.specs.Prelude.{ℕ, suc, ◌*◌, ◌<◌, ◌≤◌, List, [], ◌∷◌, Option, IfSome}
+use Rattle.std.specs.Prelude.{ℕ, suc, ◌*◌, ◌<◌, ◌≤◌, List, [], ◌∷◌, IfSome}
 use Rattle.book_sample.specs.declared.group.Bound.{Bound}
 use Rattle.book_sample.specs.declared.group.Choice.{Choice}
 use Rattle.book_sample.specs.declared.group.Group.{Group}

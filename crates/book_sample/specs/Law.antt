@@ -1,7 +1,7 @@
 -- What is known of every generated book, before it is read.
 --     MaySample codes          the numbers of codes that a book may have
 --     GivesBook start codes    the text reads as a book within all limits, which can be released, and each order is one of it
-use Rattle.std.specs.Prelude.{◌≡◌, ℕ, ◌/◌, ◌%◌, ◌≤◌, List, [], ◌∷◌, length, None, Ok}
+use Rattle.std.specs.Prelude.{◌≡◌, ℕ, ◌/◌, ◌%◌, ◌≤◌, [], ◌∷◌, length, None, Ok}
 use Rattle.pb_base.specs.declared.limits.TheConstants.{MOST_QUESTIONS}
 use Rattle.book_model.specs.Contents.{Contents}
 use Rattle.book_model.specs.Slices.{days_from_to, slices_of}

@@ -13,3 +13,5 @@ pub use book::sample_book;
 pub use law::sample_law;
 pub use sampler::Sampler;
 
+#[cfg(test)]
+mod tests;

@@ -157,7 +157,10 @@ fn put_bound(text: &mut Text, number: u32, bound: Option<Bound>) -> Result<(), M
             let id = name(b'Z', number);
             let own = code_of(number, bound.code);
             let other = code_of(bound.group, bound.forbids);
-            put_all(text, &[b"construct,", &id, b",", &own, b",-", &other, b",,\n"])
+            put_all(
+                text,
+                &[b"construct,", &id, b",", &own, b",-", &other, b",,\n"],
+            )
         }
     }
 }
@@ -182,7 +185,15 @@ fn put_variant(text: &mut Text, number: u32, code: u32, choice: Choice) -> Resul
     put_all(
         text,
         &[
-            b"variant,", &id, b",", &position, b",", &part, b",", quantity, b",",
+            b"variant,",
+            &id,
+            b",",
+            &position,
+            b",",
+            &part,
+            b",",
+            quantity,
+            b",",
         ],
     )?;
     put_usage(text, 4 * number + code, choice.other)?;

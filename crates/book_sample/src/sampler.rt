@@ -57,7 +57,11 @@ impl Sampler {
         let day = 1 + draws.draw(1_000);
         let codes = draw_codes(alloc, &mut draws, self.groups)?;
         self.draws = draws;
-        Ok(OrderWords { book: 1, day, codes })
+        Ok(OrderWords {
+            book: 1,
+            day,
+            codes,
+        })
     }
 }
 

@@ -5,7 +5,7 @@ use book_model::Book;
 use book_text::read_book;
 use clause_pool::{Lit, Pool};
 use clausify::Question;
-use findings::{Note, Report};
+use findings::{Ask, Note, Report, check_book};
 use pb_base::CodeSet;
 use std::alloc::Global;
 use std::test::Fail;
@@ -21,8 +21,67 @@ variant,V2,P1,A200,1,M2,,\n\
 position,P2,,mandatory,,\n\
 variant,V3,P2,A300,1,SUN,,";
 
-fn book_of(alloc: Global) -> Result<Book, Fail> {
-    let Ok(book) = read_book(alloc, BOOK) else {
+// examples/van.csv, a van that changes from a diesel engine to an electric one.
+const VAN: &[u8] = b"book,VAN,1,365\n\
+code,D20,diesel 2.0\n\
+code,E80,electric 80 kWh\n\
+code,MT6,six-speed manual\n\
+code,AT8,eight-speed automatic\n\
+code,AWD,all-wheel drive\n\
+code,TOW,towing hitch\n\
+code,ESP,stability control\n\
+construct,ENG,*,D20/E80,,\n\
+construct,ENG1,D20,-E80,,\n\
+construct,GEAR,D20,MT6/AT8,,\n\
+construct,GEAR1,MT6,-AT8,,\n\
+construct,EGEAR,E80,-MT6+-AT8,,\n\
+construct,MAWD,AWD,AT8,,\n\
+construct,MTOW,TOW,AT8+-AWD,,\n\
+construct,DEND,D20,FALSE,301,\n\
+construct,ESTART,E80,FALSE,,310\n\
+supplement,SESP,10,ESP,TRUE,,\n\
+module,DRV,drivetrain\n\
+module,BODY,body\n\
+position,ENGINE,DRV,mandatory,,\n\
+variant,E1,ENGINE,1A000D20,1,D20,,\n\
+variant,E2,ENGINE,1E080,1,E80,311,\n\
+position,GEARBOX,DRV,mandatory,,300\n\
+variant,G1,GEARBOX,2M006,1,MT6,,\n\
+variant,G2,GEARBOX,2A008,1,AT8,,\n\
+variant,G3,GEARBOX,2A008A,1,AWD,,\n\
+position,TANK,DRV,mandatory,,\n\
+variant,T1,TANK,3T070,1,D20,,\n\
+position,HARNESS,BODY,optional,,\n\
+variant,H1,HARNESS,5W001M,1,TOW+MT6,,\n\
+variant,H2,HARNESS,5W001A,1,TOW+AT8,,";
+
+// examples/van.check.txt.
+const VAN_REPORT: &[u8] = b"book VAN 1 365\n\
+slice 1 300\n\
+necessary D20\n\
+inadmissible E80\n\
+necessary ESP\n\
+ambiguous GEARBOX G2 G3 with D20 AT8 AWD ESP\n\
+superfluous H1\n\
+slice 301 310\n\
+void\n\
+slice 311 365\n\
+inadmissible D20\n\
+necessary E80\n\
+inadmissible MT6\n\
+inadmissible AT8\n\
+inadmissible AWD\n\
+inadmissible TOW\n\
+necessary ESP\n\
+superfluous E1\n\
+superfluous T1\n\
+uncovered TANK with E80 ESP\n\
+superfluous H1\n\
+superfluous H2\n\
+end blocked\n";
+
+fn book_of(alloc: Global, text: &[u8]) -> Result<Book, Fail> {
+    let Ok(book) = read_book(alloc, text) else {
         return Err(Fail::from("no book"));
     };
     Ok(book)
@@ -104,7 +163,7 @@ end blocked\n";
 #[test]
 fn each_note_has_its_line(rt: HostRuntime) -> Result<(), Fail> {
     let alloc = rt.alloc();
-    let book = book_of(alloc)?;
+    let book = book_of(alloc, BOOK)?;
     let mut report = Report::new(alloc);
     for number in 0..9u32 {
         report.push(note_of(alloc, number)?)?;
@@ -116,7 +175,7 @@ fn each_note_has_its_line(rt: HostRuntime) -> Result<(), Fail> {
 #[test]
 fn a_question_that_blocks_no_release_may_be_left(rt: HostRuntime) -> Result<(), Fail> {
     let alloc = rt.alloc();
-    let book = book_of(alloc)?;
+    let book = book_of(alloc, BOOK)?;
     let mut report = Report::new(alloc);
     report.push(left(alloc, Question::Superfluous(1))?)?;
     assert_eq!(rt;
@@ -127,6 +186,20 @@ fn a_question_that_blocks_no_release_may_be_left(rt: HostRuntime) -> Result<(), 
     assert_eq!(rt;
         report_text(alloc, &book, &report)?.as_slice(),
         b"book T 1 1000\nundecided superfluous V2 after 2\nundecided void after 2\nend undecided\n".as_slice()
+    );
+    Ok(())
+}
+
+#[test]
+fn a_van_with_each_kind_of_finding(rt: HostRuntime) -> Result<(), Fail> {
+    let alloc = rt.alloc();
+    let book = book_of(alloc, VAN)?;
+    let Ok(checked) = check_book(alloc, &book, 10_000, Ask::All) else {
+        return Err(Fail::from("no report"));
+    };
+    assert_eq!(rt;
+        report_text(alloc, &book, &checked.report)?.as_slice(),
+        VAN_REPORT
     );
     Ok(())
 }
