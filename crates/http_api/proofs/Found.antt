@@ -1,9 +1,9 @@
 -- What a router finds behind a parameter.
-use Rattle.std.proofs.Common.{◌≡◌, ◌≢◌, ℕ, zero, suc, ◌+◌, ◌-◌, ◌<◌, ◌≤◌, List, [], ◌∷◌, ◌++◌, length, drop, Option, Some, None, Bool, true, false, cond, not, nat_eq, ltb, refl, sym, ap, ◌∙◌, arith, ◌==◌, ◌&&◌, length-append, append_assoc, append-nil}
+use Rattle.std.proofs.Common.{◌≡◌, ◌≢◌, ℕ, suc, ◌-◌, List, [], ◌∷◌, ◌++◌, length, Some, Bool, true, false, nat_eq, ltb, refl, sym, ap, ◌∙◌, arith, ◌&&◌, length-append, append-nil}
 use Rattle.std.proofs.lemmas.Bool.Decides.{nat_tests}
 use Rattle.std.specs.List.{ends_with}
 use Rattle.matchit.specs.Rows.{RowsOf}
-use Rattle.matchit.specs.Seek.{own, step, or_else, seek, param_step, has_slash, segment, cuts, longest_suffix, with_suffix}
+use Rattle.matchit.specs.Seek.{own, seek, param_step, has_slash, segment, cuts, longest_suffix, with_suffix}
 use Rattle.http_api.proofs.Seeking.{IsPlain, segment-plain, segment-last, no_slash, behind, step-other, step-param, seek-none, seek-skip}
 
 module _ {K : Type 0} where

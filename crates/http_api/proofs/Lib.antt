@@ -8,6 +8,6 @@ pub mod Ascii
 pub mod Reading
 pub mod Codes
 pub mod Pieces
-pub mod Turned
+pub mod HeadFirst
 pub mod MemoryText
 pub mod Deniable

@@ -1,5 +1,5 @@
 -- The one route of a kind to which a path leads.
-use Rattle.std.proofs.Common.{◌≡◌, ℕ, List, Option, Some, None, sym, subst, ap, ◌∙◌}
+use Rattle.std.proofs.Common.{◌≡◌, ℕ, List, Option, Some, sym, subst, ap, ◌∙◌}
 use Rattle.http_api.specs.declared.route.DraftPage.{DraftPage}
 use Rattle.http_api.specs.declared.route.BookPage.{BookPage}
 use Rattle.http_api.specs.declared.route.Route.{Route}

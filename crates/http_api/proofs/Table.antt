@@ -1,9 +1,8 @@
 -- The routes, and the kind that each path finds.
-use Rattle.std.proofs.Common.{◌≡◌, ◌≢◌, ℕ, ◌+◌, ◌<◌, ◌≤◌, List, [], ◌∷◌, ◌++◌, length, Option, Some, None, Bool, true, false, refl, sym, ap, ◌∙◌, arith, option_map, codes, append-nil}
+use Rattle.std.proofs.Common.{◌≡◌, ℕ, ◌+◌, List, [], ◌∷◌, ◌++◌, length, Some, refl, ap, ◌∙◌, option_map, codes, append-nil}
 use Rattle.matchit.specs.Rows.{RowsOf}
-use Rattle.matchit.specs.Seek.{own, step, seek, longest_suffix, with_suffix}
+use Rattle.matchit.specs.Seek.{seek}
 use Rattle.matchit.specs.Router.{RouteOf}
-use Rattle.http_api.specs.declared.route.Route.{Route}
 use Rattle.http_api.specs.declared.route.Route.TheVariants.{Draft as DraftAt, Book as BookAt, Order as OrderAt}
 use Rattle.http_api.specs.declared.route.Kind.{Kind}
 use Rattle.http_api.specs.declared.route.Kind.TheVariants.{Draft, Book, Order}

@@ -1,6 +1,6 @@
 -- What a message asks the desk for.
 --     call_at route m    the call of a message whose path leads to this route, or why there is none
-use Rattle.std.specs.Prelude.{◌≡◌, ℕ, List, Option, Some, None, Result, Ok, Err}
+use Rattle.std.specs.Prelude.{ℕ, List, Option, Some, None, Result, Ok, Err}
 use Rattle.pb_base.specs.Results.{and_then}
 use Rattle.desk_words.specs.declared.call.Call.{Call}
 use Rattle.http_wire.specs.declared.message.Message.{Message}

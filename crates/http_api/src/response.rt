@@ -13,23 +13,26 @@ use desk_words::Reply;
 use pb_base::{Body, Memory, Text};
 use std::alloc::Global;
 
-// Room for the longest head with the longest line of a body.
+// Room for most lines.
+const LINE_ROOM: usize = 64;
+
+// Room for the longest head with such a line.
 const ROOM: usize = 256;
 
 /// The response of a reply. It says that the connection closes where `close` is true, and leaves the bytes of the body out where `bare` is true.
 pub fn response_of(alloc: Global, reply: &Reply, close: bool, bare: bool) -> Result<Body, Memory>
     ensures { IfOk result (λ body. body ≡ response_of reply.now close bare) }
 {
-    let rest = rest_of(reply);
+    // The head comes first and says how long the body is, so the line is written apart.
+    let mut line = Text::with_room(alloc, LINE_ROOM)?;
+    put_line(&mut line, reply)?;
     let opening = Opening {
         status: Status::of(reply),
         raw: is_raw(reply),
         methods: Methods::Untold,
         close,
     };
-    let mut text = Text::with_room(alloc, ROOM + rest.len())?;
-    put_line(&mut text, reply)?;
-    finish(text, opening, rest, bare)
+    response(alloc, opening, line.bytes(), rest_of(reply), bare)
 }
 
 /// The response of a message that asks for nothing. `path` is the message's target; a wrong method is told the methods of its path.
@@ -106,7 +109,7 @@ fn denied_with(
         methods,
         close,
     };
-    line_response(alloc, opening, denied_line(denied), bare)
+    response(alloc, opening, denied_line(denied), b"", bare)
 }
 
 fn denied_line(denied: Denied) -> &'static [u8]
@@ -131,7 +134,7 @@ pub fn bad_response(alloc: Global, status: u16) -> Result<Body, Memory>
         methods: Methods::Untold,
         close: true,
     };
-    line_response(alloc, opening, bad_line(status), false)
+    response(alloc, opening, bad_line(status), b"", false)
 }
 
 fn bad_line(status: u16) -> &'static [u8]
@@ -176,28 +179,23 @@ fn lasting_memory_response(bare: bool) -> &'static [u8]
     }
 }
 
-// The response whose body is this line.
-fn line_response(alloc: Global, opening: Opening, line: &[u8], bare: bool) -> Result<Body, Memory>
-    ensures { IfOk result (λ body. body ≡ response opening line.now bare) }
+// The response whose body is a line with what stands behind it.
+fn response(
+    alloc: Global,
+    opening: Opening,
+    line: &[u8],
+    rest: &[u8],
+    bare: bool,
+) -> Result<Body, Memory>
+    ensures { IfOk result (λ body. body ≡ response opening (line.now ++ rest.now) bare) }
 {
-    let mut text = Text::with_room(alloc, ROOM)?;
-    text.put(line)?;
-    finish(text, opening, b"", bare)
-}
-
-// The body's line stands in the text already, since the head says how long the body is; so the head is put behind it, and the two change places.
-fn finish(mut text: Text, opening: Opening, rest: &[u8], bare: bool) -> Result<Body, Memory>
-    ensures { IfOk result (λ body. body ≡ response opening (text ++ rest.now) bare) }
-{
-    let line = text.bytes().len();
-    let length = line + rest.len();
+    let length = line.len() + rest.len();
+    let mut text = Text::with_room(alloc, ROOM + rest.len())?;
+    opening.put(&mut text, length)?;
     if bare {
-        text.clear();
-        opening.put(&mut text, length)?;
         return Ok(text.into_body());
     }
-    opening.put(&mut text, length)?;
-    text.rotate_left(line);
+    text.put(line)?;
     text.put(rest)?;
     Ok(text.into_body())
 }

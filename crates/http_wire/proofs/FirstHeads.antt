@@ -1,16 +1,15 @@
 -- A head that is read where it begins is the next of the stream.
-use Rattle.std.proofs.Common.{◌≡◌, ◌≢◌, ◌≤◌, ◌+◌, ◌∙◌, ℕ, Bool, List, [], ◌++◌, length, take, drop, map, refl, sym, ap, subst, arith, inl, inr, append-nil, length-take, length-drop}
-use Rattle.std.specs.Prelude.{Option, Some, None, IfSome, MatchBool}
+use Rattle.std.proofs.Common.{◌≡◌, ◌≢◌, ◌≤◌, ◌+◌, ◌∙◌, ℕ, Bool, List, [], ◌++◌, length, take, drop, refl, sym, ap, subst, arith, inl, inr, append-nil, length-take, length-drop}
+use Rattle.std.specs.Prelude.{Option, Some, None, MatchBool}
 use Rattle.std.proofs.lemmas.Bool.{le-ltb}
 use Rattle.std.proofs.lemmas.List.{length-map, take_at, take-append-le, drop-append-le}
 use Rattle.httparse.specs.Grammar.{RequestHead, print_request, ReadsRequest}
-use Rattle.httparse.specs.Spans.{IsRequestWithin, IsRequestAt, header_bytes, name_and_value}
+use Rattle.httparse.specs.Spans.{IsRequestAt, header_bytes, name_and_value}
 use Rattle.httparse.specs.declared.spans.HeaderSpan.{HeaderSpan}
 use Rattle.httparse.specs.declared.spans.RequestSpans.{RequestSpans}
 use Rattle.http_wire.specs.declared.head.HeadStep.{HeadStep}
 use Rattle.http_wire.specs.declared.head.HeadStep.TheVariants.{Bad}
 use Rattle.http_wire.specs.declared.front.Front.{Front}
-use Rattle.http_wire.specs.declared.front.Front.TheVariants.{Block}
 use Rattle.http_wire.specs.Front.{skipped_bytes, block_length}
 use Rattle.http_wire.specs.FirstHeads.{ReadsHeld}
 use Rattle.http_wire.specs.Items.{behind, ReadsFront, ReadsHead}

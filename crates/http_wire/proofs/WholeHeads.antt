@@ -1,5 +1,5 @@
 -- A head of the grammar is its block: it goes through the first empty line, and has a line for each field.
-use Rattle.std.proofs.Common.{◌≡◌, ◌<◌, ◌≤◌, ◌+◌, ◌∙◌, ◌&&◌, ◌||◌, zero, get_or, ℕ, suc, Bool, true, false, cond, eqb, List, [], ◌∷◌, ◌++◌, length, refl, sym, ap, subst, arith, append-nil, append_assoc, length-append}
+use Rattle.std.proofs.Common.{◌≡◌, ◌<◌, ◌≤◌, ◌+◌, ◌∙◌, ◌&&◌, ◌||◌, zero, get_or, ℕ, suc, Bool, true, false, cond, eqb, List, [], ◌∷◌, ◌++◌, length, refl, sym, ap, arith, append-nil, append_assoc, length-append}
 use Rattle.std.specs.Prelude.{Option, Some, None, All, IsTrue}
 use Rattle.std.specs.Option.{option_or, option_map}
 use Rattle.std.specs.List.{flat_map}
@@ -8,7 +8,7 @@ use Rattle.std.proofs.lemmas.List.Elements.{All-head, All-tail}
 use Rattle.httparse.specs.Grammar.{is_token_byte, is_uri_byte, is_value_byte, AllPass, LineEnd, crlf, lf, print_end, print_blank, print_version, Field, IsField, print_field, print_section, RequestHead, IsRequestHead, print_request, ReadsRequest}
 use Rattle.httparse.proofs.GrammarLemmas.{print_request-append, cons-append}
 use Rattle.httparse.proofs.PieceLemmas.{token_is_no_newline}
-use Rattle.http_wire.specs.Front.{is_line_feed, is_line_byte, skipped_bytes, empty_line, block_length}
+use Rattle.http_wire.specs.Front.{is_line_feed, skipped_bytes, empty_line, block_length}
 use Rattle.http_wire.specs.Reading.{field_lines}
 use Rattle.http_wire.proofs.BlockEnds.{further, further-zero, further-suc}
 use Rattle.http_wire.proofs.LineCounts.{feeds, feeds-append, feeds-cons}

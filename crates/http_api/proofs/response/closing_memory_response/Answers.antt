@@ -1,4 +1,4 @@
-use Rattle.std.proofs.Common.{true, false, sym, ap, ◌∙◌}
+use Rattle.std.proofs.Common.{true, sym, ap, ◌∙◌}
 use Rattle.http_api.proofs.MemoryText.{memory_text, is_memory_response}
 use Rattle.http_api.proofs.response.closing_memory_response.Goals as goal
 

@@ -1,4 +1,4 @@
-use Rattle.std.proofs.Common.{◌≡◌, ◌++◌, ℕ, List, codes, ap, ◌∙◌}
+use Rattle.std.proofs.Common.{◌++◌, ℕ, List, codes, ap, ◌∙◌}
 use Rattle.http_api.specs.Response.{status_line, content_fields, allow_line, close_line}
 use Rattle.http_api.proofs.Pieces.{five_pieces}
 use Rattle.http_api.proofs.opening.Opening.put.Goals as goal
