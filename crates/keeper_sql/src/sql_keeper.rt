@@ -1,0 +1,161 @@
+//! A keeper over a file.
+ghost use Rattle.std.specs.Prelude.{◌≡◌, None};
+ghost use Rattle.keeper.specs.Causes.{HasCause};
+ghost use Rattle.keeper_sql.specs.Answers.{answer_of, count_of};
+
+use crate::{begin, load, migrate, put_book, put_draft, put_order, put_withdrawn};
+use keeper::{BookRow, DraftRow, Keeper, OrderRow, Rows};
+use pb_outside::{FaultCount, OutError};
+use sqlite::{Alter, Connection, Error, ErrorCode, File, FileStore};
+use std::fs;
+use std::io::ErrorKind;
+
+/// Rows in a store over `sqlite`. It holds the connection from `begin` on, counts each refusal that isn't want of memory
+/// as a fault, and tells no rows.
+#[derive(Drop)]
+pub struct SqlKeeper<S: Alter + Drop> {
+    rt: HostRuntime,
+    // The open store, and the name of its log.
+    store: Option<(Connection<S>, String)>,
+    faults: FaultCount,
+}
+
+/// A keeper over a file, which sqlite3 can read while no keeper holds it.
+pub type FileKeeper = SqlKeeper<FileStore<File>>;
+
+/// What a call before `begin` comes to, too.
+const CANNOT_OPEN: Error = Error::SqliteFailure(ErrorCode::CannotOpen);
+
+impl SqlKeeper<FileStore<File>> {
+    /// A keeper that has no store yet, and no fault so far.
+    pub fn new(rt: HostRuntime) -> FileKeeper
+        ensures { (⟦<FileKeeper as Keeper>⟧.failures result).count ≡ 0 }
+    {
+        SqlKeeper {
+            rt,
+            store: None,
+            faults: FaultCount::new(),
+        }
+    }
+
+    /// Ends the store: its log is copied into its file, and taken away. False says that this failed: the rows are then in
+    /// the file and the log beside it, and the next keeper over both has them.
+    pub fn close(self) -> bool {
+        let SqlKeeper {
+            rt,
+            store,
+            faults: _,
+        } = self;
+        let Some((connection, log)) = store else {
+            return true;
+        };
+        match connection.close_files() {
+            Ok(files) => {
+                // As long as the files are held, no other program has begun a log of its own.
+                let is_gone = fs::remove_file(&rt, log.as_str()).is_ok();
+                drop(files);
+                is_gone
+            }
+            Err(_) => false,
+        }
+    }
+}
+
+// Opens the store, or makes it where there is none.
+fn opened(rt: &HostRuntime, name: &str) -> Result<(Connection<FileStore<File>>, String), Error> {
+    let mut connection = Connection::open(rt, name)?;
+    begin(&mut connection)?;
+    let log = log_of(rt, name)?;
+    Ok((connection, log))
+}
+
+// The name of the log, which lies beside the file that a link leads to.
+fn log_of(rt: &HostRuntime, name: &str) -> Result<String, Error> {
+    match fs::canonicalize(rt, name) {
+        Ok(path) => {
+            let mut log = String::from_str(rt.alloc(), path.as_str())?;
+            log.push_str("-wal")?;
+            Ok(log)
+        }
+        Err(error) if error.kind() == ErrorKind::OutOfMemory => {
+            Err(Error::SqliteFailure(ErrorCode::OutOfMemory))
+        }
+        Err(_) => Err(CANNOT_OPEN),
+    }
+}
+
+// What statements came to, with a fault counted where they failed.
+fn counted<T: Drop>(faults: &mut FaultCount, done: Result<T, Error>) -> Result<T, OutError>
+    ensures answer { result ≡ answer_of done }
+    ensures count { HasCause result (count_of faults.old) (count_of faults.new) }
+{
+    match done {
+        Ok(answer) => Ok(answer),
+        Err(Error::SqliteFailure(ErrorCode::OutOfMemory)) => Err(OutError::Memory),
+        Err(_) => faults.fail(),
+    }
+}
+
+impl Keeper for SqlKeeper<FileStore<File>> {
+    ghost told = { λ _. None };
+
+    ghost failures = { λ k. count_of k.faults };
+
+    fn begin(&mut self, name: &str) -> Result<(), OutError> {
+        let store = counted(&mut self.faults, opened(&self.rt, name))?;
+        self.store = Some(store);
+        Ok(())
+    }
+
+    fn load(&mut self) -> Result<Rows, OutError> {
+        let rows = match &mut self.store {
+            Some((connection, _)) => load(self.rt.alloc(), connection),
+            None => Err(CANNOT_OPEN),
+        };
+        counted(&mut self.faults, rows)
+    }
+
+    fn put_draft(&mut self, row: &DraftRow) -> Result<(), OutError> {
+        let done = match &mut self.store {
+            Some((connection, _)) => put_draft(connection, row),
+            None => Err(CANNOT_OPEN),
+        };
+        counted(&mut self.faults, done)
+    }
+
+    fn put_book(&mut self, row: &BookRow) -> Result<(), OutError> {
+        let done = match &mut self.store {
+            Some((connection, _)) => put_book(connection, row),
+            None => Err(CANNOT_OPEN),
+        };
+        counted(&mut self.faults, done)
+    }
+
+    fn put_order(&mut self, row: &OrderRow) -> Result<(), OutError> {
+        let done = match &mut self.store {
+            Some((connection, _)) => put_order(connection, row),
+            None => Err(CANNOT_OPEN),
+        };
+        counted(&mut self.faults, done)
+    }
+
+    fn put_withdrawn(&mut self, number: u64) -> Result<(), OutError> {
+        let done = match &mut self.store {
+            Some((connection, _)) => put_withdrawn(connection, number),
+            None => Err(CANNOT_OPEN),
+        };
+        counted(&mut self.faults, done)
+    }
+
+    fn migrate(&mut self) -> Result<(), OutError> {
+        let done = match &mut self.store {
+            Some((connection, _)) => migrate(connection),
+            None => Err(CANNOT_OPEN),
+        };
+        counted(&mut self.faults, done)
+    }
+
+    fn faults(&self) -> u64 {
+        self.faults.faults()
+    }
+}
