@@ -4,9 +4,11 @@ ghost use Rattle.solver.specs.Solver.{Extends};
 ghost use Rattle.findings.specs.Answering.{SliceFacts, IsAsked, IsOver, IsFound, IsOutcome, inquiry};
 
 use crate::effort::Effort;
-use crate::found::{Found, first_met, found_with};
+use crate::found::found_with;
+use crate::guide::guide;
 use crate::outcome::{Outcome, from_clause, from_set};
 use crate::report::Note;
+use crate::sets::Sets;
 use book_model::{Book, Slice};
 use clausify::Asked;
 use pb_base::Memory;
@@ -14,7 +16,7 @@ use solver::{Answer, Solver};
 use std::alloc::Global;
 
 /// What comes of a question. A set that was found before may answer it; else the solver does, and a set that it finds is
-/// kept for the questions behind it.
+/// kept for the questions behind it. `usages` are the slice's questions of single variants.
 pub(crate) fn answer(
     alloc: Global,
     book: &Book,
@@ -22,31 +24,33 @@ pub(crate) fn answer(
     effort: Effort,
     asked: &Asked,
     solver: &mut Solver,
-    sets: &mut Vec<Found>,
+    sets: &mut Sets,
+    usages: &[Asked],
 ) -> Result<Outcome, Memory>
     requires facts { SliceFacts book.now slice.now }
     requires asked { IsAsked book.now slice.now solver.old.vars asked.now }
     requires over { IsOver book.now slice.now solver.old }
-    requires sets { All (IsFound book.now slice.now) sets.old.items }
+    requires sets { All (IsFound book.now slice.now) sets.old.found.items }
     requires some { 0 < effort.budget }
     requires budget { effort.budget ≤ 50000 }
     ensures extends { Extends solver.old.kernel solver.new.kernel }
     ensures vars { solver.new.vars ≡ solver.old.vars }
     ensures over { IsOver book.now slice.now solver.new }
-    ensures sets { All (IsFound book.now slice.now) sets.new.items }
+    ensures sets { All (IsFound book.now slice.now) sets.new.found.items }
     ensures outcome { IfOk result (IsOutcome (inquiry book.now effort) slice.now
         solver.new.kernel.clauses asked.now) }
 {
-    match first_met(book, slice, sets, asked.question) {
+    match sets.met(book, slice, asked.question) {
         Some(found) => return from_set(alloc, asked.question, found),
         None => {}
     }
+    guide(solver, book, slice, sets, usages, asked.question);
     let searched = solver.solve(asked.goal, effort.budget)?;
     match searched {
         Answer::Set(set) => {
             let found = found_with(alloc, book, set)?;
             let outcome = from_set(alloc, asked.question, &found)?;
-            sets.push(found)?;
+            sets.put(found)?;
             Ok(outcome)
         }
         Answer::Closed(at) => {

@@ -1,13 +1,13 @@
 //! Sets that are good on every day of a slice, and the questions that they answer.
-ghost use Rattle.std.specs.Prelude.{◌≡◌, ◌&&◌, ◌<◌, not, All, IfOk, IfSome, IsTrue, length, map, true};
+ghost use Rattle.std.specs.Prelude.{◌≡◌, ◌&&◌, ◌<◌, not, All, IfOk, IsTrue, length, map};
 ghost use Rattle.std.specs.List.{list_any};
 ghost use Rattle.pb_base.specs.Rule.{codes_below, holds};
 ghost use Rattle.book_model.specs.Parts.{variants_of};
 ghost use Rattle.clausify.specs.Choices.{usage, is_active_variant, active_variants};
 ghost use Rattle.clausify.specs.Questions.{goal, QuestionFits};
-ghost use Rattle.findings.specs.Answering.{IsFound, KnowsUsages};
+ghost use Rattle.findings.specs.Answering.{KnowsUsages};
 
-use book_model::{Book, Slice, Variant, active};
+use book_model::{Book, Variant, active};
 use clausify::Question;
 use pb_base::{CodeSet, Day, Memory};
 use std::alloc::Global;
@@ -102,24 +102,4 @@ fn any_used_on(book: &Book, day: Day, found: &Found, variants: &[u32]) -> bool
     variants
         .iter()
         .any(|variant| is_used_on(book, day, found, *variant))
-}
-
-/// The first of these sets that meets the goal of a question on the first day of the slice.
-pub(crate) fn first_met<'a>(
-    book: &Book,
-    slice: &Slice,
-    sets: &'a [Found],
-    question: Question,
-) -> Option<&'a Found>
-    requires found { All (IsFound book.now slice.now) sets.now }
-    requires fits { QuestionFits book.now question }
-    ensures found { IfSome result (λ f. IsFound book.now slice.now f.now) }
-    ensures met { IfSome result (λ f. holds (goal book.now slice.now.first question) f.now.set ≡ true) }
-{
-    for found in sets {
-        if meets(book, slice.first, found, question) {
-            return Some(found);
-        }
-    }
-    None
 }

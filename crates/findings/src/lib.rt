@@ -6,10 +6,15 @@ mod answer;
 mod check;
 mod effort;
 mod found;
+mod guide;
 mod laws;
 mod outcome;
 mod report;
+mod sets;
 mod slice;
 
 pub use check::{Checked, check_book};
 pub use report::{Ask, Note, Report, Verdict, verdict_of};
+
+#[cfg(test)]
+mod tests;

@@ -14,9 +14,10 @@ ghost use Rattle.findings.specs.Answering.{SliceFacts, IsAsked, IsOver, IsFound,
 
 use crate::answer::answer;
 use crate::effort::{Effort, is_asked};
-use crate::found::{Found, found_with};
+use crate::found::found_with;
 use crate::outcome::Told;
 use crate::report::{Note, is_fault, is_left};
+use crate::sets::Sets;
 use book_model::{Book, Slice};
 use clause_pool::{Kernel, Lit};
 use clausify::{Asked, Question, coded_slice};
@@ -139,8 +140,8 @@ fn check_later(
 {
     let found = found_with(alloc, book, set)?;
     let set = found.set.copy(alloc)?;
-    let mut sets = Vec::new(alloc);
-    sets.push(found)?;
+    let mut sets = Sets::new(alloc, book)?;
+    sets.put(found)?;
     let mut told = ask_later(alloc, book, slice, effort, later, &mut solver, &mut sets)?;
     let mut notes = days_note(alloc, slice)?;
     let stopped = any_stops(&told.notes);
@@ -167,13 +168,13 @@ fn ask_later(
     effort: Effort,
     later: &[Asked],
     solver: &mut Solver,
-    sets: &mut Vec<Found>,
+    sets: &mut Sets,
 ) -> Result<Told, Memory>
     requires facts { SliceFacts book.now slice.now }
     requires asked { All (IsAsked book.now slice.now solver.old.vars) later.now }
     requires count { length later.now + 1 < 2 ^ 32 }
     requires over { IsOver book.now slice.now solver.old }
-    requires sets { All (IsFound book.now slice.now) sets.old.items }
+    requires sets { All (IsFound book.now slice.now) sets.old.found.items }
     requires some { 0 < effort.budget }
     requires budget { effort.budget ≤ 50000 }
     ensures extends { Extends solver.old.kernel solver.new.kernel }
@@ -184,14 +185,26 @@ fn ask_later(
         notes: Vec::new(alloc),
         closed: Vec::new(alloc),
     };
+    let usages = usages_of(alloc, later)?;
     for (place, asked) in later.iter().enumerate() {
         if !is_asked(effort.ask, asked.question) {
             continue;
         }
-        let outcome = answer(alloc, book, slice, effort, asked, solver, sets)?;
+        let outcome = answer(alloc, book, slice, effort, asked, solver, sets, &usages)?;
         told.put(place as u32 + 1, outcome)?;
     }
     Ok(told)
+}
+
+/// The questions of single variants.
+fn usages_of(alloc: Global, asked: &[Asked]) -> Result<Vec<Asked>, Memory> {
+    let mut usages = Vec::new(alloc);
+    for asked in asked {
+        if matches!(asked.question, Question::Superfluous(_)) {
+            usages.push(*asked)?;
+        }
+    }
+    Ok(usages)
 }
 
 /// Whether some note keeps the book from its release.

@@ -68,6 +68,7 @@ fn unfolded(alloc: Global, field: &[u8]) -> Result<Vec<u8>, Fail> {
 }
 
 // What a run leaves: its status, what the sink took, and the log.
+#[derive(Drop)]
 struct Left {
     status: u8,
     text: Vec<u8>,

@@ -82,6 +82,7 @@ impl Solver {
     pub fn prefer(&mut self, lit: Lit)
         ensures { self.new ≡ self.old }
     {
+        take_back(&mut self.engine, &mut self.order);
         self.order.prefer(lit);
     }
 
@@ -129,6 +130,16 @@ impl Solver {
     }
 }
 
+/// Takes all levels back. Each variable keeps its value to try it again.
+fn take_back(engine: &mut Engine, order: &mut Order)
+    ensures level { level engine.new ≡ 0 }
+    ensures clauses { engine.new.clauses ≡ engine.old.clauses }
+    ensures vars { engine.new.vars ≡ engine.old.vars }
+{
+    order.put_back(engine.trail(), engine.end_of(0));
+    engine.back_to(0);
+}
+
 /// Takes all levels back, attaches what is not attached yet, and takes the marks away.
 fn prepare(
     kernel: &Kernel,
@@ -142,8 +153,7 @@ fn prepare(
     ensures ready { OnOk result (IsReady kernel.now.clauses engine.new resolution.new.marks.items) }
     ensures search { OnOk result ((g : ℕ) → IsSearch g engine.new) }
 {
-    order.put_back(engine.trail(), engine.end_of(0));
-    engine.back_to(0);
+    take_back(engine, order);
     clear(&mut resolution.marks);
     attach_rest(engine, kernel.pool())?;
     Ok(())

@@ -1,9 +1,8 @@
-use Rattle.std.proofs.Common.{[], ◌∷◌, ◌++◌, sym, subst, ◌∙◌}
-use Rattle.std.proofs.lemmas.List.Elements.{All-same, All-push}
+use Rattle.std.proofs.Common.{sym, subst, ◌∙◌}
 use Rattle.clause_pool.specs.Derivation.{Derivation, AllFollow}
 use Rattle.solver.specs.Answer.{Begins}
 use Rattle.solver.specs.Solver.{ClosedBy, given_of}
-use Rattle.findings.specs.Answering.{IsFound, IsOutcome, IsOver, inquiry}
+use Rattle.findings.specs.Answering.{IsOutcome, IsOver, inquiry}
 use Rattle.findings.specs.Findings.{MeetsThrough}
 use Rattle.findings.specs.Outcomes.{outcome_of_set}
 use Rattle.findings.proofs.Lifting.{meets_from_first}
@@ -25,27 +24,41 @@ returns-in-Some-clause-outcome c =
     (meets_from_first b s c.requires.asked.number a x c.requires.facts c.requires.asked.is_its found.counted found.good_then c.in-Some.ensures.met))
     c.from_set.ensures
 
-pub returns-in_ok-push-in-Set-clause-sets : goal.returns-in_ok-push-in-Set-clause-sets
-returns-in_ok-push-in-Set-clause-sets c =
+pub returns-in_ok-put-in-Set-clause-sets : goal.returns-in_ok-put-in-Set-clause-sets
+returns-in_ok-put-in-Set-clause-sets c =
     let b = c.args.book.now in
     let s = c.args.slice.now in
     let a = c.args.asked.now in
     let now = c.solve.new.self in
-    let over : IsOver b s now = over_further b s c.args.solver.now now c.requires.over c.solve.ensures.extends c.solve.ensures.codes in
+    let guided : IsOver b s c.guide.new.solver = subst (IsOver b s) (sym c.guide.ensures) c.requires.over in
+    let over : IsOver b s now = over_further b s c.guide.new.solver now guided c.solve.ensures.extends c.solve.ensures.codes in
     let begins : Begins (given_of now.kernel) a.goal now.codes c.in-Set.set = rw c.in-Set.is at c.in_ok-searched.ensures.answer in
     let met = meets_by_solver b s c.requires.asked.number a now c.in-Set.set c.requires.facts c.requires.asked.is_its over begins in
     let found = found_of b s a.question c.in-Set.set c.in_ok-found-in-Set.found c.in_ok-found-in-Set.ensures.set c.in_ok-found-in-Set.ensures.usages (begins.counted ∙ over.codes) met in
-    All-same (IsFound b s) c.push.new.self.items (c.args.sets.now.items ++ c.in_ok-found-in-Set.found ∷ []) c.in_ok-push-in-Set.ensures.items
-    (All-push (IsFound b s) c.args.sets.now.items c.in_ok-found-in-Set.found c.requires.sets found)
+    c.put.ensures b s c.requires.sets found
 
-pub returns-in_ok-push-in-Set-clause-outcome : goal.returns-in_ok-push-in-Set-clause-outcome
-returns-in_ok-push-in-Set-clause-outcome c =
+pub returns-in_err-put-in-Set-clause-sets : goal.returns-in_err-put-in-Set-clause-sets
+returns-in_err-put-in-Set-clause-sets c =
+    let b = c.args.book.now in
+    let s = c.args.slice.now in
+    let a = c.args.asked.now in
+    let now = c.solve.new.self in
+    let guided : IsOver b s c.guide.new.solver = subst (IsOver b s) (sym c.guide.ensures) c.requires.over in
+    let over : IsOver b s now = over_further b s c.guide.new.solver now guided c.solve.ensures.extends c.solve.ensures.codes in
+    let begins : Begins (given_of now.kernel) a.goal now.codes c.in-Set.set = rw c.in-Set.is at c.in_ok-searched.ensures.answer in
+    let met = meets_by_solver b s c.requires.asked.number a now c.in-Set.set c.requires.facts c.requires.asked.is_its over begins in
+    let found = found_of b s a.question c.in-Set.set c.in_ok-found-in-Set.found c.in_ok-found-in-Set.ensures.set c.in_ok-found-in-Set.ensures.usages (begins.counted ∙ over.codes) met in
+    c.put.ensures b s c.requires.sets found
+
+pub returns-in_ok-put-in-Set-clause-outcome : goal.returns-in_ok-put-in-Set-clause-outcome
+returns-in_ok-put-in-Set-clause-outcome c =
     let b = c.args.book.now in
     let s = c.args.slice.now in
     let a = c.args.asked.now in
     let i = inquiry b c.args.effort in
     let now = c.solve.new.self in
-    let over : IsOver b s now = over_further b s c.args.solver.now now c.requires.over c.solve.ensures.extends c.solve.ensures.codes in
+    let guided : IsOver b s c.guide.new.solver = subst (IsOver b s) (sym c.guide.ensures) c.requires.over in
+    let over : IsOver b s now = over_further b s c.guide.new.solver now guided c.solve.ensures.extends c.solve.ensures.codes in
     let begins : Begins (given_of now.kernel) a.goal now.codes c.in-Set.set = rw c.in-Set.is at c.in_ok-searched.ensures.answer in
     let met = meets_by_solver b s c.requires.asked.number a now c.in-Set.set c.requires.facts c.requires.asked.is_its over begins in
     let x = c.in_ok-found-in-Set.found.set in
@@ -60,7 +73,8 @@ returns-in-Closed-clause-outcome c =
     let i = inquiry b c.args.effort in
     let now = c.solve.new.self in
     let place = c.in-Closed.at in
-    let over : IsOver b s now = over_further b s c.args.solver.now now c.requires.over c.solve.ensures.extends c.solve.ensures.codes in
+    let guided : IsOver b s c.guide.new.solver = subst (IsOver b s) (sym c.guide.ensures) c.requires.over in
+    let over : IsOver b s now = over_further b s c.guide.new.solver now guided c.solve.ensures.extends c.solve.ensures.codes in
     let closed : ClosedBy now.kernel a.goal place = rw c.in-Closed.is at c.in_ok-searched.ensures.answer in
     let follow : AllFollow now.kernel = subst (λ (k : Derivation). AllFollow k) c.kernel.ensures c.pool.ensures.follow in
     subst (IsOutcome i s now.kernel.clauses a) (sym c.from_clause.ensures)

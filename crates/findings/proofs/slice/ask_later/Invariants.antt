@@ -9,6 +9,6 @@ invariant-loop-place l = record {
   extends : Extends l.initial.solver.kernel l.solver.kernel;
   over : IsOver l.book l.slice l.solver;
   vars : l.solver.vars ≡ l.initial.solver.vars;
-  sets : All (IsFound l.book l.slice) l.sets.items;
+  sets : All (IsFound l.book l.slice) l.sets.found.items;
   told : AreTold (inquiry l.book l.effort) l.slice (take l.place l.later) l.told l.solver.kernel.clauses;
 }

@@ -1,5 +1,5 @@
-use Rattle.std.proofs.Common.{[], ◌∷◌, ◌++◌, refl, sym, ap, ◌∙◌}
-use Rattle.std.proofs.lemmas.List.Elements.{All-nil, All-push, All-same}
+use Rattle.std.proofs.Common.{[], refl, sym, ap, ◌∙◌}
+use Rattle.std.proofs.lemmas.List.Elements.{All-nil, All-same}
 use Rattle.clausify.specs.declared.question.Question.TheVariants.{Void}
 use Rattle.std.specs.List.{list_any}
 use Rattle.findings.specs.Answering.{IsFound, inquiry, stops}
@@ -12,9 +12,8 @@ ask_later-requires-clause-sets c =
     let b = c.args.book.now in
     let s = c.args.slice.now in
     let f = c.in_ok-found.found in
-    let found = found_of b s Void c.args.set f c.in_ok-found.ensures.set c.in_ok-found.ensures.usages c.requires.counted c.requires.void in
-    All-same (IsFound b s) c.push.new.self.items (c.new-sets.result.items ++ f ∷ []) c.in_ok-push.ensures.items
-    (All-push (IsFound b s) c.new-sets.result.items f (All-same (IsFound b s) c.new-sets.result.items [] c.new-sets.ensures.items (All-nil (IsFound b s))) found)
+    c.put.ensures b s (All-same (IsFound b s) c.in_ok-sets.sets.found.items [] c.in_ok-sets.ensures (All-nil (IsFound b s)))
+    (found_of b s Void c.args.set f c.in_ok-found.ensures.set c.in_ok-found.ensures.usages c.requires.counted c.requires.void)
 
 pub returns-then-stopped : goal.returns-then-stopped
 returns-then-stopped c =
