@@ -60,7 +60,8 @@ fn draw_bound(draws: &mut Draws, number: u32) -> Option<Bound>
     ensures bound { result ≡ bound_at number draws.old }
     ensures state { draws.new ≡ behind_bound number draws.old }
 {
-    if number % 16 != 15 {
+    let rest = number % 16;
+    if rest != 15 {
         return None;
     }
     let code = draws.draw(4);
