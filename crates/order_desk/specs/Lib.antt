@@ -1,0 +1,9 @@
+pub mod Tables
+pub mod Effect
+pub mod Step
+pub mod Judging
+pub mod Fits
+pub mod Valid
+pub mod History
+pub mod Rows
+pub mod RightRows
