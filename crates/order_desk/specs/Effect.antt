@@ -4,11 +4,13 @@
 --                   shows: an answer that copies something of the tables, and changes nothing
 --                   keeps: one write of the keeper, and where it succeeds this answer and these tables
 --     effect t e    what the event e does
-use Rattle.std.specs.Prelude.{ℕ, ◌+◌, ◌==◌, Bool, true, false, ◌&&◌, List, Option, None, Some, length, nat_lt, if◌then◌else◌}
+use Rattle.std.specs.Prelude.{Result, Ok, Err, not, ok_or, ℕ, ◌+◌, ◌==◌, Bool, true, false, ◌&&◌, List, Option, None, Some, length, nat_lt, if◌then◌else◌}
 use Rattle.std.specs.Cmp.Lexicographic.{pointwise}
 use Rattle.pb_base.specs.Names.{same_name}
+use Rattle.pb_base.specs.Results.{and_then}
 use Rattle.release.specs.Release.{Release}
 use Rattle.desk_words.specs.declared.order_words.OrderWords.{OrderWords}
+use Rattle.desk_words.specs.declared.reply.Reply.{Reply}
 use Rattle.desk_words.specs.declared.reply.Reply.TheVariants as reply
 use Rattle.desk_words.specs.declared.reply.Missing.TheVariants as missing
 use Rattle.desk_words.specs.declared.reply.FullOf.TheVariants as full
@@ -26,118 +28,129 @@ pub data Effect : Type 0 where
   shows : Answer → Effect
   keeps : Answer → Tables → Effect
 
--- what is done with a draft, where there is one
-abbrev pub of_draft : Option Draft → (Draft → Effect) → Effect
-of_draft None done = says (answer.Say (reply.NoSuch missing.Draft))
-of_draft (Some draft) done = done draft
+-- goes on with what is there, or says why there is nothing
+abbrev pub go_on : {A : Type 0} → Result A Reply → (A → Effect) → Effect
+go_on (Ok found) done = done found
+go_on (Err said) done = says (answer.Say said)
 
--- what is done with a draft, where it belongs to the caller
-abbrev pub of_owned : Option Draft → List ℕ → (Draft → Effect) → Effect
-of_owned found caller done = of_draft found (λ draft.
-    if same_name draft.owner caller then done draft else says (answer.Say (reply.NotOwner draft.owner)))
+-- ---- drafts
 
--- what is done with a book, where there is one
-abbrev pub of_book : Option KeptBook → (KeptBook → Effect) → Effect
-of_book None done = says (answer.Say (reply.NoSuch missing.Book))
-of_book (Some book) done = done book
+unfoldable pub draft_of : Tables → List ℕ → Result Draft Reply
+draft_of t name = ok_or (draft_at t.drafts name) (reply.NoSuch missing.Draft)
 
-abbrev pub keeps_draft : Tables → List ℕ → Draft → Effect
-keeps_draft t name draft = keeps (answer.Say (reply.Kept name draft.revision)) (with_draft t name draft)
+-- the caller's own draft
+unfoldable pub owned : Tables → List ℕ → List ℕ → Result Draft Reply
+owned t caller name = and_then (draft_of t name) (λ draft.
+    if same_name draft.owner caller then Ok draft else Err (reply.NotOwner draft.owner))
 
--- a new draft has revision 1, and belongs to the caller; the caller's own gets the text and one revision more
-abbrev pub put_over : Option Draft → Tables → List ℕ → List ℕ → List ℕ → Effect
-put_over None t caller name text =
-    if nat_lt (length t.drafts) MOST_DRAFTS then keeps_draft t name (record { owner = caller; revision = 1; text = text })
-    else says (answer.Say (reply.Full full.Drafts))
-put_over (Some old) t caller name text = of_owned (Some old) caller (λ draft.
-    if nat_lt draft.revision MOST_REVISION then keeps_draft t name (record draft { revision = draft.revision + 1; text = text })
-    else says (answer.Say (reply.Full full.Revisions)))
+-- with a new text: a new draft has revision 1, and belongs to the caller; the caller's own has one revision more
+abbrev pub next_of : Option Draft → Tables → List ℕ → List ℕ → Result Draft Reply
+next_of None t caller text =
+    if nat_lt (length t.drafts) MOST_DRAFTS then Ok (record { owner = caller; revision = 1; text = text })
+    else Err (reply.Full full.Drafts)
+next_of (Some old) t caller text =
+    if not (same_name old.owner caller) then Err (reply.NotOwner old.owner)
+    else if nat_lt old.revision MOST_REVISION then Ok (record old { revision = old.revision + 1; text = text })
+    else Err (reply.Full full.Revisions)
+
+unfoldable pub next_draft : Tables → List ℕ → List ℕ → List ℕ → Result Draft Reply
+next_draft t caller name text = next_of (draft_at t.drafts name) t caller text
 
 unfoldable pub put_draft : Tables → List ℕ → List ℕ → List ℕ → Effect
-put_draft t caller name text = put_over (draft_at t.drafts name) t caller name text
+put_draft t caller name text = go_on (next_draft t caller name text) (λ draft.
+    keeps (answer.Say (reply.Kept name draft.revision)) (with_draft t name draft))
 
 unfoldable pub give_draft : Tables → List ℕ → List ℕ → List ℕ → Effect
-give_draft t caller name to = of_owned (draft_at t.drafts name) caller (λ draft.
+give_draft t caller name to = go_on (owned t caller name) (λ draft.
     keeps (answer.Say (reply.Given name to)) (with_draft t name (record draft { owner = to })))
 
 unfoldable pub read_draft : Tables → List ℕ → Effect
-read_draft t name = of_draft (draft_at t.drafts name) (λ draft. shows (answer.Say (reply.Raw draft.text)))
+read_draft t name = go_on (draft_of t name) (λ draft. shows (answer.Say (reply.Raw draft.text)))
 
 unfoldable pub read_owner : Tables → List ℕ → Effect
-read_owner t name = of_draft (draft_at t.drafts name) (λ draft. says (answer.Say (reply.OwnerIs draft.owner draft.revision)))
+read_owner t name = go_on (draft_of t name) (λ draft. says (answer.Say (reply.OwnerIs draft.owner draft.revision)))
 
--- a draft, as it is taken to be checked or released
-abbrev pub taken : Draft → Effect
-taken draft = shows (answer.Draft draft.text draft.revision)
+-- ---- releases
 
--- what is done for a further book: it is not a second one of the same draft and revision, and there is room
-abbrev pub unless_released : Option ℕ → Tables → Effect → Effect
-unless_released (Some number) t done = says (answer.Say (reply.BookIs number false))
-unless_released None t done = if nat_lt (length t.books) MOST_BOOKS then done else says (answer.Say (reply.Full full.Books))
+-- no revision of a draft is released twice, and there is room for one more book
+abbrev pub unless_released : Option ℕ → Tables → Draft → Result Draft Reply
+unless_released (Some number) t draft = Err (reply.BookIs number false)
+unless_released None t draft = if nat_lt (length t.books) MOST_BOOKS then Ok draft else Err (reply.Full full.Books)
 
--- what is done to release a draft at a revision, which must be the one that it has
-abbrev pub to_release : Tables → List ℕ → List ℕ → ℕ → (Draft → Effect) → Effect
-to_release t caller name revision done = of_owned (draft_at t.drafts name) caller (λ draft.
-    if draft.revision == revision then unless_released (released_as t.books name revision) t (done draft)
-    else says (answer.Say (reply.Changed draft.revision)))
+-- the caller's own draft, to be released at the revision that it has
+unfoldable pub to_release : Tables → List ℕ → List ℕ → ℕ → Result Draft Reply
+to_release t caller name revision = and_then (owned t caller name) (λ draft.
+    if draft.revision == revision then unless_released (released_as t.books name revision) t draft
+    else Err (reply.Changed draft.revision))
 
-abbrev pub take_by : Option ℕ → Tables → List ℕ → List ℕ → Effect
-take_by None t caller name = of_owned (draft_at t.drafts name) caller taken
-take_by (Some revision) t caller name = to_release t caller name revision taken
+-- without a revision, to be checked alone
+abbrev pub to_take : Option ℕ → Tables → List ℕ → List ℕ → Result Draft Reply
+to_take None t caller name = owned t caller name
+to_take (Some revision) t caller name = to_release t caller name revision
 
 unfoldable pub take_draft : Tables → List ℕ → List ℕ → Option ℕ → Effect
-take_draft t caller name revision = take_by revision t caller name
+take_draft t caller name revision = go_on (to_take revision t caller name) (λ draft.
+    shows (answer.Draft draft.text draft.revision))
 
 -- the book gets the next number
 unfoldable pub commit : Tables → List ℕ → List ℕ → ℕ → Release → Effect
-commit t caller name revision released = to_release t caller name revision (λ draft.
+commit t caller name revision released = go_on (to_release t caller name revision) (λ draft.
     keeps (answer.Say (reply.BookIs (length t.books + 1) true))
     (with_book t (record { draft = name; revision = revision; released = released; withdrawn = false })))
 
+-- ---- books
+
+unfoldable pub book_of : Tables → ℕ → Result KeptBook Reply
+book_of t number = ok_or (book_at t.books number) (reply.NoSuch missing.Book)
+
 unfoldable pub read_book : Tables → ℕ → Effect
-read_book t number = of_book (book_at t.books number) (λ book. shows (answer.Say (reply.Raw book.released.text)))
+read_book t number = go_on (book_of t number) (λ book. shows (answer.Say (reply.Raw book.released.text)))
 
 unfoldable pub read_cert : Tables → ℕ → Effect
-read_cert t number = of_book (book_at t.books number) (λ book. shows (answer.Say (reply.Cert book.released.cert)))
+read_cert t number = go_on (book_of t number) (λ book. shows (answer.Say (reply.Cert book.released.cert)))
 
 -- the owner is that of the book's draft now
 unfoldable pub withdraw : Tables → List ℕ → ℕ → Effect
-withdraw t caller number = of_book (book_at t.books number) (λ book.
-    of_owned (draft_at t.drafts book.draft) caller (λ draft.
+withdraw t caller number = go_on (book_of t number) (λ book. go_on (owned t caller book.draft) (λ draft.
     if book.withdrawn then says (answer.Say (reply.Withdrawn number))
     else keeps (answer.Say (reply.Withdrawn number)) (with_withdrawn t number book)))
 
+-- ---- orders
+
 -- a kept order, with its own book
-abbrev pub shows_kept : Tables → OrderWords → Effect
-shows_kept t kept = of_book (book_at t.books kept.book) (λ book. shows (answer.Kept kept book.released))
+unfoldable pub shows_kept : Tables → OrderWords → Effect
+shows_kept t kept = go_on (book_of t kept.book) (λ book. shows (answer.Kept kept book.released))
 
 -- two orders say the same: the same book, the same day, the same codes in the same sequence
-abbrev pub same_order : OrderWords → OrderWords → Bool
+unfoldable pub same_order : OrderWords → OrderWords → Bool
 same_order a b = a.book == b.book && a.day == b.day && pointwise same_name a.codes b.codes
 
--- what is done to place an order: its number is free, its book is in force, and there is room
-abbrev pub place_unless : Option OrderWords → Tables → OrderWords → (KeptBook → Effect) → Effect
-place_unless (Some kept) t order done =
+-- a number that is taken is answered by the order that it is kept for
+abbrev pub unless_kept : Option OrderWords → Tables → OrderWords → Effect → Effect
+unless_kept None t order free = free
+unless_kept (Some kept) t order free =
     if same_order kept order then shows_kept t kept else says (answer.Say (reply.NumberUsed kept.book))
-place_unless None t order done = of_book (book_at t.books order.book) (λ book.
-    if book.withdrawn then says (answer.Say (reply.Gone order.book))
-    else if nat_lt (length t.orders) MOST_ORDERS then done book
-    else says (answer.Say (reply.Full full.Orders)))
+
+-- a book that takes one more order: it is in force, and there is room
+unfoldable pub to_place : Tables → OrderWords → Result KeptBook Reply
+to_place t order = and_then (book_of t order.book) (λ book.
+    if book.withdrawn then Err (reply.Gone order.book)
+    else if nat_lt (length t.orders) MOST_ORDERS then Ok book
+    else Err (reply.Full full.Orders))
 
 unfoldable pub look : Tables → List ℕ → ℕ → OrderWords → Effect
-look t caller number order = place_unless (order_at t.orders (key_of caller number)) t order (λ book.
-    shows (answer.Book book.released))
+look t caller number order = unless_kept (order_at t.orders (key_of caller number)) t order
+    (go_on (to_place t order) (λ book. shows (answer.Book book.released)))
 
 unfoldable pub place : Tables → List ℕ → ℕ → OrderWords → Effect
-place t caller number order = place_unless (order_at t.orders (key_of caller number)) t order (λ book.
-    keeps answer.Placed (with_order t (key_of caller number) order))
-
-abbrev pub read_kept : Option OrderWords → Tables → Effect
-read_kept None t = says (answer.Say (reply.NoSuch missing.Order))
-read_kept (Some kept) t = shows_kept t kept
+place t caller number order = unless_kept (order_at t.orders (key_of caller number)) t order
+    (go_on (to_place t order) (λ book. keeps answer.Placed (with_order t (key_of caller number) order)))
 
 unfoldable pub read_order : Tables → List ℕ → ℕ → Effect
-read_order t caller number = read_kept (order_at t.orders (key_of caller number)) t
+read_order t caller number = go_on
+    (ok_or (order_at t.orders (key_of caller number)) (reply.NoSuch missing.Order)) (λ kept. shows_kept t kept)
+
+-- ---- all events
 
 abbrev pub effect : Tables → Event → Effect
 effect t (event.PutDraft caller draft text) = put_draft t caller draft text

@@ -1,6 +1,8 @@
 pub mod Tables
+pub mod StateCode
 pub mod Effect
 pub mod Step
+pub mod Writing
 pub mod Judging
 pub mod Fits
 pub mod Valid

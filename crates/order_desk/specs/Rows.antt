@@ -1,7 +1,8 @@
 -- The rows of what the desk keeps.
 --     rows_of t           the tables, each entry as its row; the form is 2
 --     IsStateOf rows t    the tables are those of the rows, of form 1 or 2, which are right
-use Rattle.std.specs.Prelude.{◌≡◌, ℕ, ◌+◌, List, [], ◌∷◌, map, if◌then◌else◌}
+--     IsDesk t told       the tables are valid, and the rows are theirs, where they are told
+use Rattle.std.specs.Prelude.{Option, IfSome, ◌≡◌, ℕ, ◌+◌, List, [], ◌∷◌, map, if◌then◌else◌}
 use Rattle.std.specs.List.{join_by}
 use Rattle.desk_words.specs.declared.order_words.OrderWords.{OrderWords}
 use Rattle.keeper.specs.Rows.{Kept, migrated}
@@ -62,3 +63,7 @@ rows_of t = record {
 pub record IsStateOf (rows : Kept) (t : Tables) : Type 0 where
   pub told : rows_of t ≡ migrated rows
   pub valid : IsValid t
+
+pub record IsDesk (t : Tables) (told : Option Kept) : Type 0 where
+  pub valid : IsValid t
+  pub kept : IfSome told (λ rows. rows ≡ rows_of t)

@@ -32,6 +32,12 @@ pub record IsNotKept (old : State) (given : Answer) (new : State) : Type 0 where
   pub said : (given ≡ answer.Say reply.Memory) ⊎ IsStoreFault old given new
   pub unchanged : new.tables ≡ old.tables
 
+-- the same of a step that writes nothing
+abbrev pub Shows : Effect → Answer → Type 0
+Shows (says due) given = given ≡ due
+Shows (shows due) given = IsOrMemory due given
+Shows (keeps due tables) given = ⊥
+
 abbrev pub Follows : Effect → State → Answer → State → Type 0
 Follows (says due) old given new = (given ≡ due) × (new ≡ old)
 Follows (shows due) old given new = IsOrMemory due given × (new ≡ old)

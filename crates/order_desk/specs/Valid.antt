@@ -21,7 +21,7 @@ pub record IsDraft (name : List ℕ) (d : Draft) : Type 0 where
 
 -- two books were released of one revision of a draft
 abbrev pub are_of_one : KeptBook → KeptBook → Bool
-are_of_one a b = is_of a.draft a.revision b
+are_of_one a b = is_of b.draft b.revision a
 
 pub record IsValid (t : Tables) : Type 0 where
   pub drafts_in_order : IsStrictlySortedBy by_name (keys_of t.drafts)

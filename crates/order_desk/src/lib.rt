@@ -2,14 +2,18 @@
 #![tactic(auto)]
 
 mod answer;
+mod desk;
 mod draft;
 mod event;
 mod kept_book;
 mod limits;
+mod lookup;
 mod order_key;
 mod shared_book;
+mod writing;
 
 pub use answer::Answer;
+pub use desk::{Desk, DeskCounts, history_laws};
 pub use draft::Draft;
 pub use event::Event;
 pub use kept_book::KeptBook;
