@@ -1,0 +1,10 @@
+pub mod Entries
+pub mod Keys
+pub mod Growth
+pub mod Lasting
+pub mod Validity
+pub mod RowsAfter
+pub mod Following
+pub mod SameOrder
+pub mod Kept
+pub mod Requests

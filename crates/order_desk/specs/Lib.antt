@@ -1,0 +1,11 @@
+pub mod Tables
+pub mod StateCode
+pub mod Effect
+pub mod Step
+pub mod Writing
+pub mod Judging
+pub mod Fits
+pub mod Valid
+pub mod History
+pub mod Rows
+pub mod RightRows

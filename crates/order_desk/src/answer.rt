@@ -1,0 +1,20 @@
+//! What the desk answers to one event.
+
+use crate::shared_book::SharedBook;
+use desk_words::{OrderWords, Reply};
+use pb_base::Body;
+
+/// The answer to one event: what is said to the caller, or what the call needs to go on.
+#[derive(Drop)]
+pub enum Answer {
+    /// The call ends with this reply.
+    Say(Reply),
+    /// A draft's text and its revision.
+    Draft { text: Body, revision: u32 },
+    /// The book that an order is to be judged by.
+    Book(SharedBook),
+    /// A kept order, and the book that it was judged by.
+    Kept { order: OrderWords, book: SharedBook },
+    /// The order is kept now.
+    Placed,
+}

@@ -1,0 +1,70 @@
+//! What happens at the desk.
+
+use crate::shared_book::SharedBook;
+use desk_words::OrderWords;
+use pb_base::{Body, Id};
+
+/// One step that is asked of the desk. Drafts go by name, books by number, counted from 1, and orders by the numbers that their
+/// callers give them.
+#[derive(Drop)]
+pub enum Event {
+    /// Keeps a text as a new draft, or in place of the caller's draft of this name.
+    PutDraft {
+        caller: Id,
+        draft: Id,
+        text: Body,
+    },
+    /// Hands the caller's draft over to another owner.
+    GiveDraft {
+        caller: Id,
+        draft: Id,
+        to: Id,
+    },
+    ReadDraft {
+        draft: Id,
+    },
+    ReadOwner {
+        draft: Id,
+    },
+    /// Asks for the caller's draft, to check or to release it. Where a revision is named, it is to be released: the draft must
+    /// have just this one, which was not released before, and there must be room for a book.
+    TakeDraft {
+        caller: Id,
+        draft: Id,
+        revision: Option<u32>,
+    },
+    /// Keeps the book of the caller's draft at this revision, which was released meanwhile.
+    Commit {
+        caller: Id,
+        draft: Id,
+        revision: u32,
+        released: SharedBook,
+    },
+    ReadBook {
+        book: u32,
+    },
+    ReadCert {
+        book: u32,
+    },
+    /// Takes a book out of force for new orders. The caller owns the book's draft.
+    Withdraw {
+        caller: Id,
+        book: u32,
+    },
+    /// Asks whether an order is kept under this number, and else for the book that it is to be judged by.
+    Look {
+        caller: Id,
+        number: u32,
+        order: OrderWords,
+    },
+    /// Keeps an order that its book accepts.
+    Place {
+        caller: Id,
+        number: u32,
+        order: OrderWords,
+    },
+    ReadOrder {
+        caller: Id,
+        number: u32,
+    },
+}

@@ -1,0 +1,22 @@
+//! The order desk: drafts, released books and kept orders, which change by one event after the other, and the rows that are kept of them.
+#![tactic(auto)]
+
+mod answer;
+mod desk;
+mod draft;
+mod event;
+mod kept_book;
+mod limits;
+mod lookup;
+mod order_key;
+mod shared_book;
+mod writing;
+
+pub use answer::Answer;
+pub use desk::{Desk, DeskCounts, history_laws};
+pub use draft::Draft;
+pub use event::Event;
+pub use kept_book::KeptBook;
+pub use limits::{MOST_BOOKS, MOST_DRAFTS, MOST_ORDER_NUMBER, MOST_ORDERS, MOST_REVISION};
+pub use order_key::OrderKey;
+pub use shared_book::SharedBook;

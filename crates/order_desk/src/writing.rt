@@ -1,0 +1,180 @@
+//! The writes of the keeper. Each makes its room first, then writes one row, and then changes what the desk keeps, which takes no
+//! memory. An error leaves all as it was.
+ghost use Rattle.std.specs.Prelude.{◌≡◌, ◌+◌, ◌-◌, ◌<◌, ◌≤◌, ◌∷◌, ◌++◌, [], IfOk, OnOk, OnErr, Ok, Err, Some, true, length, slice_get, slice_set};
+ghost use Rattle.std.specs.List.{flat_map};
+ghost use Rattle.std.specs.Option.{option_map};
+ghost use Rattle.std.specs.BTreeMap.{insert_entry};
+ghost use Rattle.pb_outside.specs.declared.error.OutError.TheVariants as OutError;
+ghost use Rattle.keeper.specs.Causes.{HasCause};
+ghost use Rattle.keeper.specs.Rows as kept;
+ghost use Rattle.order_desk.specs.Rows.{book_row, draft_row, order_row, codes_text};
+ghost use Rattle.order_desk.specs.Tables.{by_key, by_name};
+ghost use Rattle.order_desk.specs.declared.kept_book.KeptBook.{KeptBook};
+
+use crate::{Draft, KeptBook, OrderKey};
+use desk_words::OrderWords;
+use keeper::{BookRow, DraftRow, Keeper, OrderRow};
+use pb_base::{Body, CodeName, Id, Memory, Text};
+use pb_outside::OutError;
+use std::alloc::Global;
+use std::collections::BTreeMap;
+use std::collections::btree_map::Entry;
+
+/// The bytes as a body of their own.
+pub(crate) fn body_of(alloc: Global, bytes: &[u8]) -> Result<Body, Memory>
+    ensures { IfOk result (λ body. body ≡ bytes.now) }
+{
+    let bytes = Vec::from_slice(alloc, bytes)?;
+    Ok(Body::of(bytes))
+}
+
+/// Keeps a draft under its name.
+pub(crate) fn write_draft<P: Keeper>(
+    alloc: Global,
+    drafts: &mut BTreeMap<Id, Draft>,
+    keeper: &mut P,
+    name: Id,
+    draft: Draft,
+) -> Result<(), OutError>
+    ensures done { OnOk result (drafts.new.entries ≡ insert_entry by_name drafts.old.entries name draft) }
+    ensures told { OnOk result (P.told keeper.new
+        ≡ option_map (kept.with_draft (draft_row (name, draft))) (P.told keeper.old)) }
+    ensures unchanged { OnErr result (drafts.new.entries ≡ drafts.old.entries) }
+    ensures untold { OnErr result (P.told keeper.new ≡ P.told keeper.old) }
+    ensures count { HasCause result (P.failures keeper.old) (P.failures keeper.new) }
+{
+    let row_name = body_of(alloc, name.bytes())?;
+    let row_owner = body_of(alloc, draft.owner.bytes())?;
+    let Draft {
+        owner,
+        revision,
+        text,
+    } = draft;
+    let row = DraftRow {
+        name: row_name,
+        owner: row_owner,
+        revision: u64::from(revision),
+        text,
+    };
+    let entry = drafts.entry(name)?;
+    match keeper.put_draft(&row) {
+        Ok(()) => {
+            let draft = Draft {
+                owner,
+                revision,
+                text: row.text,
+            };
+            entry.insert_entry(draft);
+            Ok(())
+        }
+        Err(error) => match entry {
+            Entry::Vacant(_) => Err(error),
+            Entry::Occupied(_) => Err(error),
+        },
+    }
+}
+
+/// Keeps a book behind the others, under the next number.
+pub(crate) fn write_book<P: Keeper>(
+    alloc: Global,
+    books: &mut Vec<KeptBook>,
+    keeper: &mut P,
+    book: KeptBook,
+) -> Result<(), OutError>
+    ensures done { OnOk result (books.new.items ≡ books.old.items ++ book ∷ []) }
+    ensures told { OnOk result (P.told keeper.new
+        ≡ option_map (kept.with_book (book_row (length books.old.items + 1) book)) (P.told keeper.old)) }
+    ensures unchanged { OnErr result (books.new.items ≡ books.old.items) }
+    ensures untold { OnErr result (P.told keeper.new ≡ P.told keeper.old) }
+    ensures count { HasCause result (P.failures keeper.old) (P.failures keeper.new) }
+{
+    let released = book.released.released();
+    let row = BookRow {
+        number: books.len() as u64 + 1,
+        draft: body_of(alloc, book.draft.bytes())?,
+        revision: u64::from(book.revision),
+        text: body_of(alloc, released.text())?,
+        cert: body_of(alloc, released.cert())?,
+    };
+    books.reserve(1)?;
+    keeper.put_book(&row)?;
+    books.push(book).unwrap();
+    Ok(())
+}
+
+/// Puts the book at a place, counted from 0, out of force.
+pub(crate) fn write_withdrawn<P: Keeper>(
+    books: &mut Vec<KeptBook>,
+    keeper: &mut P,
+    place: usize,
+) -> Result<(), OutError>
+    requires { place < length books.old.items }
+    ensures done { OnOk result ((book : KeptBook) → slice_get books.old.items place ≡ Some book
+        → books.new.items ≡ slice_set books.old.items place (record book { withdrawn = true })) }
+    ensures told { OnOk result (P.told keeper.new ≡ option_map (kept.with_withdrawn (place + 1)) (P.told keeper.old)) }
+    ensures unchanged { OnErr result (books.new.items ≡ books.old.items) }
+    ensures untold { OnErr result (P.told keeper.new ≡ P.told keeper.old) }
+    ensures count { HasCause result (P.failures keeper.old) (P.failures keeper.new) }
+{
+    keeper.put_withdrawn(place as u64 + 1)?;
+    books[place].withdrawn = true;
+    Ok(())
+}
+
+/// Keeps an order under its caller and number.
+pub(crate) fn write_order<P: Keeper>(
+    alloc: Global,
+    orders: &mut BTreeMap<OrderKey, OrderWords>,
+    keeper: &mut P,
+    key: OrderKey,
+    order: OrderWords,
+) -> Result<(), OutError>
+    ensures done { OnOk result (orders.new.entries ≡ insert_entry by_key orders.old.entries key order) }
+    ensures told { OnOk result (P.told keeper.new
+        ≡ option_map (kept.with_order (order_row (key, order))) (P.told keeper.old)) }
+    ensures unchanged { OnErr result (orders.new.entries ≡ orders.old.entries) }
+    ensures untold { OnErr result (P.told keeper.new ≡ P.told keeper.old) }
+    ensures count { HasCause result (P.failures keeper.old) (P.failures keeper.new) }
+{
+    let row = OrderRow {
+        caller: body_of(alloc, key.caller.bytes())?,
+        number: u64::from(key.number),
+        book: u64::from(order.book),
+        day: u64::from(order.day),
+        codes: codes_body(alloc, order.codes.as_slice())?,
+    };
+    let entry = orders.entry(key)?;
+    match keeper.put_order(&row) {
+        Ok(()) => {
+            entry.insert_entry(order);
+            Ok(())
+        }
+        Err(error) => match entry {
+            Entry::Vacant(_) => Err(error),
+            Entry::Occupied(_) => Err(error),
+        },
+    }
+}
+
+// The codes of an order, parted by one space.
+fn codes_body(alloc: Global, codes: &[CodeName]) -> Result<Body, Memory>
+    ensures { IfOk result (λ body. body ≡ codes_text codes.now) }
+{
+    let mut text = Text::new(alloc);
+    if let [first, others @ ..] = codes {
+        text.put(first.bytes())?;
+        put_others(&mut text, others)?;
+    }
+    Ok(text.into_body())
+}
+
+// Puts codes behind a text that ends by one, each after a space.
+fn put_others(text: &mut Text, codes: &[CodeName]) -> Result<(), Memory>
+    ensures { OnOk result (text.new ≡ text.old ++ flat_map (λ code. 32 ∷ code) codes.now) }
+{
+    for code in codes {
+        text.put(b" ")?;
+        text.put(code.bytes())?;
+    }
+    Ok(())
+}
