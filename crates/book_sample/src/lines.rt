@@ -121,7 +121,10 @@ fn put_alone(text: &mut Text, number: u32, code: u32, others: [u32; 3]) -> Resul
     requires first { slice_index others 0 ≤ 3 }
     requires second { slice_index others 1 ≤ 3 }
     requires third { slice_index others 2 ≤ 3 }
-    ensures { OnOk result (text.new ≡ text.old ++ alone_line number code (slice_index others 0) (slice_index others 1) (slice_index others 2)) }
+    ensures { let first = slice_index others 0 in
+        let second = slice_index others 1 in
+        let third = slice_index others 2 in
+        OnOk result (text.new ≡ text.old ++ alone_line number code first second third) }
 {
     let id = name(b'X', 4 * number + code);
     let own = code_of(number, code);

@@ -50,7 +50,8 @@ impl Sampler {
     /// The next order, of book 1. On want of memory none is taken.
     pub fn next_order(&mut self, alloc: Global) -> Result<OrderWords, Memory>
         ensures order { IfOk result (λ order. order ≡ order_at self.old.groups self.old.state) }
-        ensures ok { OnOk result (self.new ≡ record { groups = self.old.groups; state = behind_order self.old.groups self.old.state }) }
+        ensures ok { let behind = behind_order self.old.groups self.old.state in
+            OnOk result (self.new ≡ record { groups = self.old.groups; state = behind }) }
         ensures err { OnErr result (self.new ≡ self.old) }
     {
         let mut draws = self.draws;
