@@ -47,7 +47,7 @@ valid-with_draft t name draft valid form room later = record {
 
 -- ---- a book
 
-all-push : {A : Type 0} (P : A → Type 0) (xs : List A) (x : A) → AllByRecursion P xs → P x → AllByRecursion P (xs ++ x ∷ [])
+pub all-push : {A : Type 0} (P : A → Type 0) (xs : List A) (x : A) → AllByRecursion P xs → P x → AllByRecursion P (xs ++ x ∷ [])
 all-push P [] x all so = (so, tt)
 all-push P (y ∷ xs) x all so = (all.0, all-push P xs x all.1 so)
 
