@@ -68,7 +68,7 @@ put_in_front number n (b ∷ bs) less = by b.withdrawn (put_in_front number (n +
     by true later = ap (λ o. put_by o number n rest (put nat_cmp number rest)) (below number n less)
     by false later = later
 
-withdrawn_rows-set : (n number place : ℕ) (books : List KeptBook) (book : KeptBook) → number ≡ n + place → slice_get books place ≡ Some book
+pub withdrawn_rows-set : (n number place : ℕ) (books : List KeptBook) (book : KeptBook) → number ≡ n + place → slice_get books place ≡ Some book
     → book.withdrawn ≡ false
     → withdrawn_rows n (slice_set books place (record book { withdrawn = true })) ≡ put nat_cmp number (withdrawn_rows n books)
 withdrawn_rows-set n number place [] book at is in_force = cc
@@ -92,7 +92,7 @@ withdrawn_rows-set n number (suc place) (b ∷ bs) book at is in_force =
     by true so = ap (λ l. n ∷ l) so ∙ sym (ap (λ o. put_by o number n rest (put nat_cmp number rest)) (above number n (omega (arith, at))))
     by false so = so
 
-book_rows-set : (n place : ℕ) (books : List KeptBook) (book : KeptBook) → slice_get books place ≡ Some book
+pub book_rows-set : (n place : ℕ) (books : List KeptBook) (book : KeptBook) → slice_get books place ≡ Some book
     → book_rows n (slice_set books place (record book { withdrawn = true })) ≡ book_rows n books
 book_rows-set n place [] book is = refl
 book_rows-set n zero (b ∷ bs) book is = let same : b ≡ book = cc in ap (λ x. book_row n x ∷ book_rows (n + 1) bs) (sym same)

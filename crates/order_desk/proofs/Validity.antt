@@ -97,7 +97,7 @@ valid-with_book t book valid release room none = record {
 abbrev withdrawn_of : KeptBook → KeptBook
 withdrawn_of b = record b { withdrawn = true }
 
-all-set : (P : KeptBook → Type 0) → ((b : KeptBook) → P b → P (withdrawn_of b)) → (books : List KeptBook) (place : ℕ) (book : KeptBook)
+pub all-set : (P : KeptBook → Type 0) → ((b : KeptBook) → P b → P (withdrawn_of b)) → (books : List KeptBook) (place : ℕ) (book : KeptBook)
     → slice_get books place ≡ Some book → AllByRecursion P books → AllByRecursion P (slice_set books place (withdrawn_of book))
 all-set P so [] place book is all = tt
 all-set P so (b ∷ bs) zero book is all = let same : b ≡ book = cc in (so book (subst P same all.0), all.1)

@@ -1,0 +1,137 @@
+//! Orders from their rows.
+ghost use Rattle.std.specs.Prelude.{◌≡◌, ◌+◌, ◌≤◌, [], IfOk, None, Some, map, length, true, false};
+ghost use Rattle.std.specs.List.{All, AllByRecursion, list_all};
+ghost use Rattle.pb_base.specs.Answers.{IfRefused};
+ghost use Rattle.pb_base.specs.Names.{is_code_name};
+ghost use Rattle.release.specs.Release.{IsRelease};
+ghost use Rattle.order_desk.specs.Judging.{accepted_by};
+ghost use Rattle.order_desk.specs.RightRows.{codes_in, first_wrong, is_order_row};
+ghost use Rattle.order_desk.specs.Rows.{book_rows, codes_text, order_row};
+ghost use Rattle.order_desk.specs.Tables.{book_at};
+ghost use Rattle.order_desk.specs.declared.limits.TheConstants.{MOST_BOOKS as most_books};
+
+use crate::lookup::book_at;
+use crate::rising::comes_last;
+use crate::{KeptBook, MOST_ORDER_NUMBER, MOST_ORDERS, OrderKey};
+use desk_words::OrderWords;
+use keeper::OrderRow;
+use pb_base::limits::LAST_DAY;
+use pb_base::{CodeList, CodeName, Fail, Id, Memory};
+use release::{Judged, judge};
+use std::alloc::Global;
+use std::collections::{BTreeMap, VecDeque};
+
+// An order and its key.
+#[derive(Drop)]
+struct KeyedOrder {
+    key: OrderKey,
+    order: OrderWords,
+}
+
+/// The orders of the rows, or the number, from 1, of the first row that isn't right. Each order is judged again by its book.
+pub(crate) fn orders_of(
+    alloc: Global,
+    books: &[KeptBook],
+    rows: Vec<OrderRow>,
+) -> Result<BTreeMap<OrderKey, OrderWords>, Fail<u32>>
+    requires few { length books.now ≤ most_books }
+    requires released { AllByRecursion (λ b. IsRelease b.released) books.now }
+    ensures right { IfOk result (λ orders. first_wrong (is_order_row (book_rows 1 books.now)) [] rows.items ≡ None) }
+    ensures rows { IfOk result (λ orders. map order_row orders.entries ≡ rows.items) }
+    ensures named { IfOk result (λ orders. AllByRecursion (λ e. All (λ code. is_code_name code ≡ true) e.1.codes) orders.entries) }
+    ensures wrong { IfRefused result (λ place. first_wrong (is_order_row (book_rows 1 books.now)) [] rows.items ≡ Some place) }
+{
+    let mut orders = BTreeMap::new(alloc);
+    let mut rest = VecDeque::from_vec(rows);
+    while let Some(row) = rest.pop_front() {
+        match order_from(alloc, books, &orders, &row) {
+            Ok(read) => {
+                orders.insert(read.key, read.order)?;
+            }
+            Err(Fail::Refused(())) => return Err(Fail::Refused(orders.len() as u32 + 1)),
+            Err(Fail::Memory) => return Err(Fail::Memory),
+        }
+    }
+    Ok(orders)
+}
+
+// The order of the row behind these orders, or a refusal where the row isn't right.
+fn order_from(
+    alloc: Global,
+    books: &[KeptBook],
+    orders: &BTreeMap<OrderKey, OrderWords>,
+    row: &OrderRow,
+) -> Result<KeyedOrder, Fail<()>>
+    requires few { length books.now ≤ most_books }
+    requires released { AllByRecursion (λ b. IsRelease b.released) books.now }
+    ensures right { IfOk result (λ read. is_order_row (book_rows 1 books.now) (map order_row orders.now.entries) row.now ≡ true) }
+    ensures row { IfOk result (λ read. order_row (read.key, read.order) ≡ row.now) }
+    ensures named { IfOk result (λ read. All (λ code. is_code_name code ≡ true) read.order.codes) }
+    ensures wrong { IfRefused result (λ none.
+        is_order_row (book_rows 1 books.now) (map order_row orders.now.entries) row.now ≡ false) }
+{
+    if row.number < 1 || row.number > u64::from(MOST_ORDER_NUMBER) || orders.len() >= MOST_ORDERS {
+        return Err(Fail::Refused(()));
+    }
+    if row.day > u64::from(LAST_DAY) || row.book > books.len() as u64 {
+        return Err(Fail::Refused(()));
+    }
+    match Id::of(row.caller.as_slice()) {
+        None => Err(Fail::Refused(())),
+        Some(caller) => {
+            let key = OrderKey {
+                caller,
+                number: row.number as u32,
+            };
+            if !comes_last(orders, &key) {
+                return Err(Fail::Refused(()));
+            }
+            let order = OrderWords {
+                book: row.book as u32,
+                day: row.day as u32,
+                codes: codes_of(alloc, row.codes.as_slice())?,
+            };
+            if !is_accepted(alloc, books, &order)? {
+                return Err(Fail::Refused(()));
+            }
+            Ok(KeyedOrder { key, order })
+        }
+    }
+}
+
+// Whether the book of an order is there and accepts it.
+#[tactic(auto, unfolding(crate::specs::Judging::accepts))]
+fn is_accepted(alloc: Global, books: &[KeptBook], order: &OrderWords) -> Result<bool, Memory>
+    ensures { IfOk result (λ accepted. accepted ≡ accepted_by (book_at books.now order.now.book) order.now) }
+{
+    match book_at(books, order.book) {
+        None => Ok(false),
+        Some(book) => {
+            match judge(alloc, book.released.released(), order.day, order.codes.as_slice()) {
+                Ok(Judged::Accepted { .. }) => Ok(true),
+                Ok(Judged::Refused(_)) => Ok(false),
+                Err(Fail::Refused(_)) => Ok(false),
+                Err(Fail::Memory) => Err(Memory),
+            }
+        }
+    }
+}
+
+// The codes of a row, or a refusal where one is no code's name.
+fn codes_of(alloc: Global, text: &[u8]) -> Result<CodeList, Fail<()>>
+    ensures codes { IfOk result (λ codes. codes ≡ codes_in text.now) }
+    ensures named { IfOk result (λ codes. list_all is_code_name (codes_in text.now) ≡ true) }
+    ensures wrong { IfRefused result (λ none. list_all is_code_name (codes_in text.now) ≡ false) }
+{
+    let mut codes = CodeList::new(alloc);
+    if text.is_empty() {
+        return Ok(codes);
+    }
+    for name in text.split(|b| *b == b' ') {
+        match CodeName::of(name) {
+            Some(code) => codes.push(code)?,
+            None => return Err(Fail::Refused(())),
+        }
+    }
+    Ok(codes)
+}
