@@ -1,5 +1,5 @@
 -- A day on which a released book accepts an order is one that days go up to.
-use Rattle.std.proofs.Common.{◌≡◌, ◌≤◌, ℕ, Bool, true, false, List, [], ◌∷◌, length, Option, Some, None, Result, Ok, Err, refl, sym, ap, subst, arith, if◌then◌else◌}
+use Rattle.std.proofs.Common.{◌≡◌, ◌≤◌, ℕ, Bool, true, false, List, [], ◌∷◌, length, Option, Some, None, Result, Ok, Err, refl, subst, arith, if◌then◌else◌}
 use Rattle.std.specs.Prelude.{nat_le, nat_lt, not, ◌||◌, ◌&&◌}
 use Rattle.std.specs.Option.{option_map}
 use Rattle.std.specs.Str.{is_utf8}
@@ -16,11 +16,10 @@ use Rattle.book_text.specs.Fault.{at_row}
 use Rattle.book_text.specs.Fields.{day_in, field, form_in, in_range, is_width, name_in, term_of}
 use Rattle.book_text.specs.FirstPass.{first_pass}
 use Rattle.book_text.specs.Kind.{kind_of}
-use Rattle.book_text.specs.Records.{Records, book_with}
+use Rattle.book_text.specs.Records.{book_with}
 use Rattle.book_text.specs.Rows.{Row, rows_of}
 use Rattle.book_text.specs.SecondPass.{second_pass}
 use Rattle.book_text.specs.declared.entry.Heading.{Heading}
-use Rattle.book_text.specs.declared.fault.BookKind.{BookKind}
 use Rattle.book_text.specs.declared.fault.BookKind.TheVariants.{BadDays, BadNumber, FieldCount, NotUtf8, TooLarge}
 use Rattle.book_text.specs.declared.fields.Days.{Days}
 use Rattle.book_text.specs.declared.kind.Kind.{Kind}

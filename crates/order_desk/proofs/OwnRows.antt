@@ -1,8 +1,8 @@
 -- The rows of valid tables are right.
-use Rattle.std.proofs.Common.{◌≡◌, ℕ, ◌+◌, ◌-◌, ◌<◌, ◌≤◌, ◌==◌, zero, suc, cond, Bool, true, false, not, ◌&&◌, ◌||◌, List, [], ◌∷◌, ◌++◌, Option, None, Some, length, map, refl, sym, ap, subst, ◌∙◌, arith, append_assoc}
+use Rattle.std.proofs.Common.{◌≡◌, ℕ, ◌+◌, ◌-◌, ◌<◌, ◌≤◌, zero, suc, cond, Bool, true, false, ◌&&◌, List, [], ◌∷◌, ◌++◌, None, Some, length, map, refl, sym, ap, subst, ◌∙◌, arith, append_assoc}
 use Rattle.std.specs.Prelude.{find, is_some, slice_get, nat_le, nat_lt, if◌then◌else◌}
 use Rattle.std.specs.Cmp.Lexicographic.{bytes_decides}
-use Rattle.std.specs.List.{AllByRecursion, IsDistinct, list_all, list_any, position_from}
+use Rattle.std.specs.List.{AllByRecursion, IsDistinct, list_all, position_from}
 use Rattle.std.specs.List.Sorted.{IsStrictlySortedBy}
 use Rattle.std.specs.Map.{keys_of}
 use Rattle.std.specs.Option.{option_map}
@@ -18,17 +18,16 @@ use Rattle.keeper.specs.declared.rows.BookRow.{BookRow}
 use Rattle.keeper.specs.declared.rows.DraftRow.{DraftRow}
 use Rattle.pb_base.specs.Names.{is_code_name, same_name}
 use Rattle.pb_base.specs.declared.limits.TheConstants.{LAST_DAY, MOST_TEXT_BYTES}
-use Rattle.release.specs.Certified.{release_of}
-use Rattle.release.specs.Release.{Release, IsRelease}
+use Rattle.release.specs.Release.{IsRelease}
 use Rattle.order_desk.specs.declared.draft.Draft.{Draft}
 use Rattle.order_desk.specs.declared.kept_book.KeptBook.{KeptBook}
 use Rattle.order_desk.specs.declared.limits.TheConstants.{MOST_BOOKS, MOST_DRAFTS, MOST_ORDERS, MOST_ORDER_NUMBER, MOST_REVISION}
 use Rattle.order_desk.specs.declared.order_key.OrderKey.{OrderKey}
-use Rattle.order_desk.specs.Fits.{IsReleaseOf, IsOrderUnder, IsPlaced}
+use Rattle.order_desk.specs.Fits.{IsReleaseOf, IsPlaced}
 use Rattle.order_desk.specs.Judging.{accepted_by}
-use Rattle.order_desk.specs.RightRows.{codes_in, comes_last, first_bad, first_wrong, has_reached, have_one_revision, is_book_row, is_draft_row, is_order_row, is_under, is_withdrawn_row}
-use Rattle.order_desk.specs.Rows.{book_row, book_rows, codes_text, draft_row, order_row, rows_of, withdrawn_rows}
-use Rattle.order_desk.specs.Tables.{Tables, by_key, by_name, book_at, draft_at, is_of}
+use Rattle.order_desk.specs.RightRows.{comes_last, first_bad, first_wrong, has_reached, is_book_row, is_draft_row, is_order_row, is_withdrawn_row}
+use Rattle.order_desk.specs.Rows.{book_row, book_rows, draft_row, order_row, rows_of, withdrawn_rows}
+use Rattle.order_desk.specs.Tables.{Tables, by_key, by_name, is_of}
 use Rattle.order_desk.specs.Valid.{IsDraft, IsValid, are_of_one}
 use Rattle.order_desk.proofs.BookDays.{accepted_day}
 use Rattle.order_desk.proofs.BookRows.{book_row_is, find_draft, length-book_rows, reached_before, reached_now, released_before}

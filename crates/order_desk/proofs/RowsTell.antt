@@ -1,7 +1,7 @@
 -- Rows tell the tables: valid tables that have the same rows are the same.
-use Rattle.std.proofs.Common.{◌≡◌, ℕ, ◌+◌, ◌<◌, ◌≤◌, Bool, true, false, List, [], ◌∷◌, Option, None, Some, Ok, map, refl, sym, ap, ◌∙◌, arith}
+use Rattle.std.proofs.Common.{◌≡◌, ℕ, ◌+◌, ◌<◌, Bool, true, false, List, [], ◌∷◌, Ok, map, refl, sym, ap, ◌∙◌, arith}
 use Rattle.std.specs.Prelude.{Result, if◌then◌else◌}
-use Rattle.std.specs.List.{All, AllByRecursion}
+use Rattle.std.specs.List.{AllByRecursion}
 use Rattle.desk_words.specs.declared.order_words.OrderWords.{OrderWords}
 use Rattle.book_model.specs.Contents.{Contents}
 use Rattle.book_text.specs.BookText.{book_of}
@@ -9,13 +9,12 @@ use Rattle.book_text.specs.declared.fault.BookFault.{BookFault}
 use Rattle.keeper.specs.Rows.{Kept}
 use Rattle.keeper.specs.declared.rows.DraftRow.{DraftRow}
 use Rattle.keeper.specs.declared.rows.OrderRow.{OrderRow}
-use Rattle.pb_base.specs.Names.{is_code_name}
 use Rattle.release.specs.Release.{Release, IsRelease}
 use Rattle.order_desk.specs.declared.draft.Draft.{Draft}
 use Rattle.order_desk.specs.declared.kept_book.KeptBook.{KeptBook}
 use Rattle.order_desk.specs.declared.order_key.OrderKey.{OrderKey}
 use Rattle.order_desk.specs.RightRows.{codes_in}
-use Rattle.order_desk.specs.Rows.{book_row, book_rows, codes_text, draft_row, order_row, rows_of, withdrawn_rows}
+use Rattle.order_desk.specs.Rows.{book_row, book_rows, draft_row, order_row, rows_of, withdrawn_rows}
 use Rattle.order_desk.specs.Tables.{Tables}
 use Rattle.order_desk.specs.Valid.{IsValid}
 use Rattle.order_desk.proofs.Entries.{weaker}

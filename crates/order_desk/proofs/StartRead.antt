@@ -1,11 +1,9 @@
 -- Tables that were read one after the other, each from rows that are right.
-use Rattle.std.proofs.Common.{◌≡◌, ℕ, ◌≤◌, true, List, [], Bool, Option, None, Some, length, map, refl, sym, ap, subst, ◌∙◌}
+use Rattle.std.proofs.Common.{◌≡◌, ℕ, ◌≤◌, true, List, [], Bool, Option, None, Some, length, map, sym, ap, ◌∙◌}
 use Rattle.std.specs.Prelude.{if◌then◌else◌}
 use Rattle.std.specs.List.{AllByRecursion}
 use Rattle.desk_words.specs.declared.order_words.OrderWords.{OrderWords}
 use Rattle.keeper.specs.Rows.{Kept, migrated}
-use Rattle.keeper.specs.declared.rows.BookRow.{BookRow}
-use Rattle.keeper.specs.declared.rows.DraftRow.{DraftRow}
 use Rattle.pb_base.specs.Answers.{Changes, ForRefusal}
 use Rattle.pb_base.specs.Names.{is_name}
 use Rattle.pb_base.specs.declared.answer.Fail.{Fail}
@@ -20,7 +18,7 @@ use Rattle.order_desk.specs.RightRows.{bad_form, first_bad, first_wrong, is_book
 use Rattle.order_desk.specs.Rows.{book_rows, draft_row, order_row, rows_of, withdrawn_rows}
 use Rattle.order_desk.specs.Tables.{Tables}
 use Rattle.order_desk.specs.Valid.{IsValid}
-use Rattle.order_desk.proofs.StartRows.{BooksAreRight, DraftsAreRight, OrdersAreRight, book_is_bad, draft_is_bad, none_is_bad, order_is_bad, rows_are, withdrawn_is_bad}
+use Rattle.order_desk.proofs.StartRows.{BooksAreRight, DraftsAreRight, OrdersAreRight, book_is_bad, none_is_bad, order_is_bad, rows_are, withdrawn_is_bad}
 use Rattle.order_desk.proofs.StartTables.{AreCodes, books_right, draft_names, drafts_right, tables_right}
 
 pub record DraftsRead (k : Kept) (es : List (List ℕ × Draft)) : Type 0 where

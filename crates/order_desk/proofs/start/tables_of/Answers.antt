@@ -1,9 +1,7 @@
-use Rattle.std.proofs.Common.{◌≡◌, List, [], None, Some, map, sym, ap, subst, ◌∙◌}
+use Rattle.std.proofs.Common.{◌≡◌, [], None, Some, map, sym, ap, subst, ◌∙◌}
 use Rattle.std.specs.List.{AllByRecursion}
-use Rattle.keeper.specs.Rows.{Kept, kept_of}
-use Rattle.keeper.specs.declared.rows.OrderRow.{OrderRow}
+use Rattle.keeper.specs.Rows.{kept_of}
 use Rattle.release.specs.Release.{IsRelease}
-use Rattle.order_desk.specs.declared.draft.Draft.{Draft}
 use Rattle.order_desk.specs.declared.kept_book.KeptBook.{KeptBook}
 use Rattle.order_desk.specs.RightRows.{bad_form, first_wrong, is_book_row, is_draft_row, is_order_row, is_withdrawn_row}
 use Rattle.order_desk.specs.Rows.{book_rows, draft_row}
