@@ -8,3 +8,17 @@ pub mod Following
 pub mod SameOrder
 pub mod Kept
 pub mod Requests
+pub mod Conjunction
+pub mod Reading
+pub mod RisingKeys
+pub mod DraftRows
+pub mod BookRows
+pub mod TableRight
+pub mod OrderRows
+pub mod StartCodes
+pub mod StartTables
+pub mod StartRows
+pub mod BookDays
+pub mod OwnRows
+pub mod RowsTell
+pub mod StartRead

@@ -9,3 +9,4 @@ pub mod Valid
 pub mod History
 pub mod Rows
 pub mod RightRows
+pub mod Start

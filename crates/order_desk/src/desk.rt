@@ -11,12 +11,14 @@ ghost use Rattle.order_desk.specs.Effect.{keeps, says, to_take, commit, give_dra
 ghost use Rattle.order_desk.specs.Fits.{Fits, IsPut, IsPlaced, IsReleaseOf};
 ghost use Rattle.order_desk.specs.History.{Stays, IsLaterDraft, IsLaterBook, Grows, Reaches};
 ghost use Rattle.order_desk.specs.Rows.{rows_of, IsDesk};
+ghost use Rattle.order_desk.specs.Start.{tables_in};
 ghost use Rattle.order_desk.specs.Step.{Follows, IsOrMemory, Shows, Step};
 ghost use Rattle.order_desk.specs.Tables.{State, book_at, draft_at, order_at, key_of, released_as, with_book, with_draft, with_order, with_withdrawn};
 ghost use Rattle.order_desk.specs.Valid.{IsDraft, IsValid};
 ghost use Rattle.order_desk.specs.Writing.{IsAnswered};
 
 use crate::lookup::{book_at, released_as, same_order};
+use crate::start::ReadTables;
 use crate::writing::{body_of, write_book, write_draft, write_order, write_withdrawn};
 use crate::{
     Answer, Draft, Event, KeptBook, MOST_BOOKS, MOST_DRAFTS, MOST_ORDERS, MOST_REVISION, OrderKey,
@@ -129,6 +131,26 @@ fn kept_under(alloc: Global, kept: &OrderWords, book: &SharedBook) -> Answer
 }
 
 impl<P: Keeper> Desk<P> {
+    /// The desk that keeps these tables, of which its keeper keeps the rows.
+    pub(crate) fn of(keeper: P, read: ReadTables) -> Desk<P>
+        requires valid { IsValid (tables_in read) }
+        requires kept { IfSome (P.told keeper) (λ rows. rows ≡ rows_of (tables_in read)) }
+        ensures tables { result.tables ≡ tables_in read }
+        ensures faults { result.faults ≡ P.failures keeper }
+    {
+        let ReadTables {
+            drafts,
+            books,
+            orders,
+        } = read;
+        Desk {
+            keeper,
+            drafts,
+            books,
+            orders,
+        }
+    }
+
     /// How much it keeps.
     pub fn counts(&self) -> DeskCounts
         ensures drafts { result.drafts ≡ length self.now.tables.drafts }

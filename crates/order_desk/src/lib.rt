@@ -2,14 +2,20 @@
 #![tactic(auto)]
 
 mod answer;
+mod book_rows;
 mod desk;
 mod draft;
+mod draft_rows;
 mod event;
 mod kept_book;
 mod limits;
 mod lookup;
 mod order_key;
+mod order_rows;
+mod rising;
 mod shared_book;
+mod start;
+mod withdrawn_rows;
 mod writing;
 
 pub use answer::Answer;
@@ -20,3 +26,4 @@ pub use kept_book::KeptBook;
 pub use limits::{MOST_BOOKS, MOST_DRAFTS, MOST_ORDER_NUMBER, MOST_ORDERS, MOST_REVISION};
 pub use order_key::OrderKey;
 pub use shared_book::SharedBook;
+pub use start::{NotStarted, StartFault, row_laws};
