@@ -1,6 +1,6 @@
 -- Rows of orders as they are read.
 use Rattle.std.proofs.Common.{◌≡◌, ℕ, ◌+◌, ◌-◌, ◌<◌, ◌≤◌, ◌==◌, zero, suc, cond, Bool, true, false, ◌&&◌, List, [], ◌∷◌, ◌++◌, Option, None, Some, length, map, refl, sym, ap, subst, ◌∙◌, arith}
-use Rattle.std.specs.Prelude.{Result, Ok, Err, find, nat_le, nat_lt, slice_get}
+use Rattle.std.specs.Prelude.{Ok, find, nat_le, nat_lt, slice_get}
 use Rattle.std.specs.BTreeMap.{insert_entry}
 use Rattle.std.specs.List.{All, AllByRecursion, join_by, join_with_byte, list_all, slice_split}
 use Rattle.std.specs.Map.{keys_of}
@@ -243,7 +243,7 @@ orders_more books rows es row rest key order are next =
     let rises : list_all (λ other. is_lt (by_key other key)) (keys_of es) ≡ true = sym (order_rises es row key caller number) ∙ says.rises in
     let last : insert_entry by_key es key order ≡ es ++ (key, order) ∷ [] = insert-last by_key_total es key order rises in
     let seen : map order_row (insert_entry by_key es key order) ≡ map order_row es ++ row ∷ [] =
-      ap (map order_row) last ∙ map_push order_row es (key, order) ∙ ap (λ r. map order_row es ++ r ∷ []) next.said in
+    ap (map order_row) last ∙ map_push order_row es (key, order) ∙ ap (λ r. map order_row es ++ r ∷ []) next.said in
     let room : length (map order_row es) < MOST_ORDERS = ltb-true (length (map order_row es)) MOST_ORDERS says.room in
     record {
       read = subst (λ l. IsRead (is_order_row books) rows l rest) (sym seen) (read_more (is_order_row books) rows (map order_row es) row rest are.read next.right);

@@ -1,12 +1,11 @@
 -- Rows of withdrawn books as they are read.
-use Rattle.std.proofs.Common.{◌≡◌, ℕ, ◌+◌, ◌-◌, ◌<◌, ◌≤◌, ◌==◌, zero, suc, Bool, true, false, ◌&&◌, List, [], ◌∷◌, ◌++◌, Option, None, Some, length, drop, refl, sym, ap, subst, ◌∙◌, arith, get_or}
+use Rattle.std.proofs.Common.{◌≡◌, ℕ, ◌+◌, ◌-◌, ◌<◌, ◌≤◌, ◌==◌, zero, suc, Bool, true, false, ◌&&◌, List, [], ◌∷◌, ◌++◌, None, Some, length, drop, refl, sym, ap, subst, ◌∙◌, arith}
 use Rattle.std.specs.Prelude.{nat_le, nat_lt, slice_get, slice_set, if◌then◌else◌}
-use Rattle.std.specs.List.{AllByRecursion, list_all}
+use Rattle.std.specs.List.{AllByRecursion}
 use Rattle.std.specs.Ordering.{is_lt, nat_cmp}
-use Rattle.std.specs.declared.cmp.Ordering.{Ordering}
-use Rattle.std.specs.declared.cmp.Ordering.TheVariants.{Less, Greater}
-use Rattle.std.proofs.lemmas.Bool.{lt-ltb, ltb-true, leb-true}
-use Rattle.std.proofs.lemmas.List.{drop_more, drop_all, length_push}
+use Rattle.std.specs.declared.cmp.Ordering.TheVariants.{Greater}
+use Rattle.std.proofs.lemmas.Bool.{lt-ltb, ltb-true}
+use Rattle.std.proofs.lemmas.List.{drop_all, length_push}
 use Rattle.std.proofs.lemmas.List.Folds.{list_all-append}
 use Rattle.keeper.specs.Put.{put, put_by}
 use Rattle.keeper.specs.declared.rows.BookRow.{BookRow}
@@ -41,7 +40,7 @@ last_more before last number is less = record {
       ap (λ b. b && nat_le 1 n) (list_all-append (λ k. is_lt (nat_cmp k n)) before (number ∷ []))
       ∙ ap (λ b. comes_last nat_cmp before n && (b && true) && nat_le 1 n) (is_below number n)
       ∙ behind (comes_last nat_cmp before n) (nat_lt number n) (nat_le 1 n) (nat_lt last n) (is.above n)
-        (λ h. let more : number < n = ltb-true number n h in lt-ltb last n (omega arith));
+      (λ h. let more : number < n = ltb-true number n h in lt-ltb last n (omega arith));
 }
   where
     behind : (earlier later least past : Bool) → (earlier && least) ≡ past → (later ≡ true → past ≡ true)
@@ -162,7 +161,7 @@ module _ (form : ℕ) (rows : List BookRow) (numbers : List ℕ) (place last : �
       let after : List KeptBook = slice_set books (number - 1) (record book { withdrawn = true }) in
       let right : is_withdrawn_row form rows (withdrawn_rows 1 books) number ≡ true = tests number ∙ grind (arith, is_new, rises, is_one) in
       let out : withdrawn_rows 1 after ≡ withdrawn_rows 1 books ++ number ∷ [] =
-        withdrawn-last books number book (omega arith) is (behind_last (withdrawn_rows 1 books) last number are.rising rises) in
+      withdrawn-last books number book (omega arith) is (behind_last (withdrawn_rows 1 books) last number are.rising rises) in
       let same : book_rows 1 after ≡ rows = book_rows-set 1 (number - 1) books book is ∙ are.kept in
       let as_many : length after ≡ length books = sym (length-book_rows 1 after) ∙ ap length same ∙ length-rows in
       record {

@@ -1,12 +1,12 @@
 //! Orders from their rows.
-ghost use Rattle.std.specs.Prelude.{◌≡◌, ◌+◌, ◌≤◌, [], IfOk, None, Some, map, length, true, false};
+ghost use Rattle.std.specs.Prelude.{◌≡◌, ◌≤◌, [], IfOk, None, Some, map, length, true, false};
 ghost use Rattle.std.specs.List.{All, AllByRecursion, list_all};
 ghost use Rattle.pb_base.specs.Answers.{IfRefused};
 ghost use Rattle.pb_base.specs.Names.{is_code_name};
 ghost use Rattle.release.specs.Release.{IsRelease};
 ghost use Rattle.order_desk.specs.Judging.{accepted_by};
 ghost use Rattle.order_desk.specs.RightRows.{codes_in, first_wrong, is_order_row};
-ghost use Rattle.order_desk.specs.Rows.{book_rows, codes_text, order_row};
+ghost use Rattle.order_desk.specs.Rows.{book_rows, order_row};
 ghost use Rattle.order_desk.specs.Tables.{book_at};
 ghost use Rattle.order_desk.specs.declared.limits.TheConstants.{MOST_BOOKS as most_books};
 
@@ -107,7 +107,12 @@ fn is_accepted(alloc: Global, books: &[KeptBook], order: &OrderWords) -> Result<
     match book_at(books, order.book) {
         None => Ok(false),
         Some(book) => {
-            match judge(alloc, book.released.released(), order.day, order.codes.as_slice()) {
+            match judge(
+                alloc,
+                book.released.released(),
+                order.day,
+                order.codes.as_slice(),
+            ) {
                 Ok(Judged::Accepted { .. }) => Ok(true),
                 Ok(Judged::Refused(_)) => Ok(false),
                 Err(Fail::Refused(_)) => Ok(false),
@@ -123,15 +128,16 @@ fn codes_of(alloc: Global, text: &[u8]) -> Result<CodeList, Fail<()>>
     ensures named { IfOk result (λ codes. list_all is_code_name (codes_in text.now) ≡ true) }
     ensures wrong { IfRefused result (λ none. list_all is_code_name (codes_in text.now) ≡ false) }
 {
-    let mut codes = CodeList::new(alloc);
     if text.is_empty() {
-        return Ok(codes);
+        return Ok(CodeList::new(alloc));
     }
+    let spaces = text.iter().filter(|b| **b == b' ').count();
+    let mut codes = Vec::with_capacity(alloc, spaces + 1)?;
     for name in text.split(|b| *b == b' ') {
         match CodeName::of(name) {
             Some(code) => codes.push(code)?,
             None => return Err(Fail::Refused(())),
         }
     }
-    Ok(codes)
+    Ok(CodeList::of(codes))
 }

@@ -1,7 +1,6 @@
 //! Withdrawn books from their rows.
-ghost use Rattle.std.specs.Prelude.{◌≡◌, ◌+◌, ◌≤◌, [], ◌++◌, IfErr, OnOk, None, Some, length, take, true, false};
+ghost use Rattle.std.specs.Prelude.{◌≡◌, ◌≤◌, [], IfErr, OnOk, None, Some, length};
 ghost use Rattle.std.specs.List.{AllByRecursion};
-ghost use Rattle.pb_base.specs.Answers.{IfRefused};
 ghost use Rattle.release.specs.Release.{IsRelease};
 ghost use Rattle.order_desk.specs.RightRows.{first_wrong, is_withdrawn_row};
 ghost use Rattle.order_desk.specs.Rows.{book_rows, withdrawn_rows};

@@ -1,4 +1,4 @@
-use Rattle.std.proofs.Common.{◌≡◌, ◌==◌, List, ℕ, false, length, sym, ap, ◌∙◌, nat_eq, rules, tests}
+use Rattle.std.proofs.Common.{◌≡◌, ◌==◌, false, length, sym, ap, ◌∙◌, nat_eq, rules, tests}
 use Rattle.std.specs.List.{list_all}
 use Rattle.std.proofs.lemmas.Iterator.Splits.{YieldsList-from_slice_split}
 use Rattle.std.proofs.lemmas.Iterator.Consumers.{YieldsList-at, YieldsList-turn, YieldsList-end}
@@ -20,7 +20,7 @@ returns-clause-codes c =
     let end = YieldsList-end (YieldsList-at c.into_iter-name-iterator.ensures.into_iter_gives (YieldsList-from_slice_split _ (λ b. nat_eq b 32) c.args.text.now c.split-name-items.ensures.rest c.split-name-items.ensures.done c.split-name-items.ensures.closure (λ x b q k. search (rules, tests))))
     c.loop-name.yielded _ c.loop-name.yielded_by _ _ c.in-None.is c.next.ensures.steps in
     let some : (length c.args.text.now == 0) ≡ false = sym c.is_empty.ensures ∙ c.if-is_empty.false in
-    c.loop-name.invariant.taken ∙ end.0 ∙ sym (codes_split c.args.text.now some)
+    c.of-2.ensures ∙ c.loop-name.invariant.taken ∙ end.0 ∙ sym (codes_split c.args.text.now some)
 
 pub returns-clause-named : goal.returns-clause-named
 returns-clause-named c =

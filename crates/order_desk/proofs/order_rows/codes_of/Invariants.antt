@@ -8,6 +8,6 @@ abbrev pub invariant-loop-name : goal.invariant-loop-name
 invariant-loop-name l = record {
   next : (goal.iterator-loop-name).can_next l.name-iterator;
   ends : (goal.iterator-loop-name).is_finite l.name-iterator;
-  taken : l.codes ≡ map (λ n. n.now) l.yielded;
+  taken : l.codes.items ≡ map (λ n. n.now) l.yielded;
   named : list_all is_code_name (map (λ n. n.now) l.yielded) ≡ true;
 }

@@ -1,4 +1,4 @@
-use Rattle.std.proofs.Common.{◌≡◌, List, ℕ, true, length, map, refl, sym, ap, subst, ◌∙◌, arith}
+use Rattle.std.proofs.Common.{◌≡◌, true, length, map, refl, sym, ap, subst, ◌∙◌, arith}
 use Rattle.std.specs.List.{list_all}
 use Rattle.std.proofs.lemmas.Bool.{lt-ltb}
 use Rattle.std.proofs.lemmas.List.{length-map}
@@ -36,7 +36,7 @@ returns-then-not-branch-clause-wrong c =
     let books = c.args.books.now in
     let row = c.args.row.now in
     let codes : c.in_ok-codes_of-in-Some.field-0 ≡ codes_in row.codes =
-      c.in_ok-codes_of-in-Some.ensures.codes ∙ ap codes_in c.as_slice-in-Some.ensures in
+    c.in_ok-codes_of-in-Some.ensures.codes ∙ ap codes_in c.as_slice-in-Some.ensures in
     not_under (book_rows 1 books) (map order_row c.args.orders.now.entries) row
     (accepted_as books row c.in_ok-codes_of-in-Some.field-0 c.requires.released codes
     ∙ sym c.in_ok-is_accepted-in-Some.ensures ∙ c.if-not-branch.true)
@@ -48,7 +48,7 @@ returns-else-not-branch-clause-right c =
     let row = c.args.row.now in
     let caller : row.caller ≡ c.in-Some.caller = sym (c.in-Some.ensures.name.0 ∙ c.as_slice.ensures) in
     let codes : c.in_ok-codes_of-in-Some.field-0 ≡ codes_in row.codes =
-      c.in_ok-codes_of-in-Some.ensures.codes ∙ ap codes_in c.as_slice-in-Some.ensures in
+    c.in_ok-codes_of-in-Some.ensures.codes ∙ ap codes_in c.as_slice-in-Some.ensures in
     order_row_is (book_rows 1 books) (map order_row es) row (record {
       caller = subst (λ n. is_name n ≡ true) c.as_slice.ensures c.in-Some.ensures.name.1;
       least = grind (arith, c.if-row-lt1.false);

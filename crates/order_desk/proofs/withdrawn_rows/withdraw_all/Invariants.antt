@@ -1,4 +1,3 @@
-use Rattle.std.proofs.Common.{length}
 use Rattle.order_desk.specs.Rows.{book_rows}
 use Rattle.order_desk.proofs.WithdrawnRows.{AreOut}
 use Rattle.order_desk.proofs.withdrawn_rows.withdraw_all.Given as goal
