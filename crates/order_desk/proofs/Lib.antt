@@ -8,3 +8,9 @@ pub mod Following
 pub mod SameOrder
 pub mod Kept
 pub mod Requests
+pub mod Conjunction
+pub mod Reading
+pub mod RisingKeys
+pub mod DraftRows
+pub mod BookRows
+pub mod TableRight
