@@ -15,6 +15,7 @@ pub mod DraftRows
 pub mod BookRows
 pub mod TableRight
 pub mod OrderRows
+pub mod WithdrawnRows
 pub mod StartCodes
 pub mod StartTables
 pub mod StartRows

@@ -41,7 +41,7 @@ book_rows-push n m (b ∷ bs) book is =
     ∙ sym (ap (λ o. put_by o (book_row m book) (book_row n b) (book_rows (n + 1) bs) (put keys.by_number (book_row m book) (book_rows (n + 1) bs)))
     (above m n (omega (arith, is))))
 
-withdrawn_rows-push : (n : ℕ) (books : List KeptBook) (book : KeptBook) → book.withdrawn ≡ false
+pub withdrawn_rows-push : (n : ℕ) (books : List KeptBook) (book : KeptBook) → book.withdrawn ≡ false
     → withdrawn_rows n (books ++ book ∷ []) ≡ withdrawn_rows n books
 withdrawn_rows-push n [] book is = ap (λ b. if b then n ∷ [] else []) is
 withdrawn_rows-push n (b ∷ bs) book is =

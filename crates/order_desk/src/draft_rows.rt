@@ -41,7 +41,8 @@ pub(crate) fn drafts_of(alloc: Global, rows: Vec<DraftRow>) -> Result<BTreeMap<I
 // The draft of the row behind these drafts, or None where the row isn't right.
 fn draft_from(drafts: &BTreeMap<Id, Draft>, row: DraftRow) -> Option<NamedDraft>
     ensures { MatchOption result (is_draft_row (map draft_row drafts.now.entries) row ≡ false)
-        (λ read. (is_draft_row (map draft_row drafts.now.entries) row ≡ true) × (draft_row (read.name, read.draft) ≡ row)) }
+        (λ read. (is_draft_row (map draft_row drafts.now.entries) row ≡ true)
+        × (draft_row (read.name, read.draft) ≡ row)) }
 {
     let name = Id::of(row.name.as_slice())?;
     let owner = Id::of(row.owner.as_slice())?;
