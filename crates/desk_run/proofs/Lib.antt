@@ -1,0 +1,4 @@
+mod Faults
+mod Serving
+mod Released
+mod Sure

@@ -1,0 +1,3 @@
+pub mod DeskRun
+pub mod Released
+pub mod Sure

@@ -1,0 +1,95 @@
+//! The run: a desk is started, serves one link, and is finished.
+ghost use Rattle.session.specs.Session.{told};
+ghost use Rattle.desk_run.specs.DeskRun.{IsDeskRun, ServesLink, outside};
+ghost use Rattle.desk_run.specs.Released.{HasReleasedBooks};
+ghost use Rattle.desk_run.specs.Sure.{IsDoneOrMemory, IsOrderly, IsSure, IsUnfailing};
+
+use crate::end::{DeskEnd, DeskRun};
+use crate::halves::Halves;
+use answering::Alone;
+use keeper::Keeper;
+use order_desk::{Desk, NotStarted};
+use pb_gate::Gate;
+use pb_outside::{Sink, Source};
+use session::{SessionEnd, session};
+use std::alloc::Global;
+
+/// How many steps of its desk one run makes at most. Then each further call is answered that the calls are used up.
+pub const MOST_STEPS: u64 = 1_000_000;
+
+/// Starts the desk whose rows are kept in the store of this name, answers the messages of the source over the sink, and gives
+/// the keeper back with the rows of the desk as it is then.
+pub fn run_desk<S: Source, K: Sink, P: Keeper, G: Gate>(
+    alloc: Global,
+    store: &str,
+    source: &mut S,
+    sink: &mut K,
+    keeper: P,
+    gate: &G,
+) -> DeskRun<P>
+    ensures runs { let link = told (S.input source.old) (K.output sink.old) in
+        let link' = told (S.input source.new) (K.output sink.new) in
+        let before = outside link (P.told keeper) (P.failures keeper) in
+        let after = outside link' (P.told result.keeper) (P.failures result.keeper) in
+        IsDeskRun result.how before after }
+    ensures released { HasReleasedBooks result.how (P.told result.keeper) }
+    // Where no call fails from here on, right rows and a stream of whole messages are served to the end, memory allowing.
+    ensures complete { let link = told (S.input source.old) (K.output sink.old) in
+        let before = outside link (P.told keeper) (P.failures keeper) in
+        IsSure before → IsDoneOrMemory result.how }
+    // The same where no count rose.
+    ensures unfailing { let link = told (S.input source.old) (K.output sink.old) in
+        let link' = told (S.input source.new) (K.output sink.new) in
+        let before = outside link (P.told keeper) (P.failures keeper) in
+        let after = outside link' (P.told result.keeper) (P.failures result.keeper) in
+        IsOrderly before → IsUnfailing before after → IsDoneOrMemory result.how }
+{
+    start_and_serve(alloc, store, source, sink, keeper, gate)
+}
+
+fn start_and_serve<S: Source, K: Sink, P: Keeper, G: Gate>(
+    alloc: Global,
+    store: &str,
+    source: &mut S,
+    sink: &mut K,
+    keeper: P,
+    gate: &G,
+) -> DeskRun<P>
+    ensures { let link = told (S.input source.old) (K.output sink.old) in
+        let link' = told (S.input source.new) (K.output sink.new) in
+        let before = outside link (P.told keeper) (P.failures keeper) in
+        let after = outside link' (P.told result.keeper) (P.failures result.keeper) in
+        IsDeskRun result.how before after }
+{
+    match Desk::start(alloc, keeper, store) {
+        Ok(desk) => {
+            let (end, keeper) = serve(alloc, desk, source, sink, gate);
+            DeskRun {
+                how: DeskEnd::Served(end),
+                keeper,
+            }
+        }
+        Err(NotStarted { why, keeper }) => DeskRun {
+            how: DeskEnd::NotStarted(why),
+            keeper,
+        },
+    }
+}
+
+// Serves one link by a desk, and finishes the desk.
+fn serve<S: Source, K: Sink, P: Keeper, G: Gate>(
+    alloc: Global,
+    desk: Desk<P>,
+    source: &mut S,
+    sink: &mut K,
+    gate: &G,
+) -> (SessionEnd, P)
+    ensures { let link = told (S.input source.old) (K.output sink.old) in
+        let link' = told (S.input source.new) (K.output sink.new) in
+        let after = outside link' (P.told result.1) (P.failures result.1) in
+        ServesLink desk result.0 link after }
+{
+    let mut turns = Alone::new(desk, MOST_STEPS);
+    let end = session(alloc, &mut Halves::new(source, sink), &mut turns, gate);
+    (end, turns.into_desk().finish())
+}
