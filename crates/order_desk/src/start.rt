@@ -58,12 +58,14 @@ impl<P: Keeper> Desk<P> {
     /// Begins the keeper, loads its rows, tests them, and has them migrated where their form is 1. Each certificate is checked
     /// and each order judged again. A row that isn't right leaves the keeper begun and not migrated.
     pub fn start(alloc: Global, keeper: P, name: &str) -> Result<Desk<P>, NotStarted<P>>
-        ensures rows { IfOk result (λ desk. IfSome (P.told keeper) (λ rows. rows_of desk.tables ≡ migrated (begun rows))) }
+        ensures rows { IfOk result (λ desk. IfSome (P.told keeper)
+            (λ rows. rows_of desk.tables ≡ migrated (begun rows))) }
         ensures right { IfOk result (λ desk. IfSome (P.told keeper) (λ rows. first_bad (begun rows) ≡ None)) }
         ensures valid { IfOk result (λ desk. IsValid desk.tables) }
         ensures count { IfOk result (λ desk. desk.faults.count ≡ (P.failures keeper).count) }
         ensures later { IfOk result (λ desk. IsLater (P.failures keeper) desk.faults) }
-        ensures cause { IfErr result (λ n. IsCause (P.told keeper) (P.failures keeper) (P.failures n.keeper) n.why) }
+        ensures cause { IfErr result (λ n.
+            IsCause (P.told keeper) (P.failures keeper) (P.failures n.keeper) n.why) }
         ensures left { IfErr result (λ n. IsLeft (P.told keeper) (P.told n.keeper) n.why) }
         ensures later_count { IfErr result (λ n. IsLater (P.failures keeper) (P.failures n.keeper)) }
     {
@@ -81,12 +83,15 @@ fn read_from<P: Keeper>(
     keeper: &mut P,
     name: &str,
 ) -> Result<ReadTables, Fail<StartFault>>
-    ensures rows { IfOk result (λ read. IfSome (P.told keeper.old) (λ rows. rows_of (tables_in read) ≡ migrated (begun rows))) }
+    ensures rows { IfOk result (λ read. IfSome (P.told keeper.old)
+        (λ rows. rows_of (tables_in read) ≡ migrated (begun rows))) }
     ensures right { IfOk result (λ read. IfSome (P.told keeper.old) (λ rows. first_bad (begun rows) ≡ None)) }
     ensures valid { IfOk result (λ read. IsValid (tables_in read)) }
-    ensures told { OnOk result (P.told keeper.new ≡ option_map migrated (option_map begun (P.told keeper.old))) }
+    ensures told { OnOk result
+        (P.told keeper.new ≡ option_map migrated (option_map begun (P.told keeper.old))) }
     ensures count { OnOk result ((P.failures keeper.new).count ≡ (P.failures keeper.old).count) }
-    ensures cause { IfErr result (λ why. IsCause (P.told keeper.old) (P.failures keeper.old) (P.failures keeper.new) why) }
+    ensures cause { IfErr result (λ why.
+        IsCause (P.told keeper.old) (P.failures keeper.old) (P.failures keeper.new) why) }
     ensures left { IfErr result (λ why. IsLeft (P.told keeper.old) (P.told keeper.new) why) }
     ensures later { IsLater (P.failures keeper.old) (P.failures keeper.new) }
 {
@@ -113,7 +118,8 @@ fn read_from<P: Keeper>(
 fn load_from<P: Keeper>(keeper: &mut P, name: &str) -> Result<Rows, OutError>
     ensures rows { IfOk result (λ rows. IfSome (P.told keeper.old) (λ kept. kept_of rows ≡ begun kept)) }
     ensures told { OnOk result (P.told keeper.new ≡ option_map begun (P.told keeper.old)) }
-    ensures left { (P.told keeper.new ≡ P.told keeper.old) ⊎ (P.told keeper.new ≡ option_map begun (P.told keeper.old)) }
+    ensures left { (P.told keeper.new ≡ P.told keeper.old)
+        ⊎ (P.told keeper.new ≡ option_map begun (P.told keeper.old)) }
     ensures count { HasCause result (P.failures keeper.old) (P.failures keeper.new) }
 {
     keeper.begin(name)?;
