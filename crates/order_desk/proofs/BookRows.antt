@@ -1,6 +1,6 @@
 -- Rows of books as they are read.
-use Rattle.std.proofs.Common.{◌≡◌, ℕ, ◌+◌, ◌<◌, ◌≤◌, ◌==◌, suc, cond, Bool, true, false, ◌&&◌, ◌||◌, not, List, [], ◌∷◌, ◌++◌, Option, None, Some, length, map, refl, sym, ap, subst, ◌∙◌, arith, nat_eq}
-use Rattle.std.specs.Prelude.{Result, Ok, Err, find, is_some, nat_lt}
+use Rattle.std.proofs.Common.{◌≡◌, ℕ, ◌+◌, ◌<◌, ◌≤◌, ◌==◌, suc, cond, Bool, true, false, ◌&&◌, ◌||◌, not, List, [], ◌∷◌, ◌++◌, Option, None, Some, length, map, refl, sym, ap, subst, ◌∙◌, arith}
+use Rattle.std.specs.Prelude.{find, is_some, nat_lt}
 use Rattle.std.specs.BTreeMap.{is_at}
 use Rattle.std.specs.Cmp.{nat_eq_equiv}
 use Rattle.std.specs.Cmp.Lexicographic.{bytes_decides, nat_list_eq_equiv, texts_ties}
@@ -13,13 +13,13 @@ use Rattle.keeper.specs.declared.rows.BookRow.{BookRow}
 use Rattle.keeper.specs.declared.rows.DraftRow.{DraftRow}
 use Rattle.pb_base.specs.Names.{is_name, same_name}
 use Rattle.release.specs.Certified.{release_of}
-use Rattle.release.specs.Release.{Release, IsRelease}
+use Rattle.release.specs.Release.{IsRelease}
 use Rattle.order_desk.specs.declared.draft.Draft.{Draft}
 use Rattle.order_desk.specs.declared.kept_book.KeptBook.{KeptBook}
 use Rattle.order_desk.specs.declared.limits.TheConstants.{MOST_BOOKS}
 use Rattle.order_desk.specs.RightRows.{first_wrong, has_reached, have_one_revision, is_book_row}
 use Rattle.order_desk.specs.Rows.{book_row, book_rows, draft_row, withdrawn_rows}
-use Rattle.order_desk.specs.Tables.{by_name, draft_at, is_of, released_as}
+use Rattle.order_desk.specs.Tables.{by_name, draft_at, is_of}
 use Rattle.order_desk.proofs.Conjunction.{left_of, right_of, not_left, not_right}
 use Rattle.order_desk.proofs.Reading.{IsRead, read_more, read_none, read_wrong}
 use Rattle.order_desk.proofs.RowsAfter.{withdrawn_rows-push}

@@ -1,8 +1,7 @@
-use Rattle.std.proofs.Common.{◌≡◌, ◌+◌, ℕ, List, Bool, true, false, map, length, sym, ap, subst, ◌∙◌, arith}
+use Rattle.std.proofs.Common.{◌≡◌, List, false, map, sym, ap, subst, ◌∙◌}
 use Rattle.std.specs.Prelude.{is_some}
 use Rattle.std.specs.Result.{is_ok}
 use Rattle.pb_base.specs.Names.{is_name}
-use Rattle.keeper.specs.declared.rows.BookRow.{BookRow}
 use Rattle.keeper.specs.declared.rows.DraftRow.{DraftRow}
 use Rattle.order_desk.specs.RightRows.{has_reached}
 use Rattle.order_desk.specs.Rows.{book_rows, draft_row}
