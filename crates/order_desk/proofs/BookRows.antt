@@ -40,12 +40,16 @@ book_row_is drafts before row is = grind (arith, is.next, is.room, is.reached, i
 module _ (drafts : List DraftRow) (before : List BookRow) (row : BookRow) where
   abbrev n : Bool
   n = row.number == length before + 1
+
   abbrev f : Bool
   f = nat_lt (length before) MOST_BOOKS
+
   abbrev r : Bool
   r = has_reached (find (λ draft. same_name draft.name row.draft) drafts) row
+
   abbrev d : Bool
   d = not (list_any (have_one_revision row) before)
+
   abbrev o : Bool
   o = is_ok (release_of row.text row.cert)
 
@@ -130,6 +134,7 @@ released_before row draft revision named at n (b ∷ bs) =
         ∙ ap (λ k. same_name draft b.draft && k == b.revision) at
         ∙ ap (λ x. x && revision == b.revision) (nat_list_eq_equiv.symm draft b.draft)
         ∙ ap (λ x. same_name b.draft draft && x) (nat_eq_equiv.symm revision b.revision)
+
     by : (x : Bool) → list_any (have_one_revision row) (book_rows (n + 1) bs) ≡ is_some (position_from (is_of draft revision) (n + 1) bs)
         → (x || list_any (have_one_revision row) (book_rows (n + 1) bs)) ≡ is_some (cond x (Some n) (position_from (is_of draft revision) (n + 1) bs))
     by true later = refl
@@ -185,7 +190,7 @@ pub books_more : (drafts : List DraftRow) (rows : List BookRow) (books : List Ke
 books_more drafts rows books row rest book are is =
     let room : length (book_rows 1 books) < MOST_BOOKS = ltb-true (length (book_rows 1 books)) MOST_BOOKS (right_row_has_room drafts (book_rows 1 books) row is.right) in
     let seen : book_rows 1 (books ++ book ∷ []) ≡ book_rows 1 books ++ row ∷ [] =
-      book_rows-append 1 books book ∙ ap (λ r. book_rows 1 books ++ r ∷ []) is.row_is in
+    book_rows-append 1 books book ∙ ap (λ r. book_rows 1 books ++ r ∷ []) is.row_is in
     record {
       read = subst (λ l. IsRead (is_book_row drafts) rows l rest) (sym seen)
           (read_more (is_book_row drafts) rows (book_rows 1 books) row rest are.read is.right);

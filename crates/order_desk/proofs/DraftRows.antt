@@ -89,7 +89,7 @@ drafts_more rows es row rest name draft are is row_is =
     let rises : list_all (λ other. is_lt (by_name other name)) (keys_of es) ≡ true = sym (draft_rises es row name named) ∙ says.rises in
     let last : insert_entry by_name es name draft ≡ es ++ (name, draft) ∷ [] = insert-last by_name_total es name draft rises in
     let seen : map draft_row (insert_entry by_name es name draft) ≡ map draft_row es ++ row ∷ [] =
-      ap (map draft_row) last ∙ map-append draft_row es ((name, draft) ∷ []) ∙ ap (λ r. map draft_row es ++ r ∷ []) row_is in
+    ap (map draft_row) last ∙ map-append draft_row es ((name, draft) ∷ []) ∙ ap (λ r. map draft_row es ++ r ∷ []) row_is in
     let room : length (map draft_row es) < MOST_DRAFTS = ltb-true (length (map draft_row es)) MOST_DRAFTS says.room in
     record {
       read = subst (λ l. IsRead is_draft_row rows l rest) (sym seen) (read_more is_draft_row rows (map draft_row es) row rest are.read is);
