@@ -1,6 +1,6 @@
 -- Rows of books as they are read.
-use Rattle.std.proofs.Common.{◌≡◌, ℕ, ◌+◌, ◌<◌, ◌≤◌, ◌==◌, suc, cond, Bool, true, false, ◌&&◌, ◌||◌, not, List, [], ◌∷◌, ◌++◌, Option, None, Some, length, map, refl, sym, ap, subst, ◌∙◌, arith, nat_eq}
-use Rattle.std.specs.Prelude.{Result, Ok, Err, find, is_some, nat_lt}
+use Rattle.std.proofs.Common.{◌≡◌, ℕ, ◌+◌, ◌<◌, ◌≤◌, ◌==◌, suc, cond, Bool, true, false, ◌&&◌, ◌||◌, not, List, [], ◌∷◌, ◌++◌, Option, None, Some, length, map, refl, sym, ap, subst, ◌∙◌, arith}
+use Rattle.std.specs.Prelude.{find, is_some, nat_lt}
 use Rattle.std.specs.BTreeMap.{is_at}
 use Rattle.std.specs.Cmp.{nat_eq_equiv}
 use Rattle.std.specs.Cmp.Lexicographic.{bytes_decides, nat_list_eq_equiv, texts_ties}
@@ -13,13 +13,13 @@ use Rattle.keeper.specs.declared.rows.BookRow.{BookRow}
 use Rattle.keeper.specs.declared.rows.DraftRow.{DraftRow}
 use Rattle.pb_base.specs.Names.{is_name, same_name}
 use Rattle.release.specs.Certified.{release_of}
-use Rattle.release.specs.Release.{Release, IsRelease}
+use Rattle.release.specs.Release.{IsRelease}
 use Rattle.order_desk.specs.declared.draft.Draft.{Draft}
 use Rattle.order_desk.specs.declared.kept_book.KeptBook.{KeptBook}
 use Rattle.order_desk.specs.declared.limits.TheConstants.{MOST_BOOKS}
 use Rattle.order_desk.specs.RightRows.{first_wrong, has_reached, have_one_revision, is_book_row}
 use Rattle.order_desk.specs.Rows.{book_row, book_rows, draft_row, withdrawn_rows}
-use Rattle.order_desk.specs.Tables.{by_name, draft_at, is_of, released_as}
+use Rattle.order_desk.specs.Tables.{by_name, draft_at, is_of}
 use Rattle.order_desk.proofs.Conjunction.{left_of, right_of, not_left, not_right}
 use Rattle.order_desk.proofs.Reading.{IsRead, read_more, read_none, read_wrong}
 use Rattle.order_desk.proofs.RowsAfter.{withdrawn_rows-push}
@@ -40,12 +40,16 @@ book_row_is drafts before row is = grind (arith, is.next, is.room, is.reached, i
 module _ (drafts : List DraftRow) (before : List BookRow) (row : BookRow) where
   abbrev n : Bool
   n = row.number == length before + 1
+
   abbrev f : Bool
   f = nat_lt (length before) MOST_BOOKS
+
   abbrev r : Bool
   r = has_reached (find (λ draft. same_name draft.name row.draft) drafts) row
+
   abbrev d : Bool
   d = not (list_any (have_one_revision row) before)
+
   abbrev o : Bool
   o = is_ok (release_of row.text row.cert)
 
@@ -130,6 +134,7 @@ released_before row draft revision named at n (b ∷ bs) =
         ∙ ap (λ k. same_name draft b.draft && k == b.revision) at
         ∙ ap (λ x. x && revision == b.revision) (nat_list_eq_equiv.symm draft b.draft)
         ∙ ap (λ x. same_name b.draft draft && x) (nat_eq_equiv.symm revision b.revision)
+
     by : (x : Bool) → list_any (have_one_revision row) (book_rows (n + 1) bs) ≡ is_some (position_from (is_of draft revision) (n + 1) bs)
         → (x || list_any (have_one_revision row) (book_rows (n + 1) bs)) ≡ is_some (cond x (Some n) (position_from (is_of draft revision) (n + 1) bs))
     by true later = refl
@@ -185,7 +190,7 @@ pub books_more : (drafts : List DraftRow) (rows : List BookRow) (books : List Ke
 books_more drafts rows books row rest book are is =
     let room : length (book_rows 1 books) < MOST_BOOKS = ltb-true (length (book_rows 1 books)) MOST_BOOKS (right_row_has_room drafts (book_rows 1 books) row is.right) in
     let seen : book_rows 1 (books ++ book ∷ []) ≡ book_rows 1 books ++ row ∷ [] =
-      book_rows-append 1 books book ∙ ap (λ r. book_rows 1 books ++ r ∷ []) is.row_is in
+    book_rows-append 1 books book ∙ ap (λ r. book_rows 1 books ++ r ∷ []) is.row_is in
     record {
       read = subst (λ l. IsRead (is_book_row drafts) rows l rest) (sym seen)
           (read_more (is_book_row drafts) rows (book_rows 1 books) row rest are.read is.right);

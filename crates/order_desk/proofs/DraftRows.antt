@@ -1,5 +1,5 @@
 -- Rows of drafts as they are read.
-use Rattle.std.proofs.Common.{◌≡◌, ℕ, ◌+◌, ◌<◌, ◌≤◌, suc, Bool, true, false, ◌&&◌, List, [], ◌∷◌, ◌++◌, Option, None, Some, length, map, refl, sym, ap, subst, ◌∙◌, arith, append_assoc}
+use Rattle.std.proofs.Common.{◌≡◌, ℕ, ◌<◌, ◌≤◌, true, false, ◌&&◌, List, [], ◌∷◌, ◌++◌, length, map, sym, ap, subst, ◌∙◌, arith}
 use Rattle.std.specs.Prelude.{nat_le, nat_lt}
 use Rattle.std.specs.BTreeMap.{insert_entry}
 use Rattle.std.specs.List.{list_all}
@@ -13,10 +13,10 @@ use Rattle.pb_base.specs.Names.{is_name}
 use Rattle.pb_base.specs.declared.limits.TheConstants.{MOST_TEXT_BYTES}
 use Rattle.order_desk.specs.declared.draft.Draft.{Draft}
 use Rattle.order_desk.specs.declared.limits.TheConstants.{MOST_DRAFTS, MOST_REVISION}
-use Rattle.order_desk.specs.RightRows.{comes_last, is_draft_row, first_wrong}
+use Rattle.order_desk.specs.RightRows.{comes_last, is_draft_row}
 use Rattle.order_desk.specs.Rows.{draft_row}
 use Rattle.order_desk.specs.Tables.{by_name}
-use Rattle.order_desk.proofs.Conjunction.{left_of, right_of, both_of, not_left, not_right}
+use Rattle.order_desk.proofs.Conjunction.{left_of, right_of, not_left, not_right}
 use Rattle.order_desk.proofs.Keys.{by_name_total}
 use Rattle.order_desk.proofs.Reading.{IsRead, read_more}
 use Rattle.order_desk.proofs.RisingKeys.{insert-last, rising_rows}
@@ -89,7 +89,7 @@ drafts_more rows es row rest name draft are is row_is =
     let rises : list_all (λ other. is_lt (by_name other name)) (keys_of es) ≡ true = sym (draft_rises es row name named) ∙ says.rises in
     let last : insert_entry by_name es name draft ≡ es ++ (name, draft) ∷ [] = insert-last by_name_total es name draft rises in
     let seen : map draft_row (insert_entry by_name es name draft) ≡ map draft_row es ++ row ∷ [] =
-      ap (map draft_row) last ∙ map-append draft_row es ((name, draft) ∷ []) ∙ ap (λ r. map draft_row es ++ r ∷ []) row_is in
+    ap (map draft_row) last ∙ map-append draft_row es ((name, draft) ∷ []) ∙ ap (λ r. map draft_row es ++ r ∷ []) row_is in
     let room : length (map draft_row es) < MOST_DRAFTS = ltb-true (length (map draft_row es)) MOST_DRAFTS says.room in
     record {
       read = subst (λ l. IsRead is_draft_row rows l rest) (sym seen) (read_more is_draft_row rows (map draft_row es) row rest are.read is);

@@ -20,7 +20,10 @@ struct NamedDraft {
 }
 
 /// The drafts of the rows, or the number, from 1, of the first row that isn't right.
-pub(crate) fn drafts_of(alloc: Global, rows: Vec<DraftRow>) -> Result<BTreeMap<Id, Draft>, Fail<u32>>
+pub(crate) fn drafts_of(
+    alloc: Global,
+    rows: Vec<DraftRow>,
+) -> Result<BTreeMap<Id, Draft>, Fail<u32>>
     ensures right { IfOk result (λ drafts. first_wrong is_draft_row [] rows.items ≡ None) }
     ensures rows { IfOk result (λ drafts. map draft_row drafts.entries ≡ rows.items) }
     ensures wrong { IfRefused result (λ place. first_wrong is_draft_row [] rows.items ≡ Some place) }

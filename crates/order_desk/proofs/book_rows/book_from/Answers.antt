@@ -1,8 +1,7 @@
-use Rattle.std.proofs.Common.{◌≡◌, ◌+◌, ℕ, List, Bool, true, false, map, length, sym, ap, subst, ◌∙◌, arith}
+use Rattle.std.proofs.Common.{◌≡◌, List, false, map, sym, ap, subst, ◌∙◌}
 use Rattle.std.specs.Prelude.{is_some}
 use Rattle.std.specs.Result.{is_ok}
 use Rattle.pb_base.specs.Names.{is_name}
-use Rattle.keeper.specs.declared.rows.BookRow.{BookRow}
 use Rattle.keeper.specs.declared.rows.DraftRow.{DraftRow}
 use Rattle.order_desk.specs.RightRows.{has_reached}
 use Rattle.order_desk.specs.Rows.{book_rows, draft_row}
@@ -14,8 +13,8 @@ pub returns-then-row-books-clause-wrong : goal.returns-then-row-books-clause-wro
 returns-then-row-books-clause-wrong c =
     let drafts : List DraftRow = map draft_row c.args.drafts.now.entries in
     elim c.then-row-books.branch [
-      then-row-books-via-then-row-books w ↦ not_next drafts c.args.books.now c.args.row w.if-row-books.true
-    | then-row-books-via-else-row-books+then-books-ge-MOST_BOOKS w ↦ is_full drafts c.args.books.now c.args.row w.if-books-ge-MOST_BOOKS.true
+      | then-row-books-via-then-row-books w ↦ not_next drafts c.args.books.now c.args.row w.if-row-books.true
+      | then-row-books-via-else-row-books+then-books-ge-MOST_BOOKS w ↦ is_full drafts c.args.books.now c.args.row w.if-books-ge-MOST_BOOKS.true
     ]
 
 pub returns-in-None-clause-wrong : goal.returns-in-None-clause-wrong

@@ -14,7 +14,7 @@ loop-row-preserved c =
     let rest : List BookRow = c.pop_front.new.self.items in
     let made = c.in-Ok.ensures in
     let is : IsBookOf drafts c.deref.result.now c.in-Some.row c.in-Ok.book =
-      record { right = made.right; row_is = made.row; in_force = made.in_force; released = made.released } in
+    record { right = made.right; row_is = made.row; in_force = made.in_force; released = made.released } in
     subst (λ l. AreRead drafts c.args.rows.items l rest) (sym c.in_ok-push-in-Ok.ensures.items)
     (books_more drafts c.args.rows.items books c.in-Some.row rest c.in-Ok.book
     (subst (AreRead drafts c.args.rows.items books) c.in-Some.ensures.items c.loop-row.invariant)
@@ -27,7 +27,7 @@ returns-in-Err-Refused-clause-wrong c =
     let rest : List BookRow = c.pop_front.new.self.items in
     let counted : length books ≡ c.len.result = omega (arith, c.len.ensures, c.loop-row.books.ok.0) in
     let wrong : is_book_row drafts (book_rows 1 c.deref.result.now) c.in-Some.row ≡ false =
-      rw c.in-Err-Refused.field-0-is at c.in-Err-Refused.ensures.wrong in
+    rw c.in-Err-Refused.field-0-is at c.in-Err-Refused.ensures.wrong in
     book_wrong drafts c.args.rows.items books c.in-Some.row rest
     (subst (AreRead drafts c.args.rows.items books) c.in-Some.ensures.items c.loop-row.invariant)
     (subst (λ l. is_book_row drafts (book_rows 1 l) c.in-Some.row ≡ false) c.deref.ensures.value wrong)

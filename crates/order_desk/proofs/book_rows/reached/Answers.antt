@@ -1,5 +1,4 @@
 use Rattle.std.proofs.Common.{◌≡◌, ℕ, true, false, Some, None, MatchOption, sym, subst}
-use Rattle.order_desk.specs.RightRows.{has_reached}
 use Rattle.order_desk.proofs.BookRows.{reached_at}
 use Rattle.order_desk.proofs.book_rows.reached.Goals as goal
 

@@ -1,4 +1,4 @@
-use Rattle.std.proofs.Common.{List, ℕ, ◌∷◌, sym, subst}
+use Rattle.std.proofs.Common.{List, ℕ, sym, subst}
 use Rattle.keeper.specs.declared.rows.DraftRow.{DraftRow}
 use Rattle.order_desk.specs.declared.draft.Draft.{Draft}
 use Rattle.order_desk.proofs.DraftRows.{AreRead, drafts_more}
