@@ -1,5 +1,5 @@
 -- The faults of a desk's keeper, along its steps.
-use Rattle.std.proofs.Common.{◌≡◌, ◌≤◌, List, [], ◌∷◌, sym, subst, arith}
+use Rattle.std.proofs.Common.{List, [], ◌∷◌, sym, subst, arith}
 use Rattle.pb_outside.specs.Faults.{Faults, IsLater}
 use Rattle.turn_book.specs.History.{end_of}
 use Rattle.turn_book.specs.declared.entry.Entry.{Entry}
@@ -8,7 +8,7 @@ use Rattle.order_desk.specs.declared.event.Event.{Event}
 use Rattle.order_desk.specs.Effect.{Effect, says, shows, keeps, effect}
 use Rattle.order_desk.specs.History.{IsLegal, Reaches}
 use Rattle.order_desk.specs.Step.{Follows}
-use Rattle.order_desk.specs.Tables.{Tables, State}
+use Rattle.order_desk.specs.Tables.{State}
 
 later_same : (f : Faults) → IsLater f f
 later_same f = record { never_falls = omega arith; kept = λ faultless. faultless }
