@@ -1,0 +1,3 @@
+mod ToldLaws
+mod TableLaws
+pub mod LaterHands

@@ -1,0 +1,16 @@
+-- What calls come to for the holder who makes their steps.
+--     IsLaterHand h new    legal steps lead from h to new: of the holder and, where it isn't alone, of others
+use Rattle.std.specs.Prelude.{◌≡◌, ◌+◌, ◌≤◌, List, ◌++◌, MatchBool, length}
+use Rattle.order_desk.specs.History.{Reaches}
+use Rattle.answering.specs.Hand.{Hand, Made}
+
+-- the list has one entry more for each step that is gone
+abbrev pub AddsSteps : Hand → Hand → Type 0
+AddsSteps h new = (more : List Made) × (new.made ≡ h.made ++ more) × (length more + new.left ≡ h.left)
+
+-- who is alone keeps no list
+pub record IsLaterHand (h new : Hand) : Type 0 where
+  pub reaches : Reaches h.state new.state
+  pub left : new.left ≤ h.left
+  pub made : MatchBool h.alone (new.made ≡ h.made) (AddsSteps h new)
+  pub alone : new.alone ≡ h.alone

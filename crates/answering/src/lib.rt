@@ -1,0 +1,15 @@
+//! Answers to calls: the steps of the desk that a call makes, and the work between them.
+#![tactic(auto)]
+
+mod alone;
+mod calls;
+mod drafts;
+mod one_event;
+mod orders;
+mod said;
+mod turns;
+
+pub use alone::Alone;
+pub use calls::{answer_call, answers_law};
+pub use said::Said;
+pub use turns::Turns;

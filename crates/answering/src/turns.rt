@@ -1,0 +1,20 @@
+//! Who makes steps of the desk.
+ghost use Rattle.order_desk.specs.Fits.{Fits};
+ghost use Rattle.order_desk.specs.Valid.{IsValid};
+ghost use Rattle.answering.specs.Hand.{Takes};
+
+use order_desk::{Answer, Event};
+
+/// Makes steps of the desk, one at a time.
+pub trait Turns {
+    ghost use Rattle.answering.specs.Hand.{Hand};
+
+    /// What the holder knows and may do.
+    ghost hand: { Self → Hand };
+
+    /// The answer to an event. Where no step is left it says that the calls are used up, and nothing changes.
+    fn step(&mut self, event: Event) -> Answer
+        requires { Fits (hand self.old).state.tables event }
+        ensures takes { Takes (hand self.old) event result (hand self.new) }
+        ensures valid { IsValid (hand self.new).state.tables };
+}
