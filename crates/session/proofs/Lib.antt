@@ -1,0 +1,8 @@
+mod Writing
+mod Faults
+mod Streams
+mod Going
+mod Ending
+mod Ranges
+mod Asked
+mod Hands

@@ -1,0 +1,15 @@
+//! Sessions: the messages of one link, answered in order.
+#![tactic(auto)]
+
+mod answer;
+mod end;
+mod receive;
+mod respond;
+mod serving;
+mod write;
+
+pub use end::{SessionEnd, WriteFault};
+pub use serving::session;
+
+#[cfg(test)]
+mod tests;
