@@ -1,6 +1,6 @@
 //! Steps of a resolution down the trail.
-ghost use Rattle.std.specs.Prelude.{◌≡◌, ℕ, ◌*◌, ◌<◌, ◌≤◌, length, slice_index_or, Some, None, OnOk, true};
-ghost use Rattle.solver.specs.Marks.{marked, IsChain, IsResolvedAt, false_at};
+ghost use Rattle.std.specs.Prelude.{◌≡◌, ℕ, ◌*◌, ◌<◌, ◌≤◌, [], length, slice_index_or, Some, None, OnOk, true};
+ghost use Rattle.solver.specs.Marks.{marked, IsChain, CameFrom, IsResolvedAt, false_at};
 
 use crate::resolution::Resolution;
 use clause_pool::{Pool, Ref};
@@ -8,7 +8,7 @@ use pb_base::Memory;
 use propagate::Engine;
 
 /// Resolves the false literal at a place of the trail away by its reason.
-#[tactic(auto, using(crate::proofs::MarkLaws::resolved_at, crate::proofs::MarkLaws::reason_attached))]
+#[tactic(auto, using(crate::proofs::MarkLaws::resolved_at, crate::proofs::MarkLaws::reason_attached, crate::proofs::WayLaws::came_from))]
 pub(crate) fn resolve_at(
     engine: &Engine,
     pool: &Pool,
@@ -25,6 +25,8 @@ pub(crate) fn resolve_at(
     ensures chain { OnOk result (IsChain pool.now.clauses resolution.new) }
     ensures resolved { OnOk result
         (IsResolvedAt engine.now place resolution.old.marks.items resolution.new.marks.items) }
+    ensures origin { OnOk result (CameFrom resolution.old.marks.items resolution.new.marks.items
+        (slice_index_or pool.now.clauses reason [])) }
     ensures table { length resolution.new.marks.items ≡ 2 * engine.now.vars }
 {
     resolution.resolve(pool, engine.trail()[place].not(), reason)?;

@@ -15,6 +15,7 @@ mod run;
 mod solver;
 #[cfg(test)]
 mod tests;
+mod way;
 
 pub use answer::Answer;
 pub use solver::Solver;

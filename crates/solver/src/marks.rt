@@ -1,7 +1,7 @@
 //! Marks of the literals of a clause in the making, by the code of the literal.
-ghost use Rattle.std.specs.Prelude.{◌≡◌, ℕ, ◌*◌, ◌<◌, ◌≤◌, length, slice_index, IfSome, IfNone, true};
+ghost use Rattle.std.specs.Prelude.{◌≡◌, ℕ, ◌*◌, ◌<◌, ◌≤◌, [], length, slice_index, IfSome, IfNone, true};
 ghost use Rattle.clause_pool.specs.Clause.{has};
-ghost use Rattle.solver.specs.Marks.{marked, AreClear, IsMarked, IsUnmarked, IsTop, NoneMarked, false_at};
+ghost use Rattle.solver.specs.Marks.{marked, AreClear, AreFalseBut, IsMarked, IsUnmarked, IsTop, NoneMarked, false_at};
 
 use clause_pool::Lit;
 
@@ -22,6 +22,27 @@ pub(crate) fn unmark(marks: &mut Vec<bool>, lits: &[Lit])
 {
     for lit in lits {
         marks[lit.code() as usize] = false;
+    }
+}
+
+/// Takes the mark of a literal away, where no other is marked.
+#[tactic(auto, using(crate::proofs::WayLaws::alone_clear))]
+pub(crate) fn unmark_one(marks: &mut Vec<bool>, lit: Lit)
+    requires below { lit < length marks.old.items }
+    requires alone { AreFalseBut [] marks.old.items lit }
+    ensures counted { length marks.new.items ≡ length marks.old.items }
+    ensures clear { AreClear marks.new.items }
+{
+    marks[lit.code() as usize] = false;
+}
+
+/// Whether a literal is marked.
+pub(crate) fn has_mark(marks: &[bool], lit: Lit) -> bool
+    ensures { result ≡ marked marks.now lit }
+{
+    match marks.get(lit.code() as usize) {
+        Some(mark) => *mark,
+        None => false,
     }
 }
 

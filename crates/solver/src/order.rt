@@ -14,6 +14,9 @@ use std::collections::BinaryHeap;
 /// Where the step by which activities grow reaches this, all of them are halved 32 times.
 const STEP_LIMIT: u64 = 1 << 48;
 
+/// Behind so many conflicts of a question its hints are forgotten.
+const HINTED_CONFLICTS: u32 = 50;
+
 /// What a variable has in the order.
 #[derive(Clone, Copy)]
 struct Standing {
@@ -31,14 +34,20 @@ pub(crate) struct Order {
     // An entry counts if its variable's standing names it.
     heap: BinaryHeap<(u64, Reverse<u32>), Global>,
     step: u64,
-    // No activity is above this.
-    top: u64,
-    vars: u32,
+    // What is decided first, the last one before the others.
+    hints: Vec<Lit>,
+    // Those from this place on had their turn since the last conflict.
+    hints_left: usize,
+    // They were given for a question that has been asked.
+    are_old: bool,
+    hinted_conflicts: u32,
+    // Variables from this on are not entered by themselves: once those before have values, propagation gives them theirs.
+    codes: u32,
 }
 
 impl Order {
-    /// All variables, the lowest first, with the value false.
-    pub(crate) fn new(alloc: Global, vars: u32) -> Result<Order, Memory> {
+    /// So many variables with the value false. Those that stand for codes are decided first, the lowest before the others.
+    pub(crate) fn new(alloc: Global, vars: u32, codes: u32) -> Result<Order, Memory> {
         let standing = Standing {
             activity: 0,
             entered: None,
@@ -46,12 +55,15 @@ impl Order {
         };
         let mut order = Order {
             standings: vec![in alloc; standing; vars as usize]?,
-            heap: BinaryHeap::with_capacity(alloc, vars as usize)?,
+            heap: BinaryHeap::with_capacity(alloc, codes as usize)?,
             step: 1 << 10,
-            top: 0,
-            vars,
+            hints: Vec::new(alloc),
+            hints_left: 0,
+            are_old: false,
+            hinted_conflicts: HINTED_CONFLICTS,
+            codes,
         };
-        for var in 0..vars {
+        for var in 0..codes {
             order.enter(var);
         }
         Ok(order)
@@ -76,57 +88,83 @@ impl Order {
         for lit in lits {
             if let Some(standing) = self.standings.get_mut(lit.var() as usize) {
                 standing.activity = standing.activity.saturating_add(self.step);
-                if self.top < standing.activity {
-                    self.top = standing.activity;
-                }
             }
         }
     }
 
     /// A conflict is over: those to come count more.
     pub(crate) fn decay(&mut self) {
+        self.hinted_conflicts = self.hinted_conflicts.saturating_sub(1);
+        if self.hinted_conflicts == 0 {
+            self.hints.clear();
+        }
         self.step = self.step.saturating_add(self.step / 16);
         if self.step < STEP_LIMIT {
             return;
         }
         self.step >>= 32;
-        self.top >>= 32;
         for standing in self.standings.iter_mut() {
             standing.activity >>= 32;
         }
         self.enter_all();
     }
 
-    /// Puts all variables into the heap anew.
+    /// Puts all codes into the heap anew.
     fn enter_all(&mut self) {
         self.heap.clear();
         for standing in self.standings.iter_mut() {
             standing.entered = None;
         }
-        for var in 0..self.vars {
+        for var in 0..self.codes {
             self.enter(var);
         }
     }
 
     /// The literals of the trail from this place on are taken back: each variable keeps its value to try it again.
     pub(crate) fn put_back(&mut self, lits: &[Lit], from: usize) {
+        self.hints_left = self.hints.len();
         for place in from..lits.len() {
             let lit = lits[place];
             if let Some(standing) = self.standings.get_mut(lit.var() as usize) {
                 standing.phase = lit.positive();
             }
-            self.enter(lit.var());
+            if lit.var() < self.codes {
+                self.enter(lit.var());
+            }
         }
     }
 
-    /// The variable of this literal is to be decided before the others, with this value.
+    /// The variable of this literal is to be decided before the others, with this value. Where there is no room, it is
+    /// not.
     pub(crate) fn prefer(&mut self, lit: Lit) {
-        self.top = self.top.saturating_add(self.step);
-        if let Some(standing) = self.standings.get_mut(lit.var() as usize) {
-            standing.phase = lit.positive();
-            standing.activity = self.top;
+        if self.are_old {
+            self.hints.clear();
+            self.are_old = false;
         }
-        self.enter(lit.var());
+        if self.hints.push(lit).is_err() {
+            self.hints.clear();
+        }
+    }
+
+    /// A question is asked, with the hints that were given for it.
+    pub(crate) fn begin(&mut self) {
+        if self.are_old {
+            self.hints.clear();
+        }
+        self.are_old = true;
+        self.hints_left = self.hints.len();
+        self.hinted_conflicts = HINTED_CONFLICTS;
+    }
+
+    /// The next hint, if one is left.
+    fn next_hint(&mut self) -> Option<Lit>
+        ensures { OnSome result (self.new.hints_left < self.old.hints_left) }
+    {
+        if self.hints_left == 0 {
+            return None;
+        }
+        self.hints_left -= 1;
+        self.hints.get(self.hints_left).copied()
     }
 
     /// Takes the first variable from the heap.
@@ -163,6 +201,11 @@ pub(crate) fn pick(order: &mut Order, engine: &Engine) -> Option<Lit>
     ensures none { IfNone result ((v : ℕ) → v < engine.now.vars
         → (has engine.now.lits (2 * v) ≡ true) ⊎ (has engine.now.lits (2 * v + 1) ≡ true)) }
 {
+    while let Some(hint) = order.next_hint() {
+        if hint.var() < engine.vars() && engine.value(hint).is_none() {
+            return Some(hint);
+        }
+    }
     while let Some(var) = order.pop() {
         let lit = order.literal(var);
         if var < engine.vars() && engine.value(lit).is_none() {

@@ -18,9 +18,11 @@ pub(crate) struct Resolution {
 }
 
 impl Resolution {
+    #[tactic(auto, using(crate::proofs::WayLaws::none_marked))]
     /// No marks, with room for so many literals.
     pub(crate) fn new(alloc: Global, literals: usize) -> Result<Resolution, Memory>
-        ensures { IfOk result (λ r. length r.marks.items ≡ literals) }
+        ensures table { IfOk result (λ r. length r.marks.items ≡ literals) }
+        ensures clear { IfOk result (λ r. AreClear r.marks.items) }
     {
         Ok(Resolution {
             start: 0,

@@ -4,7 +4,7 @@ ghost use Rattle.clause_pool.specs.Literal.{complement};
 ghost use Rattle.clause_pool.specs.Clause.{has, KeepsBounds};
 ghost use Rattle.propagate.specs.Trail.{level, OthersFalse};
 ghost use Rattle.solver.specs.Answer.{IsNew};
-ghost use Rattle.solver.specs.Marks.{marked, IsChain, AreFalseBut, false_at};
+ghost use Rattle.solver.specs.Marks.{marked, IsChain, AreClear, AreFalseBut, AreTouched, false_at};
 ghost use Rattle.solver.specs.Search.{IsReady, IsKept, IsSearch, IsConflict, IsLearning, IsFull, AllNew};
 ghost use Rattle.solver.specs.Solver.{Extends, ClosedBy};
 
@@ -12,9 +12,10 @@ use crate::conflict::resolve_at;
 use crate::descend::descend;
 use crate::jump::jump;
 use crate::learn::{append, learn};
-use crate::marks::is_marked;
+use crate::marks::{is_marked, unmark_one};
 use crate::order::Order;
 use crate::resolution::Resolution;
+use crate::way::{Way, are_unmarked_but, resolve_ahead};
 use clause_pool::{Kernel, Lit, Pool, Ref};
 use pb_base::Memory;
 use propagate::Engine;
@@ -62,11 +63,41 @@ fn resolve_all(
     Ok(())
 }
 
+/// The same by the way that the reasons show, which is short beside the trail. Where this leaves something, the walk over
+/// the trail takes it away.
+#[tactic(auto, using(crate::proofs::WayLaws::none_left))]
+fn resolve_away(
+    engine: &Engine,
+    pool: &Pool,
+    resolution: &mut Resolution,
+    way: &mut Way,
+    g: Lit,
+) -> Result<(), Memory>
+    requires attached { pool.now.clauses ≡ engine.now.clauses }
+    requires level { level engine.now ≤ 1 }
+    requires search { IsSearch g engine.now }
+    requires chain { IsChain pool.now.clauses resolution.old }
+    requires table { length resolution.old.marks.items ≡ 2 * engine.now.vars }
+    requires others_false { AreFalseBut engine.now.lits resolution.old.marks.items (complement g) }
+    requires touched { AreTouched resolution.old.marks.items way.old.touched.items }
+    ensures chain { OnOk result (IsChain pool.now.clauses resolution.new) }
+    ensures none { OnOk result (AreFalseBut [] resolution.new.marks.items (complement g)) }
+    ensures table { length resolution.new.marks.items ≡ 2 * engine.now.vars }
+{
+    resolve_ahead(engine, pool, resolution, way, g.not())?;
+    if are_unmarked_but(&resolution.marks, &way.touched, g.not()) {
+        return Ok(());
+    }
+    resolve_all(engine, pool, resolution, g)?;
+    Ok(())
+}
+
 /// Derives from a conflict that the assumption alone leads to a clause that refutes it.
-fn close(
+fn derive_closing(
     kernel: &mut Kernel,
     engine: &Engine,
     resolution: &mut Resolution,
+    way: &mut Way,
     g: Lit,
     at: Ref,
 ) -> Result<Ref, Memory>
@@ -77,15 +108,41 @@ fn close(
     ensures extends { Extends kernel.old kernel.new }
     ensures kept { IsKept kernel.new.clauses engine.now resolution.new.marks.items }
     ensures closed { IfOk result (ClosedBy kernel.new g) }
+    ensures none { OnOk result (AreFalseBut [] resolution.new.marks.items (complement g)) }
 {
     kernel.given();
-    engine.trail();
+    let trail = engine.trail();
     resolution.begin(kernel.pool(), at);
-    resolve_all(engine, kernel.pool(), resolution, g)?;
+    way.begin(trail, engine.end_of(0), kernel.pool().lits(at))?;
+    resolve_away(engine, kernel.pool(), resolution, way, g)?;
     if resolution.pairs.is_empty() {
         return Ok(resolution.start);
     }
     let closed = append(kernel, resolution)?;
+    Ok(closed)
+}
+
+/// The same, with no mark left.
+fn close(
+    kernel: &mut Kernel,
+    engine: &Engine,
+    resolution: &mut Resolution,
+    way: &mut Way,
+    g: Lit,
+    at: Ref,
+) -> Result<Ref, Memory>
+    requires below { g < 2 * engine.now.vars }
+    requires ready { IsReady kernel.old.clauses engine.now resolution.old.marks.items }
+    requires level { level engine.now ≤ 1 }
+    requires search { IsSearch g engine.now }
+    requires conflict { IsConflict engine.now g at }
+    ensures extends { Extends kernel.old kernel.new }
+    ensures kept { IsKept kernel.new.clauses engine.now resolution.new.marks.items }
+    ensures closed { IfOk result (ClosedBy kernel.new g) }
+    ensures clear { OnOk result (AreClear resolution.new.marks.items) }
+{
+    let closed = derive_closing(kernel, engine, resolution, way, g, at)?;
+    unmark_one(&mut resolution.marks, g.not());
     Ok(closed)
 }
 
@@ -119,6 +176,7 @@ pub(crate) fn run(
     kernel: &mut Kernel,
     engine: &mut Engine,
     resolution: &mut Resolution,
+    way: &mut Way,
     order: &mut Order,
     g: Lit,
     budget: u32,
@@ -129,6 +187,7 @@ pub(crate) fn run(
     ensures extends { Extends kernel.old kernel.new }
     ensures kept { IsKept kernel.new.clauses engine.new resolution.new.marks.items }
     ensures vars { engine.new.vars ≡ engine.old.vars }
+    ensures clear { OnOk result (AreClear resolution.new.marks.items) }
     ensures closed { (at : ℕ) → result ≡ Ok (Ending.Closed at) → ClosedBy kernel.new g at }
     ensures full { result ≡ Ok Ending.Full → (engine.new.clauses ≡ kernel.new.clauses) × IsFull engine.new g }
     ensures count { result ≡ Ok Ending.Spent
@@ -141,7 +200,7 @@ pub(crate) fn run(
             return Ok(Ending::Full);
         };
         if engine.level() <= 1 {
-            let closed = close(kernel, engine, resolution, g, at)?;
+            let closed = close(kernel, engine, resolution, way, g, at)?;
             return Ok(Ending::Closed(closed));
         }
         go_on(kernel, engine, resolution, order, at)?;

@@ -6,6 +6,7 @@ ghost use Rattle.pb_base.specs.Sets.{has as has_code};
 ghost use Rattle.propagate.specs.Trail.{IsTrail, level};
 ghost use Rattle.propagate.specs.Quiet.{Quiet};
 ghost use Rattle.solver.specs.Answer.{Begins, IsSpent};
+ghost use Rattle.solver.specs.Marks.{AreClear};
 ghost use Rattle.solver.specs.Search.{IsReady, IsSearch, IsKept, IsFull, AllNew};
 ghost use Rattle.solver.specs.Solver.{Extends, IsRight, given_of};
 
@@ -14,6 +15,7 @@ use crate::marks::clear;
 use crate::order::Order;
 use crate::resolution::Resolution;
 use crate::run::{Ending, run};
+use crate::way::Way;
 use clause_pool::{Kernel, Lit, Pool, Ref};
 use pb_base::{CodeSet, Memory};
 use propagate::Engine;
@@ -28,6 +30,7 @@ pub struct Solver {
     kernel: Kernel,
     engine: Engine,
     resolution: Resolution,
+    way: Way,
     order: Order,
     codes: u32,
 }
@@ -36,13 +39,14 @@ impl Model for Solver {
     ghost use Rattle.std.specs.Prelude.{◌≤◌};
     ghost use Rattle.solver.specs.Solver.{Solving};
     ghost use Rattle.solver.specs.Search.{IsKept};
+    ghost use Rattle.solver.specs.Marks.{AreClear};
 
     ghost Value = { Solving };
 
     ghost view = { λ s. record { kernel = s.kernel; vars = s.engine.vars; codes = s.codes } };
 
     ghost invariant = { λ s. IsKept s.kernel.clauses s.engine s.resolution.marks.items
-        × (s.codes ≤ s.engine.vars) };
+        × (s.codes ≤ s.engine.vars) × AreClear s.resolution.marks.items };
 }
 
 impl Solver {
@@ -58,7 +62,8 @@ impl Solver {
             kernel,
             engine: Engine::new(alloc, vars)?,
             resolution: Resolution::new(alloc, vars as usize + vars as usize)?,
-            order: Order::new(alloc, vars)?,
+            way: Way::new(alloc, vars)?,
+            order: Order::new(alloc, vars, codes)?,
             codes,
         })
     }
@@ -82,7 +87,6 @@ impl Solver {
     pub fn prefer(&mut self, lit: Lit)
         ensures { self.new ≡ self.old }
     {
-        take_back(&mut self.engine, &mut self.order);
         self.order.prefer(lit);
     }
 
@@ -105,17 +109,22 @@ impl Solver {
         prepare(
             &self.kernel,
             &mut self.engine,
-            &mut self.resolution,
+            &self.resolution,
             &mut self.order,
         )?;
-        let ending = run(
+        let searched = run(
             &mut self.kernel,
             &mut self.engine,
             &mut self.resolution,
+            &mut self.way,
             &mut self.order,
             assume,
             budget,
-        )?;
+        );
+        let Ok(ending) = searched else {
+            clear(&mut self.resolution.marks);
+            return Err(Memory);
+        };
         match ending {
             Ending::Full => {
                 let set = found_set(self.alloc, &self.kernel, &self.engine, self.codes, assume)?;
@@ -140,21 +149,22 @@ fn take_back(engine: &mut Engine, order: &mut Order)
     engine.back_to(0);
 }
 
-/// Takes all levels back, attaches what is not attached yet, and takes the marks away.
+/// Takes all levels back, and attaches what is not attached yet.
 fn prepare(
     kernel: &Kernel,
     engine: &mut Engine,
-    resolution: &mut Resolution,
+    resolution: &Resolution,
     order: &mut Order,
 ) -> Result<(), Memory>
-    requires kept { IsKept kernel.now.clauses engine.old resolution.old.marks.items }
-    ensures kept { IsKept kernel.now.clauses engine.new resolution.new.marks.items }
+    requires kept { IsKept kernel.now.clauses engine.old resolution.now.marks.items }
+    requires clear { AreClear resolution.now.marks.items }
+    ensures kept { IsKept kernel.now.clauses engine.new resolution.now.marks.items }
     ensures vars { engine.new.vars ≡ engine.old.vars }
-    ensures ready { OnOk result (IsReady kernel.now.clauses engine.new resolution.new.marks.items) }
+    ensures ready { OnOk result (IsReady kernel.now.clauses engine.new resolution.now.marks.items) }
     ensures search { OnOk result ((g : ℕ) → IsSearch g engine.new) }
 {
     take_back(engine, order);
-    clear(&mut resolution.marks);
+    order.begin();
     attach_rest(engine, kernel.pool())?;
     Ok(())
 }

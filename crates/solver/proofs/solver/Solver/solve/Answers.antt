@@ -13,10 +13,10 @@ returns-clause-spent_within c = λ learnt is.
       | in-Full+in_ok-set-in-Full w ↦ let e = sym w.result-is ∙ is in cc
       | in-Closed w ↦ let e = sym w.result-is ∙ is in cc
       | in-Spent+in_ok-learnt-in-Spent w ↦
-          let vars : c.run.new.engine.vars ≡ c.args.self.now.vars = c.run.ensures.vars ∙ c.prepare.ensures.vars ∙ ap (λ (s : Solving). s.vars) c.self.view_is in
+          let vars : c.run-searched.new.engine.vars ≡ c.args.self.now.vars = c.run-searched.ensures.vars ∙ c.prepare.ensures.vars ∙ ap (λ (s : Solving). s.vars) c.self.view_is in
           subst (λ (v : ℕ). c.args.budget ≤ 3 ^ v) vars
-          (count_bound c.args.assume (length c.self.inside.kernel.clauses) c.args.budget c.run.new.engine.vars c.run.new.kernel.clauses
-          (c.in_ok-ending.ensures.fresh (ap Ok w.in-Spent.is)) c.run.ensures.kept.below (c.in_ok-ending.ensures.count (ap Ok w.in-Spent.is)))
+          (count_bound c.args.assume (length c.self.inside.kernel.clauses) c.args.budget c.run-searched.new.engine.vars c.run-searched.new.kernel.clauses
+          (c.run-searched.ensures.fresh (c.in-Ok.is ∙ ap Ok w.in-Spent.is)) c.run-searched.ensures.kept.below (c.run-searched.ensures.count (c.in-Ok.is ∙ ap Ok w.in-Spent.is)))
     ]
 
 pub returns-clause-spent_over_quiet : goal.returns-clause-spent_over_quiet
@@ -26,9 +26,9 @@ returns-clause-spent_over_quiet c = λ learnt is.
       | in-Closed w ↦ let e = sym w.result-is ∙ is in cc
       | in-Spent+in_ok-learnt-in-Spent w ↦
           let derived = c.pool.ensures.derived.clauses_counted in
-          let number = c.run.ensures.extends.same_number in
-          let same : given_of c.run.new.kernel ≡ given_of c.args.self.now.kernel = c.run.ensures.extends.same_given ∙ ap (λ (s : Solving). given_of s.kernel) c.self.view_is in
+          let number = c.run-searched.ensures.extends.same_number in
+          let same : given_of c.run-searched.new.kernel ≡ given_of c.args.self.now.kernel = c.run-searched.ensures.extends.same_given ∙ ap (λ (s : Solving). given_of s.kernel) c.self.view_is in
           subst (λ (cs : List (List ℕ)). (lits : List ℕ) × Quiet cs lits × (has lits c.args.assume ≡ true)) same
-          (spent_quiet c.run.new.kernel c.args.assume c.args.budget (length c.self.inside.kernel.clauses) c.requires.some (omega (arith, derived, number))
-          (c.in_ok-ending.ensures.count (ap Ok w.in-Spent.is)) (c.in_ok-ending.ensures.fresh (ap Ok w.in-Spent.is)))
+          (spent_quiet c.run-searched.new.kernel c.args.assume c.args.budget (length c.self.inside.kernel.clauses) c.requires.some (omega (arith, derived, number))
+          (c.run-searched.ensures.count (c.in-Ok.is ∙ ap Ok w.in-Spent.is)) (c.run-searched.ensures.fresh (c.in-Ok.is ∙ ap Ok w.in-Spent.is)))
     ]

@@ -1,0 +1,160 @@
+//! The way of a closing: which marks to resolve away, without a walk over the whole trail.
+ghost use Rattle.std.specs.Prelude.{◌≡◌, ℕ, ◌*◌, ◌<◌, ◌++◌, length, slice_index_or, IfSome, None, OnOk, Some, true};
+ghost use Rattle.clause_pool.specs.Literal.{complement};
+ghost use Rattle.clause_pool.specs.Clause.{has};
+ghost use Rattle.solver.specs.Marks.{marked, IsChain, AreFalseBut, AreTouched, false_at};
+
+use crate::conflict::resolve_at;
+use crate::marks::{has_mark, is_marked};
+use crate::resolution::Resolution;
+use clause_pool::{Lit, Pool, Ref};
+use pb_base::Memory;
+use propagate::Engine;
+use std::alloc::Global;
+use std::collections::BinaryHeap;
+
+/// The literals of the clauses that a chain was made of, and where they may stand on the trail, the latest place first. No
+/// contract speaks of the places.
+#[derive(Drop)]
+pub(crate) struct Way {
+    pub(crate) touched: Vec<Lit>,
+    // By variable.
+    places: Vec<usize>,
+    // What comes before this place of the trail is entered for good.
+    entered: usize,
+    ahead: BinaryHeap<usize, Global>,
+}
+
+impl Way {
+    /// No literals, with room for so many variables.
+    pub(crate) fn new(alloc: Global, vars: u32) -> Result<Way, Memory> {
+        Ok(Way {
+            touched: Vec::new(alloc),
+            places: vec![in alloc; 0; vars as usize]?,
+            entered: 0,
+            ahead: BinaryHeap::new(alloc),
+        })
+    }
+
+    /// Begins with the literals of a clause. The trail is fixed up to this place.
+    pub(crate) fn begin(&mut self, trail: &[Lit], fixed: usize, lits: &[Lit]) -> Result<(), Memory>
+        ensures { OnOk result (self.new.touched.items ≡ lits.now) }
+    {
+        enter_places(&mut self.places, trail, self.entered);
+        self.entered = fixed;
+        self.ahead.clear();
+        self.touched.clear();
+        self.touch(lits)?;
+        Ok(())
+    }
+
+    /// Goes on with the literals of a clause.
+    fn touch(&mut self, lits: &[Lit]) -> Result<(), Memory>
+        ensures { OnOk result (self.new.touched.items ≡ self.old.touched.items ++ lits.now) }
+    {
+        look_ahead(&mut self.ahead, &self.places, lits);
+        self.touched.extend_from_slice(lits)?;
+        Ok(())
+    }
+}
+
+/// Enters the places of a trail from this one on.
+fn enter_places(places: &mut Vec<usize>, trail: &[Lit], from: usize) {
+    for place in from..trail.len() {
+        if let Some(entry) = places.get_mut(trail[place].var() as usize) {
+            *entry = place;
+        }
+    }
+}
+
+/// Puts the places of literals ahead. What there is no room for is found by the walk over the trail.
+fn look_ahead(ahead: &mut BinaryHeap<usize, Global>, places: &[usize], lits: &[Lit]) {
+    for lit in lits {
+        if let Some(place) = places.get(lit.var() as usize)
+            && ahead.push(*place).is_err()
+        {
+            return;
+        }
+    }
+}
+
+/// A false literal that is marked and has a reason, by its place of the trail.
+#[derive(Clone, Copy)]
+struct Needed {
+    place: usize,
+    reason: Ref,
+}
+
+/// The latest place ahead that is needed.
+#[tactic(auto, using(crate::proofs::MarkLaws::false_below))]
+fn next_needed(
+    engine: &Engine,
+    marks: &[bool],
+    ahead: &mut BinaryHeap<usize, Global>,
+) -> Option<Needed>
+    requires table { length marks.now ≡ 2 * engine.now.vars }
+    ensures place { IfSome result (λ n. n.place < length engine.now.lits) }
+    ensures is_marked { IfSome result (λ n.
+        marked marks.now (false_at engine.now.lits n.place) ≡ true) }
+    ensures reason { IfSome result (λ n.
+        slice_index_or engine.now.reasons n.place None ≡ Some n.reason) }
+{
+    let lits = engine.trail();
+    while let Some(place) = ahead.pop() {
+        if place >= lits.len() || !is_marked(marks, lits, place) {
+            continue;
+        }
+        if let Some(reason) = engine.reason_at(place) {
+            return Some(Needed { place, reason });
+        }
+    }
+    None
+}
+
+/// Resolves literals that have a reason away, the latest first, as far as the places ahead tell of them.
+pub(crate) fn resolve_ahead(
+    engine: &Engine,
+    pool: &Pool,
+    resolution: &mut Resolution,
+    way: &mut Way,
+    left: Lit,
+) -> Result<(), Memory>
+    requires attached { pool.now.clauses ≡ engine.now.clauses }
+    requires chain { IsChain pool.now.clauses resolution.old }
+    requires table { length resolution.old.marks.items ≡ 2 * engine.now.vars }
+    requires others_false { AreFalseBut engine.now.lits resolution.old.marks.items left }
+    requires touched { AreTouched resolution.old.marks.items way.old.touched.items }
+    ensures chain { OnOk result (IsChain pool.now.clauses resolution.new) }
+    ensures table { length resolution.new.marks.items ≡ 2 * engine.now.vars }
+    ensures others_false { OnOk result (AreFalseBut engine.now.lits resolution.new.marks.items left) }
+    ensures touched { OnOk result (AreTouched resolution.new.marks.items way.new.touched.items) }
+{
+    let lits = engine.trail();
+    for _ in 0..lits.len() {
+        let Some(needed) = next_needed(engine, &resolution.marks, &mut way.ahead) else {
+            return Ok(());
+        };
+        resolve_at(engine, pool, resolution, needed.place, needed.reason)?;
+        way.touch(pool.lits(needed.reason))?;
+    }
+    Ok(())
+}
+
+/// Whether a literal is the one that is left, or isn't marked.
+fn is_unmarked_but(marks: &[bool], lit: Lit, left: Lit) -> bool
+    ensures { result ≡ true → marked marks.now lit ≡ true → lit ≡ left }
+{
+    lit == left || !has_mark(marks, lit)
+}
+
+/// Whether none of these literals is marked but one.
+pub(crate) fn are_unmarked_but(marks: &[bool], lits: &[Lit], left: Lit) -> bool
+    ensures { result ≡ true → (l : ℕ) → has lits.now l ≡ true → marked marks.now l ≡ true → l ≡ left }
+{
+    for lit in lits {
+        if !is_unmarked_but(marks, *lit, left) {
+            return false;
+        }
+    }
+    true
+}
