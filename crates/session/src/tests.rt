@@ -20,13 +20,13 @@ impl Turns for Spent {
     ghost use Rattle.std.specs.Prelude.{[], true};
 
     ghost hand = { λ _. record {
-        alone = true;
-        state = record {
-            tables = record { drafts = []; books = []; orders = [] };
-            faults = record { count = 0; faultless = true };
-        };
-        left = 0;
-        made = [];
+      alone = true;
+      state = record {
+        tables = record { drafts = []; books = []; orders = [] };
+        faults = record { count = 0; faultless = true };
+      };
+      left = 0;
+      made = [];
     } };
 
     fn step(&mut self, _: Event) -> Answer {
@@ -99,8 +99,7 @@ fn each_stream_has_its_end_and_its_responses(rt: HostRuntime) -> Result<(), Fail
     let alloc = rt.alloc();
     for row in CASES.split(|b| *b == b'\n') {
         let mut fields = row.split(|b| *b == b'~');
-        let (Some(stream), Some(end), Some(written)) =
-            (fields.next(), fields.next(), fields.next())
+        let (Some(stream), Some(end), Some(written)) = (fields.next(), fields.next(), fields.next())
         else {
             return Err("a stream, an end and what is written".into());
         };
@@ -161,6 +160,9 @@ fn a_link_that_fails_is_told_with_both_counts(rt: HostRuntime) -> Result<(), Fai
     };
     let end = session(alloc, &mut unwritten, &mut Spent, &NoGate);
     assert_eq!(rt; end, SessionEnd::WriteFault(write_fault));
-    assert_eq!(rt; unwritten.taken(), b"HTTP/1.1 100 Continue\r\n\r\n".as_slice());
+    assert_eq!(rt;
+        unwritten.taken(),
+        b"HTTP/1.1 100 Continue\r\n\r\n".as_slice()
+    );
     Ok(())
 }
