@@ -1,6 +1,6 @@
 -- The text that is written for a message.
 use Rattle.std.proofs.Common.{◌≡◌, ℕ, List, refl, inl, inr}
-use Rattle.std.specs.Prelude.{Result, Ok, Err, IfOk, ◌⊎◌}
+use Rattle.std.specs.Prelude.{Result, Ok, Err, IfOk}
 use Rattle.pb_base.specs.declared.answer.Memory.{Memory}
 use Rattle.desk_words.specs.declared.call.Call.{Call}
 use Rattle.desk_words.specs.declared.reply.Reply.{Reply}
@@ -11,7 +11,7 @@ use Rattle.http_api.specs.declared.denied.Denied.{Denied}
 use Rattle.answering.specs.Answers.{Answers}
 use Rattle.answering.specs.Hand.{Hand}
 use Rattle.answering.specs.declared.said.Said.{Said}
-use Rattle.session.specs.Responses.{Asks, AnswersAsked, AnswersCall, AnswersMessage, IsDenial, IsResponse, is_bare}
+use Rattle.session.specs.Responses.{Asks, AnswersAsked, AnswersMessage, IsDenial, IsResponse, is_bare}
 use Rattle.session.specs.Steps.{text_of}
 
 response : (head : Head) (reply : Reply) (made : Result (List ℕ) Memory) → IfOk made (λ text. text ≡ response_of reply head.close (is_bare head))

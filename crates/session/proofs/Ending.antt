@@ -1,6 +1,6 @@
 -- How a session ends.
 use Rattle.std.proofs.Common.{◌≡◌, ◌<◌, ◌≤◌, ◌∙◌, ℕ, Bool, true, false, List, [], ◌∷◌, ◌++◌, length, refl, sym, ap, subst, arith, inl, inr}
-use Rattle.std.specs.Prelude.{Option, Some, None, Result, Ok, Err, IfErr, IfOk, IfSome, IsSomeAnd, ◌⊎◌}
+use Rattle.std.specs.Prelude.{Option, Some, None, Result, Ok, Err, IfErr, IfOk, IfSome}
 use Rattle.std.proofs.lemmas.List.{append-nil}
 use Rattle.pb_base.specs.Answers.{ForRefusal}
 use Rattle.pb_base.specs.declared.answer.Fail.{Fail}
@@ -10,7 +10,7 @@ use Rattle.pb_outside.specs.Faults.{Faults, IsLater}
 use Rattle.pb_outside.specs.Sink.{SinkTold, Takes}
 use Rattle.pb_outside.specs.Source.{SourceTold}
 use Rattle.http_wire.specs.Items.{ReadsHead, ReadsBody, IsWhole, ended, refused, cut, closed}
-use Rattle.http_wire.specs.Stream.{ReadFails, SameStream, StreamStep}
+use Rattle.http_wire.specs.Stream.{ReadFails, StreamStep}
 use Rattle.http_wire.specs.declared.fault.ReadFault.{ReadFault as Unread}
 use Rattle.http_wire.specs.declared.head.Head.{Head as Kept}
 use Rattle.http_wire.specs.declared.head.HeadStep.TheVariants.{Head, End, Bad}

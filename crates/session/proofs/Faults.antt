@@ -1,5 +1,5 @@
 -- Reads that went well, and what came before them.
-use Rattle.std.proofs.Common.{◌≡◌, ◌≤◌, ◌∙◌, ℕ, Bool, true, false, refl, sym, subst, arith}
+use Rattle.std.proofs.Common.{◌≡◌, ◌∙◌, ℕ, Bool, true, false, refl, subst, arith}
 use Rattle.std.specs.Prelude.{Err}
 use Rattle.pb_base.specs.Answers.{ForRefusal, IfRefused}
 use Rattle.pb_base.specs.declared.answer.Fail.{Fail}

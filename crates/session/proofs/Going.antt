@@ -1,6 +1,6 @@
 -- A session that follows a message that was answered.
 use Rattle.std.proofs.Common.{◌≡◌, ◌∙◌, ℕ, false, List, [], ◌∷◌, ◌++◌, refl, sym, ap, subst, append_assoc}
-use Rattle.std.specs.Prelude.{Option, Some, None, Result, Ok, Err, IfSome, OnOk}
+use Rattle.std.specs.Prelude.{Option, Some, Result, Ok, Err, OnOk}
 use Rattle.pb_outside.specs.Sink.{SinkTold, Takes}
 use Rattle.pb_outside.specs.Source.{SourceTold}
 use Rattle.http_wire.specs.Items.{ended, refused, cut, closed}

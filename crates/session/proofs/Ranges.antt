@@ -1,34 +1,32 @@
 -- A call that a message asks for is within its ranges.
-use Rattle.std.proofs.Common.{◌≡◌, ◌≤◌, ◌<◌, ◌+◌, ◌*◌, ◌-◌, ◌^◌, ◌∙◌, ℕ, Bool, true, false, ◌&&◌, ◌==◌, List, [], ◌∷◌, ◌++◌, length, refl, sym, ap, subst, arith, inl, inr, leb-true, lit<, ◌≢◌}
-use Rattle.std.specs.Prelude.{Option, Some, None, Result, Ok, Err, IfSome, ◌⊎◌, nat_le, option_map, option_and_then, slice_index, codes, if◌then◌else◌}
+use Rattle.std.proofs.Common.{◌≡◌, ◌≤◌, ◌+◌, ◌*◌, ◌-◌, ◌^◌, ◌∙◌, ℕ, Bool, true, false, ◌&&◌, ◌==◌, List, [], ◌∷◌, length, refl, sym, ap, subst, arith, inl, inr, leb-true, lit<, ◌≢◌}
+use Rattle.std.specs.Prelude.{Option, Some, None, Result, Ok, Err, IfSome, nat_le, option_map, option_and_then, slice_index, codes, if◌then◌else◌}
 use Rattle.std.specs.List.{list_all}
 use Rattle.std.specs.Cmp.{first_so, second_so}
 use Rattle.std.proofs.Math.Nat.{mul-le-mul_right, mul_assoc, pow-le-pow_right, pow-succ'}
 use Rattle.std.proofs.lemmas.Bool.{eqb-false}
 use Rattle.std.proofs.lemmas.Bool.Decides.{leb_tells}
 use Rattle.serde_json.specs.Data.{Data}
-use Rattle.serde_json.specs.Find.{get, as_number, as_object, as_u64}
-use Rattle.pb_base.specs.Digits.{is_digit, is_number, number_within as digits_within, value_from, value_of}
+use Rattle.serde_json.specs.Find.{get, as_number, as_u64}
+use Rattle.pb_base.specs.Digits.{is_digit, is_number, value_from, value_of}
 use Rattle.pb_base.specs.Results.{and_then}
 use Rattle.pb_base.specs.declared.limits.TheConstants.{MOST_TEXT_BYTES}
 use Rattle.desk_words.specs.declared.call.Call.{Call}
 use Rattle.desk_words.specs.declared.call.What.{What}
 use Rattle.desk_words.specs.declared.call.What.TheVariants as what
 use Rattle.http_wire.specs.declared.message.Message.{Message}
-use Rattle.http_api.specs.Body.{budget_in, budget_or, check_in, name_in, number_at, number_within, object_of, only_if, order_in, release_in, what_of}
+use Rattle.http_api.specs.Body.{budget_in, budget_or, check_in, name_in, number_at, object_of, only_if, order_in, release_in, what_of}
 use Rattle.http_api.specs.Call.{LeadsNowhere, call_at, or_denied}
 use Rattle.http_api.specs.Path.{path_of}
 use Rattle.http_api.specs.Request.{method_of, request_of}
-use Rattle.http_api.specs.Route.{HasNumber, Leads, path_number}
+use Rattle.http_api.specs.Route.{Leads, path_number}
 use Rattle.http_api.specs.declared.denied.Denied.{Denied}
-use Rattle.http_api.specs.declared.denied.Denied.TheVariants.{NoPath, WrongMethod, BadCaller, BadBody}
+use Rattle.http_api.specs.declared.denied.Denied.TheVariants.{WrongMethod, BadCaller, BadBody}
 use Rattle.http_api.specs.declared.request.Request.{Request}
 use Rattle.http_api.specs.declared.request.Request.TheVariants.{Whole, PutDraft, GiveDraft, Check, Release, PlaceOrder}
 use Rattle.http_api.specs.declared.request.Verb.{Verb}
-use Rattle.http_api.specs.declared.request.Verb.TheVariants.{Get, Put, Post, Other}
-use Rattle.http_api.specs.declared.route.DraftPage.{DraftPage}
+use Rattle.http_api.specs.declared.request.Verb.TheVariants.{Get, Put, Post}
 use Rattle.http_api.specs.declared.route.DraftPage.TheVariants.{Text as DraftText, Owner, Check as CheckPage, Release as ReleasePage}
-use Rattle.http_api.specs.declared.route.BookPage.{BookPage}
 use Rattle.http_api.specs.declared.route.BookPage.TheVariants.{Text as BookText, Certificate, Withdraw}
 use Rattle.http_api.specs.declared.route.Route.{Route}
 use Rattle.http_api.specs.declared.route.Route.TheVariants.{Draft, Book, Order}

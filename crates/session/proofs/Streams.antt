@@ -1,20 +1,19 @@
 -- Streams, where they are told.
-use Rattle.std.proofs.Common.{◌≡◌, ◌≤◌, ◌+◌, ◌∙◌, ℕ, Bool, true, false, List, [], ◌∷◌, ◌++◌, length, take, drop, refl, sym, ap, subst, arith, inl, inr}
-use Rattle.std.specs.Prelude.{Option, Some, None, IfSome, IsSomeAnd, MatchBool, nat_lt, Result, Ok, Err, codes, if◌then◌else◌, ◌⊎◌}
+use Rattle.std.proofs.Common.{◌≡◌, ◌∙◌, ℕ, Bool, true, false, List, [], ◌∷◌, ◌++◌, take, drop, refl, sym, ap, subst, inl, inr}
+use Rattle.std.specs.Prelude.{Option, Some, None, IfSome, MatchBool, nat_lt, Result, Ok, Err, codes, if◌then◌else◌}
 use Rattle.http_wire.specs.Fields.{body_length, values_of}
 use Rattle.http_wire.specs.Front.{front}
-use Rattle.http_wire.specs.Items.{ReadsFront, ReadsHead, ReadsBody, HasBody, Items, Stops, Last, ended, refused, cut, closed}
+use Rattle.http_wire.specs.Items.{ReadsFront, ReadsHead, ReadsBody, Items, Last, ended, refused, cut, closed}
 use Rattle.http_wire.specs.Parts.{HeadParts, parts_of}
 use Rattle.http_wire.specs.Reading.{field_lines, judge, with_length, lacks_host, is_coded, ReadsLines, ReadsBlock}
 use Rattle.http_wire.specs.Stream.{StreamStep}
 use Rattle.http_wire.specs.declared.front.Front.{Front}
 use Rattle.http_wire.specs.declared.front.Front.TheVariants.{End as NoMore, Bad as NoHead, Block}
 use Rattle.http_wire.specs.declared.head.Head.{Head as Kept}
-use Rattle.http_wire.specs.declared.head.HeadStep.{HeadStep}
 use Rattle.http_wire.specs.declared.head.HeadStep.TheVariants.{Head, End, Bad}
 use Rattle.http_wire.specs.declared.message.Message.{Message as Whole}
 use Rattle.http_wire.specs.declared.message.BodyStep.TheVariants.{Message, Cut}
-use Rattle.session.specs.Reading.{Stop, whole, unread, wanting, ReadsMessage, BeginsWith, Reads}
+use Rattle.session.specs.Reading.{Stop, whole, unread, wanting, ReadsMessage, Reads}
 use Rattle.session.specs.Steps.{stream_of, ReadsOn}
 
 -- ---- what is held and what is left

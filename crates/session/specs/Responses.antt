@@ -8,7 +8,7 @@ use Rattle.std.specs.Str.{bytes_eq}
 use Rattle.desk_words.specs.declared.call.Call.{Call}
 use Rattle.desk_words.specs.declared.reply.Reply.{Reply}
 use Rattle.desk_words.specs.declared.reply.Reply.TheVariants.{Memory}
-use Rattle.http_wire.specs.Items.{Last, ended, refused, cut, closed}
+use Rattle.http_wire.specs.Items.{ended, refused, cut, closed}
 use Rattle.http_wire.specs.declared.head.Head.{Head}
 use Rattle.http_wire.specs.declared.message.Message.{Message}
 use Rattle.http_api.specs.Call.{LeadsNowhere, call_at}

@@ -7,7 +7,7 @@ use Rattle.std.specs.Prelude.{◌≡◌, ℕ, List, [], ◌++◌, Option, Some, 
 use Rattle.pb_outside.specs.Faults.{Faults, IsLater}
 use Rattle.pb_outside.specs.Sink.{SinkTold, Takes, Refuses}
 use Rattle.pb_outside.specs.Source.{SourceTold}
-use Rattle.http_wire.specs.Items.{Last, ended, refused, cut, closed}
+use Rattle.http_wire.specs.Items.{ended, refused, cut, closed}
 use Rattle.http_wire.specs.Stream.{ReadFails}
 use Rattle.http_wire.specs.declared.message.Message.{Message}
 use Rattle.answering.specs.Hand.{Hand}

@@ -1,5 +1,3 @@
-use Rattle.std.specs.Prelude.{Ok, Err}
-use Rattle.session.specs.Responses.{Asks}
 use Rattle.session.specs.Steps.{text_of}
 use Rattle.session.proofs.Asked.{answers_call, answers_denied}
 use Rattle.session.proofs.Ranges.{is_call}
