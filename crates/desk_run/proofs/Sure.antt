@@ -36,7 +36,7 @@ no_bad_row (Some r) place right bad = let clash : None ≡ Some place = sym righ
 
 not_started : (why : Fail StartFault) (before after : DeskOutside) → IsOrderly before → FailsNowhere before after
     → IsNotStarted why before after → IsDoneOrMemory (NotStarted why)
-not_started (Refused (BadRow table place)) before after orderly nowhere is = absurd (no_bad_row before.rows (table, place) orderly.rows is.cause)
+not_started (Refused (BadRow table place)) before after orderly nowhere is = absurd (no_bad_row before.rows (table, place) orderly.rows is.cause.first)
 not_started (Refused (Store first last)) before after orderly nowhere is = absurd (nowhere.keeper is.cause.fails)
 not_started NoMemory before after orderly nowhere is = inr (inr refl)
 
