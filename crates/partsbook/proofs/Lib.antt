@@ -1,3 +1,5 @@
+pub mod Ranges
+pub mod Tasks
 pub mod SlicesTold
 pub mod Statuses
 pub mod Told
@@ -5,3 +7,5 @@ pub mod Asked
 pub mod Caused
 pub mod Releasable
 pub mod Sure
+pub mod NeverBlocked
+pub mod SampleLaws

@@ -4,7 +4,7 @@ use Rattle.std.specs.Prelude.{◌⊎◌, Option, None, Some, IfSome, IsSomeAnd}
 use Rattle.pb_outside.specs.Faults.{Rose}
 use Rattle.partsbook.specs.Outside.{Outputs}
 use Rattle.partsbook.specs.RunReply.{RunReply, memory_reply, memory_text}
-use Rattle.partsbook.specs.Tells.{IsTold, IsCut, IsWritten, Tells}
+use Rattle.partsbook.specs.Tells.{IsTold, IsWritten, Tells}
 
 -- the sink failed
 pub record IsFailed (before after : Outputs) (status : ℕ) : Type 0 where

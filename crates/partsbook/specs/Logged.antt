@@ -1,5 +1,5 @@
 -- A report in the log: its findings and the questions that were left, each with the place of its slice.
-use Rattle.std.specs.Prelude.{ℕ, suc, ◌+◌, ◌-◌, Bool, true, false, List, [], ◌∷◌}
+use Rattle.std.specs.Prelude.{ℕ, suc, ◌+◌, ◌-◌, Bool, false, List, [], ◌∷◌}
 use Rattle.findings.specs.Notes.{is_blocking}
 use Rattle.findings.specs.declared.report.Note.{Note as Told}
 use Rattle.findings.specs.declared.report.Note.TheVariants.{Days, Finding as FindingTold, Undecided}

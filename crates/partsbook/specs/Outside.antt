@@ -1,5 +1,5 @@
 -- The outside of a run: what it reads from, and what it writes to.
-use Rattle.std.specs.Prelude.{◌≡◌, ℕ, ◌+◌, List, Option}
+use Rattle.std.specs.Prelude.{◌≡◌, ℕ, ◌+◌, List}
 use Rattle.pb_base.specs.declared.limits.TheConstants.{MOST_TEXT_BYTES}
 use Rattle.pb_outside.specs.Faults.{Fails}
 use Rattle.pb_outside.specs.Source.{SourceTold, ReadsUpTo, LosesFront}

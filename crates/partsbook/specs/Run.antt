@@ -1,20 +1,25 @@
 -- What a run does.
-use Rattle.std.specs.Prelude.{◌≡◌, ◌⊎◌, ℕ, ◌≤◌, Bool, true, false, List, ◌++◌, Option, None, Some, IfSome, IsSomeAnd, IsNone, IsOkAnd, IsTrue, length, take}
+use Rattle.std.specs.Prelude.{◌≡◌, ◌⊎◌, ℕ, ◌≤◌, Bool, true, false, List, ◌++◌, Option, IfSome, IsSomeAnd, IsOkAnd, IsTrue, length, take}
 use Rattle.std.specs.List.{list_any}
 use Rattle.book_model.specs.Sound.{IsReleasable}
 use Rattle.book_text.specs.BookText.{book_of}
 use Rattle.pb_outside.specs.Faults.{Rose, Fails, IsLater}
 use Rattle.pb_outside.specs.Source.{LosesFront}
 use Rattle.pb_outside.specs.Files.{FilesTold}
-use Rattle.partsbook.specs.Words.{command_in}
-use Rattle.partsbook.specs.Outside.{Inputs, Outside, input_limit, ReadsInput, FailsAtInput}
+use Rattle.command_words.specs.Parts.{Words}
+use Rattle.partsbook.specs.Words.{Asks, AsksNothing}
+use Rattle.partsbook.specs.Outside.{Inputs, Outputs, Outside, input_limit, ReadsInput, FailsAtInput}
 use Rattle.partsbook.specs.RunReply.{RunReply, usage_reply, memory_reply, memory_text, read_fault_reply}
 use Rattle.partsbook.specs.Logged.{is_spent}
+use Rattle.partsbook.specs.Sample.{RepliesToSample}
+use Rattle.partsbook.specs.Size.{Size}
 use Rattle.partsbook.specs.Replies.{RepliesTo, FailsAtFile, KeepsFiles, IsValidCommand}
 use Rattle.partsbook.specs.Tells.{IsTold, Tells}
 use Rattle.partsbook.specs.declared.log.Note.{Note}
 use Rattle.partsbook.specs.declared.command.BookCommand.{BookCommand}
 use Rattle.partsbook.specs.declared.command.BookCommand.TheVariants.{Order, Check, Prove, Verify}
+use Rattle.partsbook.specs.declared.command.Task.{Task}
+use Rattle.partsbook.specs.declared.command.Task.TheVariants.{Book, Sample}
 
 -- the reply that is due to a command: to what it read, or to a fault of what it reads from; want of memory is free
 pub data Due (command : BookCommand) (before after : Inputs) (reply : RunReply) : Type 0 where
@@ -50,36 +55,58 @@ pub record AnswersMemory (before after : Outside) (status : ℕ) : Type 0 where
   pub told : Tells memory_reply before.writes after.writes status
   pub untouched : after.reads ≡ before.reads
 
-abbrev pub DoesAsked : Option BookCommand → Outside → Outside → ℕ → Type 0
-DoesAsked None = AnswersUsage
-DoesAsked (Some command) = AnswersBook command
+-- the reply to a sample was told, or memory was wanting
+pub record TellsSample (size : Size) (before after : Outputs) (status : ℕ) : Type 0 where
+  pub reply : RunReply
+  pub due : RepliesToSample size reply ⊎ (reply ≡ memory_reply)
+  pub told : Tells reply before after status
 
--- what the words ask was done
-unfoldable pub Does : List (List ℕ) → Outside → Outside → ℕ → Type 0
-Does words = DoesAsked (command_in words)
+-- a sample was answered, and nothing was read
+pub record AnswersSample (size : Size) (before after : Outside) (status : ℕ) : Type 0 where
+  pub tells : TellsSample size before.writes after.writes status
+  pub untouched : after.reads ≡ before.reads
+
+abbrev pub DoesTask : Task → Outside → Outside → ℕ → Type 0
+DoesTask (Book command) = AnswersBook command
+DoesTask (Sample size) = AnswersSample size
+
+-- whatever the words ask was done, and where they ask for nothing, the usage was told
+pub record Does (words : Words) (before after : Outside) (status : ℕ) : Type 0 where
+  pub asked : (task : Task) → Asks words task → DoesTask task before after status
+  pub nothing : AsksNothing words → AnswersUsage before after status
 
 -- the text, the notes and the status are those of a reply to the words and to what was read
-pub record GivesReply (words : List (List ℕ)) (before after : Outside) (status : ℕ) : Type 0 where
+pub record GivesReply (words : Words) (before after : Outside) (status : ℕ) : Type 0 where
   pub command : BookCommand
   pub input : List ℕ
   pub reply : RunReply
-  pub asked : command_in words ≡ Some command
+  pub asked : Asks words (Book command)
   pub read : ReadsInput before.reads.source after.reads.source input
   pub replies : RepliesTo command input before.reads.files after.reads.files reply
   pub told : IsTold reply before.writes after.writes status
   pub statuses : (status ≤ 1) ⊎ (status ≡ 3) ⊎ (status ≡ 7) ⊎ (status ≡ 8)
+
+-- they are those of a reply to the words alone
+pub record GivesSample (words : Words) (before after : Outside) (status : ℕ) : Type 0 where
+  pub size : Size
+  pub reply : RunReply
+  pub asked : Asks words (Sample size)
+  pub replies : RepliesToSample size reply
+  pub told : IsTold reply before.writes after.writes status
+  pub statuses : (status ≡ 0) ⊎ (status ≡ 7)
 
 -- the source or the files failed
 abbrev pub FailsToReadFrom : Inputs → Inputs → Type 0
 FailsToReadFrom before after = Fails before.source.faults after.source.faults ⊎ Rose before.files.faults.count after.files.faults.count
 
 -- from what each status comes
-pub data IsCaused (words : List (List ℕ)) (before after : Outside) (status : ℕ) : Type 0 where
-  by_words : status ≡ 2 → IsNone (command_in words) → IsCaused words before after status
+pub data IsCaused (words : Words) (before after : Outside) (status : ℕ) : Type 0 where
+  by_words : status ≡ 2 → AsksNothing words → IsCaused words before after status
   by_inputs : status ≡ 4 → FailsToReadFrom before.reads after.reads → IsCaused words before after status
   by_sink : status ≡ 5 → Rose before.writes.sink.faults after.writes.sink.faults → IsCaused words before after status
   by_memory : status ≡ 9 → IsCaused words before after status
   by_reply : GivesReply words before after status → IsCaused words before after status
+  by_sample : GivesSample words before after status → IsCaused words before after status
 
 -- the command asks whether the book can be released
 abbrev pub asks_release : BookCommand → Bool
@@ -89,8 +116,10 @@ asks_release (Prove budget) = true
 asks_release (Verify file) = true
 
 -- the words ask whether the book can be released
-abbrev pub AskRelease : List (List ℕ) → Type 0
-AskRelease words = IsSomeAnd (command_in words) (λ command. IsTrue (asks_release command))
+pub record AskRelease (words : Words) : Type 0 where
+  pub command : BookCommand
+  pub asked : Asks words (Book command)
+  pub whether : IsTrue (asks_release command)
 
 -- the input is a book that can be released: on every day of its term some set of codes is good, and every good set
 -- selects one variant at each mandatory position and nowhere two
@@ -102,13 +131,27 @@ pub record FitsReplies (command : BookCommand) (input : List ℕ) (files : Files
   pub replies : (files' : FilesTold) (reply : RunReply) → RepliesTo command input files files' reply → length reply.text ≤ bytes
   pub memory : length memory_text ≤ bytes
 
--- the words are a command, and neither the input nor a file has a fault
-pub record IsValid (words : List (List ℕ)) (reads : Inputs) : Type 0 where
-  pub command : BookCommand
+-- and for each reply that the sample may have
+pub record FitsSample (size : Size) (bytes : ℕ) : Type 0 where
+  pub replies : (reply : RunReply) → RepliesToSample size reply → length reply.text ≤ bytes
+  pub memory : length memory_text ≤ bytes
+
+-- neither the input nor a file has a fault
+pub record IsValidRead (command : BookCommand) (reads : Inputs) : Type 0 where
   pub input : List ℕ
-  pub asked : command_in words ≡ Some command
   pub given : IsSomeAnd reads.source.left (λ all. input ≡ take input_limit all)
   pub valid : IsValidCommand command input reads.files.files
+
+-- a sample reads nothing
+abbrev pub IsValidTask : Task → Inputs → Type 0
+IsValidTask (Book command) reads = IsValidRead command reads
+IsValidTask (Sample size) reads = Unit {0}
+
+-- the words ask for a task, and what it reads has no fault
+pub record IsValid (words : Words) (reads : Inputs) : Type 0 where
+  pub task : Task
+  pub asked : Asks words task
+  pub valid : IsValidTask task reads
 
 -- no finding keeps the book from its release, but a question was left, of which the log has what was learnt
 pub record IsLeft (before after : Outside) (status : ℕ) : Type 0 where
@@ -128,8 +171,17 @@ pub record IsUnfailing (before after : Outside) : Type 0 where
   pub sink : ¬ Rose before.writes.sink.faults after.writes.sink.faults
 
 -- no call on the source or the files fails from here on, and the sink is sure to take what is due
-pub record IsSure (words : List (List ℕ)) (before : Outside) : Type 0 where
-  pub valid : IsValid words before.reads
+pub record IsSureRead (command : BookCommand) (before : Outside) : Type 0 where
+  pub valid : IsValidRead command before.reads
   pub source : before.reads.source.faults.faultless ≡ true
   pub files : before.reads.files.faults.faultless ≡ true
-  pub room : IsSomeAnd before.writes.sink.room (FitsReplies valid.command valid.input before.reads.files)
+  pub room : IsSomeAnd before.writes.sink.room (FitsReplies command valid.input before.reads.files)
+
+abbrev pub IsSureTask : Task → Outside → Type 0
+IsSureTask (Book command) before = IsSureRead command before
+IsSureTask (Sample size) before = IsSomeAnd before.writes.sink.room (FitsSample size)
+
+pub record IsSure (words : Words) (before : Outside) : Type 0 where
+  pub task : Task
+  pub asked : Asks words task
+  pub sure : IsSureTask task before

@@ -1,5 +1,5 @@
 -- What a run answers: a text, a status, and what the status rests on.
---     status 0     the order is accepted, the book can be released, or the certificate has no fault
+--     status 0     the order is accepted, the book can be released, the certificate has no fault, or the sample is judged
 --     status 1     the order is refused, or unfit, or a finding keeps the book from its release
 --     status 2     the words are of no form
 --     status 3     the book or the order has a fault, or the book exceeds a limit of checking
@@ -38,7 +38,7 @@ pub record RunReply : Type 0 where
   pub notes : List Note
 
 abbrev pub usage_text : List ℕ
-usage_text = codes "usage: order DAY CODE.. | check [--budget N] | prove [--budget N] | verify CERTFILE\n"
+usage_text = codes "usage: order DAY CODE.. | check [--budget N] | prove [--budget N] | verify CERTFILE | sample START CODES ORDERS\n"
 
 abbrev pub usage_reply : RunReply
 usage_reply = record { text = usage_text; status = 2; notes = [] }

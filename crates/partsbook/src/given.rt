@@ -1,9 +1,9 @@
 //! A run with the words that the system gives.
 ghost use Rattle.std.specs.Prelude.{◌≡◌, ◌≢◌, IfOk, IfErr};
 ghost use Rattle.std.specs.IoError.{error_kind};
+ghost use Rattle.command_words.specs.Prepared.{texts_of};
 ghost use Rattle.partsbook.specs.Outside.{outside};
 ghost use Rattle.partsbook.specs.Run.{Does, AnswersUsage, AnswersMemory};
-ghost use Rattle.partsbook.specs.Words.{texts_of};
 
 use crate::log::RunLog;
 use crate::run::run;

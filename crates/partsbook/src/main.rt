@@ -1,4 +1,4 @@
-//! The program: it reads a book from standard input and does what its words ask.
+//! The program: it does what its words ask, mostly of a book that it reads from standard input.
 #![tactic(auto)]
 
 mod budget;
@@ -8,13 +8,15 @@ mod check;
 mod command;
 mod due;
 mod fault_text;
-mod file_name;
 mod given;
 mod judge;
 mod log;
 mod logged;
 mod run;
 mod run_reply;
+mod sample;
+mod sample_size;
+mod tally;
 mod tell;
 #[cfg(test)]
 mod tests;

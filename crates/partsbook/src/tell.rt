@@ -38,7 +38,7 @@ pub fn tell_usage<K: Sink>(sink: &mut K, log: &mut RunLog) -> u8
         IsWritten usage_reply before after result }
 {
     write(
-        b"usage: order DAY CODE.. | check [--budget N] | prove [--budget N] | verify CERTFILE\n",
+        b"usage: order DAY CODE.. | check [--budget N] | prove [--budget N] | verify CERTFILE | sample START CODES ORDERS\n",
         USAGE,
         sink,
         log,
