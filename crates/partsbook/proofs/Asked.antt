@@ -1,16 +1,22 @@
 -- The reply that is due, and what was asked.
-use Rattle.std.proofs.Common.{◌≡◌, ◌≤◌, ℕ, List, refl, sym, subst, inl, inr, drop, arith}
+use Rattle.std.proofs.Common.{◌≡◌, ℕ, List, refl, subst, inl, inr, arith}
 use Rattle.std.specs.Prelude.{Option, None, Some, Result, Ok, Err, IfOk}
 use Rattle.pb_outside.specs.Files.{FilesTold}
 use Rattle.pb_outside.specs.Source.{ReadsUpTo, LosesFront}
-use Rattle.partsbook.specs.Words.{command_in}
-use Rattle.partsbook.specs.Outside.{Inputs, Outputs, Outside, input_limit, ReadsInput}
+use Rattle.command_words.specs.Parts.{Words}
+use Rattle.partsbook.specs.Words.{Asks, AsksNothing}
+use Rattle.pb_base.specs.declared.answer.Fail.TheVariants as fails
+use Rattle.desk_run.specs.declared.end.DeskEnd.TheVariants.{NotStarted}
+use Rattle.partsbook.specs.Outside.{Inputs, Outputs, KeeperTold, Outside, input_limit, ReadsInput}
 use Rattle.partsbook.specs.RunReply.{RunReply, memory_reply, read_fault_reply, due_of}
-use Rattle.partsbook.specs.Replies.{RepliesTo, FailsAtFile, KeepsFiles}
-use Rattle.partsbook.specs.Tells.{IsWritten, Tells}
-use Rattle.partsbook.specs.Run.{Due, answer, source_fault, file_fault, no_memory, AnswersBook, AnswersUsage, DoesAsked, Does}
+use Rattle.partsbook.specs.Replies.{FailsAtFile, KeepsFiles}
+use Rattle.partsbook.specs.Tells.{IsWritten}
+use Rattle.partsbook.specs.Run.{Due, file_fault, no_memory, AnswersUsage, DoesTask, Does}
 use Rattle.partsbook.specs.declared.command.BookCommand.{BookCommand}
 use Rattle.partsbook.specs.declared.command.BookCommand.TheVariants.{Order, Check, Prove, Verify}
+use Rattle.partsbook.specs.declared.command.Task.{Task}
+use Rattle.partsbook.specs.declared.command.Task.TheVariants.{Book, Desk, Sample}
+use Rattle.partsbook.proofs.Tasks.{one_task}
 
 -- files that nobody touched
 pub KeepsFiles-same : (command : BookCommand) (files : FilesTold) → KeepsFiles command files files
@@ -40,29 +46,44 @@ pub Due-of_memory : (command : BookCommand) (before after : Inputs) (input : Lis
     → Due command before after memory_reply
 Due-of_memory command before after input read = no_memory (LosesFront-of_read before.source.left after.source.left input read.text) refl
 
-pub Does-of_book : (words : List (List ℕ)) (command : BookCommand) (before after : Outside) (status : ℕ) → command_in words ≡ Some command
-    → AnswersBook command before after status → Does words before after status
-unfolding Does
-Does-of_book words command before after status asked h = subst (λ (a : Option BookCommand). DoesAsked a before after status) (sym asked) h
+pub Does-of_task : (words : Words) (task : Task) (before after : Outside) (status : ℕ) → Asks words task
+    → DoesTask task before after status → Does words before after status
+Does-of_task words task before after status asks h = record {
+  asked = λ other asked. subst (λ (t : Task). DoesTask t before after status) (one_task words task other asks asked) h;
+  nothing = λ none. absurd (none task asks);
+}
 
-pub Does-of_usage : (words : List (List ℕ)) (before after : Outside) (status : ℕ) → command_in words ≡ None
+pub Does-of_usage : (words : Words) (before after : Outside) (status : ℕ) → AsksNothing words
     → AnswersUsage before after status → Does words before after status
-unfolding Does
-Does-of_usage words before after status asked h = subst (λ (a : Option BookCommand). DoesAsked a before after status) (sym asked) h
+Does-of_usage words before after status none h = record { asked = λ task asks. absurd (none task asks); nothing = λ _. h }
 
 -- memory was wanting before anything was read
-wanting : (asked : Option BookCommand) (reads : Inputs) (writes writes' : Outputs) (status : ℕ) → IsWritten memory_reply writes writes' status
-    → DoesAsked asked (record { reads = reads; writes = writes }) (record { reads = reads; writes = writes' }) status
-wanting None reads writes writes' status h = record { told = inr h; untouched = refl }
-wanting (Some command) reads writes writes' status h = record {
+wanting : (task : Task) (reads : Inputs) (kept : KeeperTold) (writes writes' : Outputs) (status : ℕ) → IsWritten memory_reply writes writes' status
+    → DoesTask task (record { reads = reads; writes = writes; keeper = kept }) (record { reads = reads; writes = writes'; keeper = kept }) status
+wanting (Book command) reads kept writes writes' status h = record {
   reply = memory_reply;
   due = no_memory (LosesFront-none reads.source.left) refl;
   told = inl h;
   source_later = record { never_falls = omega arith; kept = λ k. k };
   files_kept = KeepsFiles-same command reads.files;
+  kept = refl;
 }
+wanting (Desk store) reads kept writes writes' status h = record {
+  how = NotStarted fails.Memory;
+  middle = writes.sink;
+  run = record { cause = tt; link = refl; later = record { never_falls = omega arith; kept = λ k. k } };
+  released = tt;
+  complete = λ sure. inr (inr refl);
+  unfailing = λ orderly unfailing. inr (inr refl);
+  told = h;
+  files = refl;
+}
+wanting (Sample size) reads kept writes writes' status h =
+    record { tells = record { reply = memory_reply; due = inr refl; told = inl h }; nothing = record { untouched = refl; kept = refl } }
 
-pub Does-of_memory : (words : List (List ℕ)) (reads : Inputs) (writes writes' : Outputs) (status : ℕ) → IsWritten memory_reply writes writes' status
-    → Does words (record { reads = reads; writes = writes }) (record { reads = reads; writes = writes' }) status
-unfolding Does
-Does-of_memory words reads writes writes' status h = wanting (command_in words) reads writes writes' status h
+pub Does-of_memory : (words : Words) (reads : Inputs) (kept : KeeperTold) (writes writes' : Outputs) (status : ℕ) → IsWritten memory_reply writes writes' status
+    → Does words (record { reads = reads; writes = writes; keeper = kept }) (record { reads = reads; writes = writes'; keeper = kept }) status
+Does-of_memory words reads kept writes writes' status h = record {
+  asked = λ task _. wanting task reads kept writes writes' status h;
+  nothing = λ _. record { told = inr h; nothing = record { untouched = refl; kept = refl } };
+}

@@ -1,22 +1,30 @@
 -- From what each status comes.
-use Rattle.std.proofs.Common.{◌≡◌, ◌∙◌, ℕ, List, true, false, refl, sym, subst, ap, inl, inr}
-use Rattle.std.specs.Prelude.{◌⊎◌, Option, None, Some, IsNone, is_some}
+use Rattle.std.proofs.Common.{◌≡◌, ◌∙◌, ℕ, List, refl, sym, subst, ap, inl, inr}
+use Rattle.std.specs.Prelude.{◌⊎◌}
 use Rattle.pb_outside.specs.Faults.{Rose}
 use Rattle.pb_outside.specs.Files.{FilesTold}
-use Rattle.partsbook.specs.Words.{command_in}
-use Rattle.partsbook.specs.Outside.{Outside}
-use Rattle.partsbook.specs.RunReply.{RunReply, usage_reply}
+use Rattle.command_words.specs.Parts.{Words}
+use Rattle.partsbook.specs.Size.{Size}
+use Rattle.partsbook.specs.Words.{Asks, AsksNothing}
+use Rattle.pb_base.specs.declared.answer.Fail.TheVariants.{Refused as RefusedStart, Memory as NoMemory}
+use Rattle.pb_outside.specs.Sink.{SinkTold}
+use Rattle.session.specs.declared.end.SessionEnd.TheVariants.{Done, Broken, ReadFault, WriteFault, Memory}
+use Rattle.desk_run.specs.declared.end.DeskEnd.{DeskEnd}
+use Rattle.desk_run.specs.declared.end.DeskEnd.TheVariants.{NotStarted, Served}
+use Rattle.partsbook.specs.Outside.{Outside, outputs}
+use Rattle.partsbook.specs.DeskEnds.{RunsDesk, start_reply}
+use Rattle.partsbook.specs.RunReply.{RunReply, usage_reply, memory_reply, read_fault_reply}
 use Rattle.partsbook.specs.Replies.{FailsAtFile}
 use Rattle.partsbook.specs.Tells.{IsTold}
-use Rattle.partsbook.specs.Run.{Due, answer, source_fault, file_fault, no_memory, AnswersBook, AnswersUsage, DoesAsked, Does, IsCaused, by_words, by_inputs, by_sink, by_memory, by_reply}
+use Rattle.partsbook.specs.Run.{Due, answer, source_fault, file_fault, no_memory, AnswersBook, AnswersSample, AnswersUsage, DoesTask, Does, IsDeskStatus, IsCaused, by_words, by_inputs, by_sink, by_memory, by_reply, by_sample, by_desk}
 use Rattle.partsbook.specs.declared.command.BookCommand.{BookCommand}
 use Rattle.partsbook.specs.declared.command.BookCommand.TheVariants.{Order, Check, Prove, Verify}
-use Rattle.partsbook.proofs.Statuses.{IsReplyStatus, replies-kind}
-use Rattle.partsbook.proofs.Told.{Ends-of_tells}
-
--- words that ask for nothing
-is_none : (asked : Option BookCommand) → asked ≡ None → IsNone asked
-is_none asked e = subst (λ (o : Option BookCommand). is_some o ≡ false) (sym e) refl
+use Rattle.partsbook.specs.declared.command.Task.{Task}
+use Rattle.partsbook.specs.declared.command.Task.TheVariants.{Book, Desk, Sample}
+use Rattle.partsbook.proofs.Statuses.{IsReplyStatus, IsSampleStatus, replies-kind, sample-kind}
+use Rattle.partsbook.proofs.Tasks.{asked_or_nothing}
+use Rattle.partsbook.proofs.Told.{Ends, IsFailed, Ends-of_tells}
+use Rattle.partsbook.proofs.DeskTold.{Ran, ToldFrom, same_count, start_status}
 
 -- files that failed
 pub file_rose : (command : BookCommand) (input : List ℕ) (files files' : FilesTold) → FailsAtFile command input files files' → Rose files.faults.count files'.faults.count
@@ -27,7 +35,7 @@ file_rose (Prove budget) input files files' h = absurd h
 file_rose (Verify file) input files files' h = h.fault.rose
 
 -- a command that was answered
-by_told : (words : List (List ℕ)) (command : BookCommand) (before after : Outside) (status : ℕ) (reply : RunReply) → command_in words ≡ Some command
+by_told : (words : Words) (command : BookCommand) (before after : Outside) (status : ℕ) (reply : RunReply) → Asks words (Book command)
     → Due command before.reads after.reads reply → IsTold reply before.writes after.writes status → IsCaused words before after status
 by_told words command before after status reply asked (answer input read replies) told = by_reply (record {
   command = command;
@@ -43,28 +51,94 @@ by_told words command before after status reply asked (source_fault fails same i
 by_told words command before after status reply asked (file_fault input read fails is) told = by_inputs (told.ends ∙ ap (λ (r : RunReply). r.status) is) (inr (file_rose command input before.reads.files after.reads.files fails))
 by_told words command before after status reply asked (no_memory front is) told = by_memory (told.ends ∙ ap (λ (r : RunReply). r.status) is)
 
-of_book : (words : List (List ℕ)) (command : BookCommand) (before after : Outside) (status : ℕ) → command_in words ≡ Some command
+of_book : (words : Words) (command : BookCommand) (before after : Outside) (status : ℕ) → Asks words (Book command)
     → AnswersBook command before after status → IsCaused words before after status
 of_book words command before after status asked h = elim (Ends-of_tells h.reply before.writes after.writes status h.told) [
   | inl told ↦ by_told words command before after status h.reply asked h.due told
   | inr failed ↦ elim failed [ inl sink ↦ by_sink sink.ends sink.rose | inr nine ↦ by_memory nine ]
 ]
 
-of_usage : (words : List (List ℕ)) (before after : Outside) (status : ℕ) → command_in words ≡ None
-    → AnswersUsage before after status → IsCaused words before after status
-of_usage words before after status asked h = elim (Ends-of_tells usage_reply before.writes after.writes status h.told) [
-  | inl told ↦ by_words told.ends (is_none (command_in words) asked)
+of_sample : (words : Words) (size : Size) (before after : Outside) (status : ℕ) → Asks words (Sample size)
+    → AnswersSample size before after status → IsCaused words before after status
+of_sample words size before after status asked h = elim (Ends-of_tells h.tells.reply before.writes after.writes status h.tells.told) [
+  | inl told ↦ elim h.tells.due [
+    | inl replies ↦ by_sample (record {
+      size = size;
+      reply = h.tells.reply;
+      asked = asked;
+      replies = replies;
+      told = told;
+      statuses = subst IsSampleStatus (sym told.ends) (sample-kind size h.tells.reply replies);
+    })
+    | inr is ↦ by_memory (told.ends ∙ ap (λ (r : RunReply). r.status) is)
+  ]
   | inr failed ↦ elim failed [ inl sink ↦ by_sink sink.ends sink.rose | inr nine ↦ by_memory nine ]
 ]
 
-of_asked : (words : List (List ℕ)) (asked : Option BookCommand) (before after : Outside) (status : ℕ) → command_in words ≡ asked
-    → DoesAsked asked before after status → IsCaused words before after status
-of_asked words None before after status e h = of_usage words before after status e h
-of_asked words (Some command) before after status e h = of_book words command before after status e h
+-- the sink failed, or memory was wanting, when a desk's end was told
+desk_failed : (words : Words) (before after : Outside) (middle : SinkTold) (status : ℕ) → middle.faults ≡ before.writes.sink.faults
+    → IsFailed (outputs middle before.writes.log) after.writes status ⊎ (status ≡ 9) → IsCaused words before after status
+desk_failed words before after middle status same failed = elim failed [
+  | inl sink ↦ by_sink sink.ends (subst (λ (n : ℕ). Rose n after.writes.sink.faults) same sink.rose)
+  | inr nine ↦ by_memory nine
+]
 
-pub Does-caused : (words : List (List ℕ)) (before after : Outside) (status : ℕ) → Does words before after status → IsCaused words before after status
-unfolding Does
-Does-caused words before after status h = of_asked words (command_in words) before after status refl h
+-- a desk's run, by how it ended
+by_end : (how : DeskEnd) (words : Words) (store : List ℕ) (before after : Outside) (status : ℕ) → Asks words (Desk store)
+    → (h : RunsDesk before after status) → h.how ≡ how → Ran how before after h.middle → ToldFrom how before after h.middle status
+    → IsCaused words before after status
+by_end (Served Done) words store before after status asked h e run told =
+    by_desk (record { store = store; asked = asked; runs = h; statuses = subst (λ (k : DeskEnd). IsDeskStatus k status) (sym e) told.ends })
+by_end (Served Broken) words store before after status asked h e run told =
+    by_desk (record { store = store; asked = asked; runs = h; statuses = subst (λ (k : DeskEnd). IsDeskStatus k status) (sym e) told.ends })
+by_end (Served (ReadFault fault)) words store before after status asked h e run told =
+    elim (Ends-of_tells (read_fault_reply 1 fault.before fault.after) (outputs h.middle before.writes.log) after.writes status told) [
+      | inl whole ↦ by_inputs whole.ends (inl run.served.session.counted.fails)
+      | inr failed ↦ desk_failed words before after h.middle status run.served.session.written.count failed
+    ]
+by_end (Served (WriteFault fault)) words store before after status asked h e run told = elim told.notes [
+  | inl noted ↦ by_sink noted.1 (subst (λ (s : SinkTold). Rose before.writes.sink.faults s.faults) (sym told.sink) run.served.session.written.refused.rose)
+  | inr unnoted ↦ by_memory unnoted.1
+]
+by_end (Served Memory) words store before after status asked h e run told = by_memory told.ends
+by_end (NotStarted (RefusedStart fault)) words store before after status asked h e run told =
+    elim (Ends-of_tells (start_reply fault) (outputs h.middle before.writes.log) after.writes status told) [
+      | inl whole ↦ by_desk (record {
+        store = store;
+        asked = asked;
+        runs = h;
+        statuses = subst (λ (k : DeskEnd). IsDeskStatus k status) (sym e) (whole.ends ∙ start_status fault);
+      })
+      | inr failed ↦ desk_failed words before after h.middle status (same_count _ before after h.middle run) failed
+    ]
+by_end (NotStarted NoMemory) words store before after status asked h e run told =
+    elim (Ends-of_tells memory_reply (outputs h.middle before.writes.log) after.writes status (inl told)) [
+      | inl whole ↦ by_memory whole.ends
+      | inr failed ↦ desk_failed words before after h.middle status (same_count _ before after h.middle run) failed
+    ]
+
+of_desk : (words : Words) (store : List ℕ) (before after : Outside) (status : ℕ) → Asks words (Desk store)
+    → RunsDesk before after status → IsCaused words before after status
+of_desk words store before after status asked h = by_end h.how words store before after status asked h refl h.run h.told
+
+of_usage : (words : Words) (before after : Outside) (status : ℕ) → AsksNothing words
+    → AnswersUsage before after status → IsCaused words before after status
+of_usage words before after status none h = elim (Ends-of_tells usage_reply before.writes after.writes status h.told) [
+  | inl told ↦ by_words told.ends none
+  | inr failed ↦ elim failed [ inl sink ↦ by_sink sink.ends sink.rose | inr nine ↦ by_memory nine ]
+]
+
+of_task : (words : Words) (task : Task) (before after : Outside) (status : ℕ) → Asks words task
+    → DoesTask task before after status → IsCaused words before after status
+of_task words (Book command) before after status asked h = of_book words command before after status asked h
+of_task words (Desk store) before after status asked h = of_desk words store before after status asked h
+of_task words (Sample size) before after status asked h = of_sample words size before after status asked h
+
+pub Does-caused : (words : Words) (before after : Outside) (status : ℕ) → Does words before after status → IsCaused words before after status
+Does-caused words before after status h = elim (asked_or_nothing words) [
+  | inl a ↦ of_task words a.task before after status a.asks (h.asked a.task a.asks)
+  | inr none ↦ of_usage words before after status none (h.nothing none)
+]
 
 usage_status : (before after : Outside) (status : ℕ) → AnswersUsage before after status → (status ≡ 2) ⊎ (status ≡ 5) ⊎ (status ≡ 9)
 usage_status before after status h = elim (Ends-of_tells usage_reply before.writes after.writes status h.told) [
@@ -72,12 +146,6 @@ usage_status before after status h = elim (Ends-of_tells usage_reply before.writ
   | inr failed ↦ elim failed [ inl sink ↦ inr (inl sink.ends) | inr nine ↦ inr (inr nine) ]
 ]
 
-asked_usage : (asked : Option BookCommand) (before after : Outside) (status : ℕ) → IsNone asked → DoesAsked asked before after status
+pub Does-usage : (words : Words) (before after : Outside) (status : ℕ) → Does words before after status → AsksNothing words
     → (status ≡ 2) ⊎ (status ≡ 5) ⊎ (status ≡ 9)
-asked_usage None before after status none h = usage_status before after status h
-asked_usage (Some command) before after status none h = let clash : true ≡ false = none in cc
-
-pub Does-usage : (words : List (List ℕ)) (before after : Outside) (status : ℕ) → Does words before after status → IsNone (command_in words)
-    → (status ≡ 2) ⊎ (status ≡ 5) ⊎ (status ≡ 9)
-unfolding Does
-Does-usage words before after status h none = asked_usage (command_in words) before after status none h
+Does-usage words before after status h none = usage_status before after status (h.nothing none)

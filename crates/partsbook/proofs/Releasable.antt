@@ -1,6 +1,6 @@
 -- What says that the book can be released is right.
-use Rattle.std.proofs.Common.{◌≡◌, ◌∙◌, ℕ, true, false, List, Option, None, Some, Result, Ok, Err, refl, sym, subst, ap, arith}
-use Rattle.std.specs.Prelude.{IsOkAnd, IfSome, IsSomeAnd, IsTrue, take}
+use Rattle.std.proofs.Common.{◌≡◌, ◌∙◌, ℕ, true, false, List, Option, None, Some, Result, Ok, Err, refl, sym, subst, ap, inl, inr, arith}
+use Rattle.std.specs.Prelude.{IsOkAnd, IfSome, IsTrue, take}
 use Rattle.book_model.specs.Contents.{Contents}
 use Rattle.book_model.specs.Book.{IsBook}
 use Rattle.book_model.specs.Sound.{IsReleasable}
@@ -21,14 +21,22 @@ use Rattle.findings.specs.declared.report.Verdict.{Verdict}
 use Rattle.findings.specs.declared.report.Verdict.TheVariants.{Releasable, Blocked, Undecided}
 use Rattle.pb_outside.specs.Files.{FilesTold}
 use Rattle.pb_outside.specs.Source.{ReadsUpTo}
-use Rattle.partsbook.specs.Words.{command_in}
+use Rattle.command_words.specs.Parts.{Words}
+use Rattle.pb_outside.specs.Sink.{SinkTold}
+use Rattle.desk_run.specs.declared.end.DeskEnd.{DeskEnd}
+use Rattle.desk_run.specs.declared.end.DeskEnd.TheVariants.{NotStarted, Served}
+use Rattle.desk_run.specs.Released.{HasReleasedBooks}
+use Rattle.partsbook.specs.DeskEnds.{RunsDesk}
 use Rattle.partsbook.specs.Outside.{Outside, input_limit}
 use Rattle.partsbook.specs.RunReply.{RunReply, certified_reply, content_reply, verdict_status, report_reply}
 use Rattle.partsbook.specs.Checks.{IsReported, IsProvedBy, IsProved, RepliesWithin, inquiry, RepliesToCheck, RepliesToProof}
 use Rattle.partsbook.specs.Replies.{RepliesTo, RepliesToVerify}
-use Rattle.partsbook.specs.Run.{GivesReply, IsCaused, by_words, by_inputs, by_sink, by_memory, by_reply, asks_release, AskRelease, IsReleasableInput}
+use Rattle.partsbook.specs.Run.{GivesReply, IsCaused, by_words, by_inputs, by_sink, by_memory, by_reply, by_sample, by_desk, Does, asks_release, AskRelease, IsReleasableInput, AskDesk, KeepsReleased}
 use Rattle.partsbook.specs.declared.command.BookCommand.{BookCommand}
 use Rattle.partsbook.specs.declared.command.BookCommand.TheVariants.{Order, Check, Prove, Verify}
+use Rattle.partsbook.specs.declared.command.Task.TheVariants.{Book, Desk, Sample}
+use Rattle.partsbook.proofs.DeskTold.{Ran, ToldFrom, same_reads, unstarted_status}
+use Rattle.partsbook.proofs.Tasks.{one_task}
 
 -- the status 0 comes with a certificate of the book
 certified-releasable : (b : Contents) (text : List ℕ) (answer : Result Certified CertFault) → cert_answer b text ≡ answer → IsBook b
@@ -96,25 +104,46 @@ of_input : (left left' : Option (List ℕ)) (input : List ℕ) → ReadsUpTo inp
 of_input None left' input read h = tt
 of_input (Some all) left' input read h = subst (λ (i : List ℕ). IsOkAnd (book_of i) IsReleasable) read.0 h
 
-asked_release : (asked : Option BookCommand) (command : BookCommand) → asked ≡ Some command → IsSomeAnd asked (λ c. IsTrue (asks_release c))
-    → IsTrue (asks_release command)
-asked_release asked command e h = subst (λ (a : Option BookCommand). IsSomeAnd a (λ c. IsTrue (asks_release c))) e h
+same_command : (c c' : BookCommand) → Book c ≡ Book c' → c ≡ c'
+same_command c c' e = cc
 
-of_reply : (words : List (List ℕ)) (before after : Outside) → AskRelease words → GivesReply words before after 0
+of_reply : (words : Words) (before after : Outside) → AskRelease words → GivesReply words before after 0
     → IsReleasableInput before.reads.source.left
 of_reply words before after asks h =
+    let same : asks.command ≡ h.command = same_command asks.command h.command (one_task words (Book asks.command) (Book h.command) asks.asked h.asked) in
     of_input before.reads.source.left after.reads.source.left h.input h.read.text
     (command-releasable h.command h.input before.reads.files after.reads.files h.reply
-    (asked_release (command_in words) h.command h.asked asks) h.replies h.told.ends)
+    (subst (λ (c : BookCommand). IsTrue (asks_release c)) same asks.whether) h.replies h.told.ends)
 
-done_released : (words : List (List ℕ)) (before after : Outside) (status : ℕ) → 0 ≡ status → AskRelease words → IsCaused words before after status
+done_released : (words : Words) (before after : Outside) (status : ℕ) → 0 ≡ status → AskRelease words → IsCaused words before after status
     → IsReleasableInput before.reads.source.left
 done_released words before after status done asks (by_words two none) = absurd (omega (arith, done, two))
 done_released words before after status done asks (by_inputs four fails) = absurd (omega (arith, done, four))
 done_released words before after status done asks (by_sink five rose) = absurd (omega (arith, done, five))
 done_released words before after status done asks (by_memory nine) = absurd (omega (arith, done, nine))
 done_released words before after status done asks (by_reply h) = of_reply words before after asks (subst (λ (s : ℕ). GivesReply words before after s) (sym done) h)
+done_released words before after status done asks (by_sample h) =
+    let clash : Book asks.command ≡ Sample h.size = one_task words (Book asks.command) (Sample h.size) asks.asked h.asked in cc
+done_released words before after status done asks (by_desk h) =
+    let clash : Book asks.command ≡ Desk h.store = one_task words (Book asks.command) (Desk h.store) asks.asked h.asked in cc
 
-pub IsCaused-released : (words : List (List ℕ)) (before after : Outside) (status : ℕ) → IsCaused words before after status → status ≡ 0
+pub IsCaused-released : (words : Words) (before after : Outside) (status : ℕ) → IsCaused words before after status → status ≡ 0
     → AskRelease words → IsReleasableInput before.reads.source.left
 IsCaused-released words before after status h done asks = done_released words before after status (sym done) asks h
+
+-- what a desk keeps that was started
+by_end : (how : DeskEnd) (before after : Outside) (middle : SinkTold) (status : ℕ) → Ran how before after middle
+    → HasReleasedBooks how after.keeper.rows → ToldFrom how before after middle status → after.reads.files ≡ before.reads.files
+    → KeepsReleased before after status
+by_end (Served end) before after middle status run released told files = inl released
+by_end (NotStarted why) before after middle status run released told files = inr (record {
+  untouched = same_reads why before after middle run files;
+  statuses = unstarted_status why before after middle status told;
+})
+
+desk_released : (before after : Outside) (status : ℕ) → RunsDesk before after status → KeepsReleased before after status
+desk_released before after status h = by_end h.how before after h.middle status h.run h.released h.told h.files
+
+pub Does-released : (words : Words) (before after : Outside) (status : ℕ) → Does words before after status → AskDesk words
+    → KeepsReleased before after status
+Does-released words before after status does asks = desk_released before after status (does.asked (Desk asks.store) asks.asked)

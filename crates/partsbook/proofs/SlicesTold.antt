@@ -1,5 +1,5 @@
 -- A right report tells of as many slices as the book has, and so of no more than 64.
-use Rattle.std.proofs.Common.{◌≡◌, ◌≤◌, ℕ, suc, ◌+◌, List, [], ◌∷◌, ◌++◌, length, refl, ap, ◌∙◌, arith}
+use Rattle.std.proofs.Common.{◌≡◌, ◌≤◌, suc, ◌+◌, List, [], ◌∷◌, ◌++◌, length, refl, ap, ◌∙◌, arith}
 use Rattle.book_model.specs.declared.record.Slice.{Slice}
 use Rattle.clausify.specs.Coded.{slice_asked}
 use Rattle.clausify.specs.declared.question.Asked.{Asked}

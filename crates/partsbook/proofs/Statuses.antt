@@ -29,7 +29,9 @@ use Rattle.partsbook.specs.Logged.{logged_behind, is_spent}
 use Rattle.partsbook.specs.RunReply.{RunReply, outcome_status, judged_reply, order_reply, certified_reply, content_reply}
 use Rattle.partsbook.specs.RunReply.{verdict_status, report_reply}
 use Rattle.partsbook.specs.Checks.{IsReported, IsProvedBy, IsProved, RepliesWithin, inquiry, RepliesToCheck, RepliesToProof}
-use Rattle.partsbook.specs.Replies.{IsCertificate, HasCertificate, IsValidCommand, RepliesTo, RepliesToFile, RepliesToVerify}
+use Rattle.partsbook.specs.Sample.{RepliesToSample}
+use Rattle.partsbook.specs.Size.{Size}
+use Rattle.partsbook.specs.Replies.{IsCertificate, HasCertificate, IsValidCommand, RepliesTo, RepliesToVerify}
 use Rattle.partsbook.specs.declared.command.BookCommand.{BookCommand}
 use Rattle.partsbook.specs.declared.command.BookCommand.TheVariants.{Order, Check, Prove, Verify}
 
@@ -102,6 +104,16 @@ replies-kind (Order day ordered) input files files' reply h = same-kind _ reply 
 replies-kind (Check budget) input files files' reply h = check-kind (book_of input) budget reply h.is_answer
 replies-kind (Prove budget) input files files' reply h = proof-kind (book_of input) budget reply h.is_answer
 replies-kind (Verify file) input files files' reply h = verify-kind (book_of input) file files files' reply h
+
+-- the statuses of replies to a sample
+abbrev pub IsSampleStatus : ℕ → Type 0
+IsSampleStatus status = (status ≡ 0) ⊎ (status ≡ 7)
+
+pub sample-kind : (size : Size) (reply : RunReply) → RepliesToSample size reply → IsSampleStatus reply.status
+sample-kind size reply h = elim h.answer [
+  | inl released ↦ inl (ap (λ (r : RunReply). r.status) released.answer)
+  | inr left ↦ inr (ap (λ (r : RunReply). r.status) left.answer)
+]
 
 judged-status : (b : Contents) (fault : Option OrderFault) (outcome : Outcome) → fault ≡ None → (judged_reply b (unless fault (Ok outcome))).status ≤ 1
 judged-status b fault outcome e = subst (λ (f : Option OrderFault). (judged_reply b (unless f (Ok outcome))).status ≤ 1) (sym e) (outcome_status-le outcome)
@@ -200,3 +212,19 @@ valid-answered (Check budget) input files files' reply v h = check-answered (boo
 valid-answered (Prove budget) input files files' reply v h = proof-answered (book_of input) budget reply v.no_fault v.limits h.is_answer
 valid-answered (Verify file) input files files' reply v h =
     inl (verify-status (book_of input) file files files' reply v.book v.certificate h)
+
+left_by_verdict : (fault left : Bool) → (if fault then Blocked else (if left then Undecided else Releasable)) ≡ Undecided → left ≡ true
+left_by_verdict true left e = cc
+left_by_verdict false true e = refl
+left_by_verdict false false e = cc
+
+-- a sample is answered
+pub sample-answered : (size : Size) (reply : RunReply) → RepliesToSample size reply → IsAnswered reply
+sample-answered size reply h = elim h.answer [
+  | inl released ↦ inl (same-status _ reply released.answer (omega arith))
+  | inr left ↦ inr (record {
+    ends = ap (λ (r : RunReply). r.status) left.answer;
+    spent = ap (λ (r : RunReply). list_any is_spent r.notes) left.answer ∙ spent-logged 0 left.report
+        ∙ left_by_verdict (list_any is_fault left.report) (list_any is_left left.report) left.undecided;
+  })
+]

@@ -4,7 +4,7 @@ use Rattle.std.specs.Prelude.{◌⊎◌, Option, None, Some, IfSome, IsSomeAnd}
 use Rattle.pb_outside.specs.Faults.{Rose}
 use Rattle.partsbook.specs.Outside.{Outputs}
 use Rattle.partsbook.specs.RunReply.{RunReply, memory_reply, memory_text}
-use Rattle.partsbook.specs.Tells.{IsTold, IsCut, IsWritten, Tells}
+use Rattle.partsbook.specs.Tells.{IsTold, IsWritten, Tells}
 
 -- the sink failed
 pub record IsFailed (before after : Outputs) (status : ℕ) : Type 0 where
@@ -38,7 +38,7 @@ no_room : (room : Option ℕ) (text : List ℕ) → IsSomeAnd room (λ bytes. le
 no_room None text fits full = fits
 no_room (Some bytes) text fits full = omega (arith, fits, full)
 
-written_whole : (reply : RunReply) (before after : Outputs) (status : ℕ) → IsSomeAnd before.sink.room (λ bytes. length reply.text ≤ bytes)
+pub written_whole : (reply : RunReply) (before after : Outputs) (status : ℕ) → IsSomeAnd before.sink.room (λ bytes. length reply.text ≤ bytes)
     → IsWritten reply before after status → IsTold reply before after status
 written_whole reply before after status fits h = elim h [
   | inl told ↦ told

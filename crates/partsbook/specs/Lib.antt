@@ -1,3 +1,4 @@
+pub mod Size
 pub mod Words
 pub mod CertText
 pub mod Outside
@@ -5,5 +6,7 @@ pub mod Logged
 pub mod RunReply
 pub mod Checks
 pub mod Replies
+pub mod Sample
 pub mod Tells
+pub mod DeskEnds
 pub mod Run

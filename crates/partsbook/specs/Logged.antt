@@ -1,10 +1,10 @@
 -- A report in the log: its findings and the questions that were left, each with the place of its slice.
-use Rattle.std.specs.Prelude.{ℕ, suc, ◌+◌, ◌-◌, Bool, true, false, List, [], ◌∷◌}
+use Rattle.std.specs.Prelude.{ℕ, suc, ◌+◌, ◌-◌, Bool, false, List, [], ◌∷◌}
 use Rattle.findings.specs.Notes.{is_blocking}
 use Rattle.findings.specs.declared.report.Note.{Note as Told}
 use Rattle.findings.specs.declared.report.Note.TheVariants.{Days, Finding as FindingTold, Undecided}
 use Rattle.partsbook.specs.declared.log.Note.{Note}
-use Rattle.partsbook.specs.declared.log.Note.TheVariants.{Text, Order, Limit, Refused, Unfit, Finding, Spent, Cert, Count}
+use Rattle.partsbook.specs.declared.log.Note.TheVariants.{Text, Order, Limit, Refused, Unfit, Finding, Spent, Cert, BadRow, Count}
 
 -- the same of notes before which so many slices were told; a note is of the last of them
 abbrev pub logged_behind : ℕ → List Told → List Note
@@ -33,4 +33,5 @@ is_spent (Unfit position count) = false
 is_spent (Finding slice question set) = false
 is_spent (Spent slice question learnt) = is_blocking question
 is_spent (Cert fault) = false
+is_spent (BadRow table place) = false
 is_spent (Count which before after) = false

@@ -1,10 +1,11 @@
--- The outside of a run: what it reads from, and what it writes to.
+-- The outside of a run: what it reads from, what it writes to, and what keeps the rows of its desk.
 use Rattle.std.specs.Prelude.{◌≡◌, ℕ, ◌+◌, List, Option}
 use Rattle.pb_base.specs.declared.limits.TheConstants.{MOST_TEXT_BYTES}
-use Rattle.pb_outside.specs.Faults.{Fails}
+use Rattle.pb_outside.specs.Faults.{Faults, Fails}
 use Rattle.pb_outside.specs.Source.{SourceTold, ReadsUpTo, LosesFront}
 use Rattle.pb_outside.specs.Sink.{SinkTold}
 use Rattle.pb_outside.specs.Files.{FilesTold}
+use Rattle.keeper.specs.Rows.{Kept}
 use Rattle.partsbook.specs.declared.log.Note.{Note}
 
 pub record Inputs : Type 0 where
@@ -15,9 +16,15 @@ pub record Outputs : Type 0 where
   pub sink : SinkTold
   pub log : List Note
 
+-- the rows that are kept, where the keeper tells them, and its faults
+pub record KeeperTold : Type 0 where
+  pub rows : Option Kept
+  pub faults : Faults
+
 pub record Outside : Type 0 where
   pub reads : Inputs
   pub writes : Outputs
+  pub keeper : KeeperTold
 
 abbrev pub inputs : SourceTold → FilesTold → Inputs
 inputs source files = record { source = source; files = files }
@@ -25,8 +32,11 @@ inputs source files = record { source = source; files = files }
 abbrev pub outputs : SinkTold → List Note → Outputs
 outputs sink log = record { sink = sink; log = log }
 
-abbrev pub outside : SourceTold → FilesTold → SinkTold → List Note → Outside
-outside source files sink log = record { reads = inputs source files; writes = outputs sink log }
+abbrev pub keeps : Option Kept → Faults → KeeperTold
+keeps rows faults = record { rows = rows; faults = faults }
+
+abbrev pub outside : SourceTold → FilesTold → SinkTold → List Note → KeeperTold → Outside
+outside source files sink log keeper = record { reads = inputs source files; writes = outputs sink log; keeper = keeper }
 
 -- one byte more than a book's text may have shows that it is too large
 abbrev pub input_limit : ℕ

@@ -1,5 +1,5 @@
 -- What a command that reads a book is answered. A further command has a line in each of the four definitions at the end.
-use Rattle.std.specs.Prelude.{◌≡◌, ℕ, List, Option, None, Some, Result, Ok, Err, IsOk, IfOk, IsSomeAnd, IsTrue, nat_le, length}
+use Rattle.std.specs.Prelude.{◌≡◌, ℕ, List, Option, None, Result, Ok, Err, IsOk, IfOk, IsSomeAnd, IsTrue, nat_le, length}
 use Rattle.pb_base.specs.declared.limits.TheConstants.{MOST_CERT_BYTES}
 use Rattle.book_model.specs.Contents.{Contents}
 use Rattle.book_text.specs.BookText.{book_of}

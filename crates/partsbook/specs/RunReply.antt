@@ -1,13 +1,17 @@
 -- What a run answers: a text, a status, and what the status rests on.
---     status 0     the order is accepted, the book can be released, or the certificate has no fault
+--     status 0     the order is accepted, the book can be released, the certificate has no fault, the sample is judged, or
+--                  the desk served its link to the end
 --     status 1     the order is refused, or unfit, or a finding keeps the book from its release
 --     status 2     the words are of no form
---     status 3     the book or the order has a fault, or the book exceeds a limit of checking
+--     status 3     the book or the order has a fault, or the book exceeds a limit of checking, or a message of the desk's link
+--                  was refused or cut
 --     status 4     the source or the files failed
+--     status 5     the sink failed
+--     status 6     the desk was not started: its keeper failed, or a row that is kept is not right
 --     status 7     no finding keeps the book from its release, but a question was left
 --     status 8     the certificate has a fault
 --     status 9     want of memory
-use Rattle.std.specs.Prelude.{ℕ, List, [], ◌∷◌, Option, None, Some, Result, Ok, Err, codes}
+use Rattle.std.specs.Prelude.{ℕ, List, [], ◌∷◌, ◌++◌, Option, None, Some, Result, Ok, Err, codes}
 use Rattle.book_model.specs.Contents.{Contents}
 use Rattle.book_model.specs.declared.slicing.LimitFault.{LimitFault}
 use Rattle.book_text.specs.declared.fault.BookFault.{BookFault}
@@ -25,12 +29,13 @@ use Rattle.findings.specs.declared.report.Note.{Note as Told}
 use Rattle.findings.specs.declared.report.Verdict.{Verdict}
 use Rattle.findings.specs.declared.report.Verdict.TheVariants.{Releasable, Blocked, Undecided}
 use Rattle.order_text.specs.OutcomeText.{outcome_text}
+use Rattle.desk_words.specs.Lines.{line, number_behind}
 use Rattle.pb_reports.specs.ReportText.{report_text}
 use Rattle.partsbook.specs.CertText.{cert_fault_text, verified_text}
 use Rattle.partsbook.specs.Logged.{logged}
 use Rattle.partsbook.specs.declared.log.Note.{Note}
 use Rattle.partsbook.specs.declared.log.Note.TheVariants.{Text as TextNote, Order as OrderNote, Limit as LimitNote}
-use Rattle.partsbook.specs.declared.log.Note.TheVariants.{Refused as RefusedNote, Unfit as UnfitNote, Cert as CertNote, Count as CountNote}
+use Rattle.partsbook.specs.declared.log.Note.TheVariants.{Refused as RefusedNote, Unfit as UnfitNote, Cert as CertNote, BadRow as BadRowNote, Count as CountNote}
 
 pub record RunReply : Type 0 where
   pub text : List ℕ
@@ -38,7 +43,7 @@ pub record RunReply : Type 0 where
   pub notes : List Note
 
 abbrev pub usage_text : List ℕ
-usage_text = codes "usage: order DAY CODE.. | check [--budget N] | prove [--budget N] | verify CERTFILE\n"
+usage_text = codes "usage: order DAY CODE.. | check [--budget N] | prove [--budget N] | verify CERTFILE | desk STORE | sample START CODES ORDERS\n"
 
 abbrev pub usage_reply : RunReply
 usage_reply = record { text = usage_text; status = 2; notes = [] }
@@ -55,6 +60,17 @@ memory_text = codes "want of memory\n"
 
 abbrev pub memory_reply : RunReply
 memory_reply = record { text = memory_text; status = 9; notes = [] }
+
+-- the keeper failed while the desk was started; with its counts of faults
+abbrev pub store_fault_reply : ℕ → ℕ → RunReply
+store_fault_reply before after = record { text = codes "store fault\n"; status = 6; notes = CountNote 4 before after ∷ [] }
+
+abbrev pub bad_row_text : ℕ → ℕ → List ℕ
+bad_row_text table place = line (codes "bad row" ++ number_behind table ++ number_behind place)
+
+-- this is the first row that is not right
+abbrev pub bad_row_reply : ℕ → ℕ → RunReply
+bad_row_reply table place = record { text = bad_row_text table place; status = 6; notes = BadRowNote table place ∷ [] }
 
 abbrev pub book_fault_reply : BookFault → RunReply
 book_fault_reply fault = record { text = book_fault_text fault; status = 3; notes = TextNote fault ∷ [] }

@@ -1,67 +1,58 @@
--- What the words of a command line ask for.
---     order DAY CODE..      the order of these codes on this day
---     check [--budget N]    what is wrong with the book
---     prove [--budget N]    a certificate that the book can be released, or what keeps it from its release
---     verify CERTFILE       the check of the certificate in this file
-use Rattle.std.specs.Prelude.{ℕ, Bool, true, not, ◌&&◌, ◌==◌, List, [], ◌∷◌, Option, None, Some, String, map, take, drop, nat_le, string_bytes, codes, if◌then◌else◌}
-use Rattle.std.specs.Option.{option_map, option_and_then}
-use Rattle.std.specs.List.{list_all}
-use Rattle.std.specs.declared.alloc.Global.{Global}
-use Rattle.pb_base.specs.Names.{same_name, is_code_name}
-use Rattle.pb_base.specs.Digits.{number_within, short_number}
-use Rattle.partsbook.specs.declared.budget.TheConstants.{MOST_BUDGET, DEFAULT_BUDGET}
-use Rattle.partsbook.specs.declared.command.BookCommand.{BookCommand}
+-- What the words of a command line ask of this program.
+--     order DAY CODE..              the order of these codes on this day
+--     check [--budget N]            what is wrong with the book
+--     prove [--budget N]            a certificate that the book can be released, or what keeps it from its release
+--     verify CERTFILE               the check of the certificate in this file
+--     desk STORE                    the order desk over the rows that this store keeps
+--     sample START CODES ORDERS     the release of the generated book of this size, and what its orders come to
+-- The words of these forms, and of those that the program doesn't have, are those of command_words.
+use Rattle.std.specs.Prelude.{◌≡◌, ◌<◌, ◌≤◌, ℕ, List, Option, None, Some}
+use Rattle.book_sample.specs.Law.{MaySample}
+use Rattle.command_words.specs.Meaning.{IsForm}
+use Rattle.command_words.specs.Parts.{Words}
+use Rattle.command_words.specs.declared.command.Command.{Command}
+use Rattle.command_words.specs.declared.command.Command.TheVariants as commands
+use Rattle.partsbook.specs.declared.budget.TheConstants.{MOST_BUDGET}
 use Rattle.partsbook.specs.declared.command.BookCommand.TheVariants.{Order, Check, Prove, Verify}
+use Rattle.partsbook.specs.declared.command.Task.{Task}
+use Rattle.partsbook.specs.declared.command.Task.TheVariants.{Book, Desk, Sample}
 
--- the bytes of some words
-abbrev pub texts_of : List (String Global) → List (List ℕ)
-texts_of words = map string_bytes words
+-- the command that has the task
+abbrev pub form_of : Task → Command
+form_of (Book (Order day ordered)) = commands.Order day ordered
+form_of (Book (Check budget)) = commands.Check budget
+form_of (Book (Prove budget)) = commands.Prove budget
+form_of (Book (Verify file)) = commands.Verify file
+form_of (Desk store) = commands.Desk store
+form_of (Sample size) = commands.Sample size.start size.codes size.orders
 
-abbrev pub codes_in : List (List ℕ) → Option (List (List ℕ))
-codes_in texts = if list_all is_code_name texts then Some texts else None
+-- the words ask for the task
+abbrev pub Asks : Words → Task → Type 0
+Asks words task = IsForm words (form_of task)
 
--- a day is 1 to 5 digits
-abbrev pub order_in : List (List ℕ) → Option BookCommand
-order_in [] = None
-order_in (day ∷ names) = option_and_then (λ on. option_map (λ ordered. Order on ordered) (codes_in names)) (short_number day)
+-- the words are of no form of this program
+abbrev pub AsksNothing : Words → Type 0
+AsksNothing words = (task : Task) → Asks words task → ⊥
 
--- how many clauses may be learnt for a question: 1 to 10 digits, and a number in its range
-abbrev pub within_budget : ℕ → Option ℕ
-within_budget number = if nat_le 1 number && nat_le number MOST_BUDGET then Some number else None
+-- the words ask for this task, or for nothing
+abbrev pub Means : Words → Option Task → Type 0
+Means words None = AsksNothing words
+Means words (Some task) = Asks words task
 
-abbrev pub budget_of : List ℕ → Option ℕ
-budget_of text = option_and_then within_budget (number_within 10 text)
+-- the task of a command, or none where the program doesn't have the command
+abbrev pub IsTaskOf : Command → Option Task → Type 0
+IsTaskOf command None = (task : Task) → form_of task ≡ command → ⊥
+IsTaskOf command (Some task) = form_of task ≡ command
 
--- a word `--budget=N`
-abbrev pub budget_word : List ℕ → Option ℕ
-budget_word word = if same_name (take 9 word) (codes "--budget=") then budget_of (drop 9 word) else None
+abbrev pub IsBudget : ℕ → Type 0
+IsBudget clauses = (0 < clauses) × (clauses ≤ MOST_BUDGET)
 
--- no word, `--budget=N`, or `--budget N`
-abbrev pub budget_in : List (List ℕ) → Option ℕ
-budget_in [] = Some DEFAULT_BUDGET
-budget_in (word ∷ []) = budget_word word
-budget_in (word ∷ number ∷ []) = if same_name word (codes "--budget") then budget_of number else None
-budget_in (word ∷ number ∷ further ∷ words) = None
-
--- a word that begins with `-` names no file
-abbrev pub is_file_name : List ℕ → Bool
-is_file_name [] = true
-is_file_name (b ∷ bs) = not (b == 45)
-
-abbrev pub verify_in : List (List ℕ) → Option BookCommand
-verify_in [] = None
-verify_in (file ∷ []) = if is_file_name file then Some (Verify file) else None
-verify_in (file ∷ word ∷ words) = None
-
--- by the first word
-abbrev pub named_command : List ℕ → List (List ℕ) → Option BookCommand
-named_command name words =
-    if same_name name (codes "order") then order_in words
-    else (if same_name name (codes "check") then option_map Check (budget_in words)
-    else (if same_name name (codes "prove") then option_map Prove (budget_in words)
-    else (if same_name name (codes "verify") then verify_in words else None)))
-
--- the command that the words ask for, or none where they are of no form
-unfoldable pub command_in : List (List ℕ) → Option BookCommand
-command_in [] = None
-command_in (name ∷ words) = named_command name words
+-- the numbers of a command are in their ranges
+abbrev pub InRange : Command → Type 0
+InRange (commands.Order day ordered) = Unit {0}
+InRange (commands.Check budget) = IsBudget budget
+InRange (commands.Prove budget) = IsBudget budget
+InRange (commands.Verify file) = Unit {0}
+InRange (commands.Desk store) = Unit {0}
+InRange (commands.Serve store port workers links) = Unit {0}
+InRange (commands.Sample start codes orders) = MaySample codes

@@ -1,15 +1,13 @@
 //! How many clauses may be learnt for one question.
 ghost use Rattle.std.specs.Prelude.{◌≡◌, ◌<◌, ◌≤◌};
-ghost use Rattle.partsbook.specs.Words.{budget_of};
 
-use pb_base::number_within;
 use std::marker::Model;
 
 /// The most clauses that may be learnt for one question.
-pub const MOST_BUDGET: u64 = 50_000;
+pub const MOST_BUDGET: u32 = 50_000;
 
-/// The budget of a command whose words name none.
-pub const DEFAULT_BUDGET: u32 = 10_000;
+/// The budget of each question of a release.
+pub const RELEASE_BUDGET: u32 = 10_000;
 
 /// So many clauses may be learnt for one question before it is left: 1 to 50,000.
 #[derive(Drop)]
@@ -29,26 +27,13 @@ impl Model for Budget {
 }
 
 impl Budget {
-    /// The budget of a command whose words name none.
-    pub fn usual() -> Budget
-        ensures { result ≡ DEFAULT_BUDGET }
+    /// So many clauses.
+    pub fn of(clauses: u32) -> Budget
+        requires some { 0 < clauses }
+        requires most { clauses ≤ MOST_BUDGET }
+        ensures { result ≡ clauses }
     {
-        Budget {
-            clauses: DEFAULT_BUDGET,
-        }
-    }
-
-    /// The number that 1 to 10 digits write, or None where it is out of its range or the text is another.
-    pub fn of(text: &[u8]) -> Option<Budget>
-        ensures { result ≡ budget_of text.now }
-    {
-        let number = number_within(text, 10)?;
-        if number < 1 || MOST_BUDGET < number {
-            return None;
-        }
-        Some(Budget {
-            clauses: number as u32,
-        })
+        Budget { clauses }
     }
 
     /// The number of clauses.

@@ -8,12 +8,12 @@ ghost use Rattle.partsbook.specs.RunReply.{cert_fault_reply, certified_reply, co
 ghost use Rattle.partsbook.specs.Replies.{RepliesToFile, RepliesToVerify, FailsAtCertificate, ReadsFiles};
 
 use crate::cert_text::{cert_fault_text, verified_text};
-use crate::file_name::FileName;
 use crate::judge::book_fault_reply;
 use crate::log::Note;
 use crate::run_reply::RunReply;
 use book_model::Book;
 use book_text::read_book;
+use command_words::FileName;
 use derivation::{CertFault, CertKind, check_cert};
 use pb_base::limits::MOST_CERT_BYTES;
 use pb_base::{Fail, Memory};

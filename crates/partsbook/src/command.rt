@@ -1,7 +1,8 @@
-//! The commands of the program.
+//! What a command line asks of the program.
 
 use crate::budget::Budget;
-use crate::file_name::FileName;
+use crate::sample_size::SampleSize;
+use command_words::FileName;
 use pb_base::{CodeList, Day};
 
 /// What a command line asks of the book that is read.
@@ -15,4 +16,15 @@ pub enum BookCommand {
     Prove { budget: Budget },
     /// Whether the certificate in this file shows that the book can be released.
     Verify { file: FileName },
+}
+
+/// What a command line asks of the program.
+#[derive(Drop)]
+pub enum Task {
+    /// An answer to the book that is read.
+    Book(BookCommand),
+    /// The order desk over the rows that this store keeps. It answers the messages that are read.
+    Desk { store: FileName },
+    /// The release of a generated book, and what its orders come to.
+    Sample(SampleSize),
 }

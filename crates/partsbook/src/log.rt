@@ -11,7 +11,7 @@ use pb_base::{CodeSet, Memory};
 use std::alloc::Global;
 use std::marker::Model;
 
-/// One thing that a status rests on. Places count from 0.
+/// One thing that a status rests on. Places in a book count from 0.
 #[derive(Drop)]
 pub enum Note {
     /// The text of the book has this fault.
@@ -42,7 +42,14 @@ pub enum Note {
     },
     /// The certificate has this fault.
     Cert(CertFault),
-    /// The count of faults of an object that was handed in rose: 1 for the source, 2 for the files, 3 for the sink.
+    /// A row that is kept is not right: its table, 0 form, 1 drafts, 2 books, 3 orders, 4 withdrawn, and its place in it, from
+    /// 1, or 0 for the form.
+    BadRow {
+        table: u32,
+        place: u32,
+    },
+    /// The count of faults of an object that was handed in rose: 1 for the source, 2 for the files, 3 for the sink, 4 for the
+    /// keeper.
     Count {
         which: u8,
         before: u64,

@@ -1,4 +1,4 @@
-//! The program: it reads a book from standard input and does what its words ask.
+//! The program: it does what its words ask, mostly of a book that it reads from standard input.
 #![tactic(auto)]
 
 mod budget;
@@ -6,15 +6,19 @@ mod cert_text;
 mod certify;
 mod check;
 mod command;
+mod desk;
 mod due;
 mod fault_text;
-mod file_name;
 mod given;
 mod judge;
 mod log;
 mod logged;
 mod run;
+mod run_end;
 mod run_reply;
+mod sample;
+mod sample_size;
+mod tally;
 mod tell;
 #[cfg(test)]
 mod tests;
@@ -22,6 +26,8 @@ mod words;
 
 use crate::given::run_given;
 use crate::log::RunLog;
+use keeper_sql::SqlKeeper;
+use pb_gate::NoGate;
 use pb_outside::{StreamSink, StreamSource, SystemFiles};
 use std::process::ExitCode;
 use std::{env, io};
@@ -33,7 +39,20 @@ fn main(rt: HostRuntime) -> ExitCode {
     let mut files = SystemFiles::new(&rt);
     let mut log = RunLog::new(alloc);
     let words = given_words(&rt);
-    ExitCode::from(run_given(alloc, words, &mut source, &mut sink, &mut files, &mut log))
+    let keeper = SqlKeeper::new(rt);
+    let end = run_given(
+        alloc,
+        words,
+        &mut source,
+        &mut sink,
+        &mut files,
+        keeper,
+        &NoGate,
+        &mut log,
+    );
+    // What a store that can't be closed has in its log is there for the next run, so the status stays what it is.
+    let _closed = end.keeper.close();
+    ExitCode::from(end.status)
 }
 
 // The words after the program's name.

@@ -1,7 +1,8 @@
 //! Writes a run's text and gives its status.
 ghost use Rattle.std.specs.Prelude.{[]};
 ghost use Rattle.partsbook.specs.Outside.{outputs};
-ghost use Rattle.partsbook.specs.RunReply.{RunReply, usage_reply, memory_reply};
+ghost use Rattle.partsbook.specs.RunReply.{RunReply, usage_reply, memory_reply, due_of};
+ghost use Rattle.partsbook.specs.DeskEnds.{NotesSink};
 ghost use Rattle.partsbook.specs.Tells.{IsWritten, Tells};
 
 use crate::log::{Note, RunLog};
@@ -31,6 +32,18 @@ pub fn tell<K: Sink>(reply: RunReply, sink: &mut K, log: &mut RunLog) -> u8
     }
 }
 
+/// Tells a reply, or that memory is wanting where it could not be made.
+pub fn tell_made<K: Sink>(reply: Result<RunReply, Memory>, sink: &mut K, log: &mut RunLog) -> u8
+    ensures { let before = outputs (K.output sink.old) log.old in
+        let after = outputs (K.output sink.new) log.new in
+        Tells (due_of reply) before after result }
+{
+    match reply {
+        Ok(reply) => tell(reply, sink, log),
+        Err(Memory) => tell_want_of_memory(sink, log),
+    }
+}
+
 /// Tells how the program is called. This takes no memory.
 pub fn tell_usage<K: Sink>(sink: &mut K, log: &mut RunLog) -> u8
     ensures { let before = outputs (K.output sink.old) log.old in
@@ -38,7 +51,7 @@ pub fn tell_usage<K: Sink>(sink: &mut K, log: &mut RunLog) -> u8
         IsWritten usage_reply before after result }
 {
     write(
-        b"usage: order DAY CODE.. | check [--budget N] | prove [--budget N] | verify CERTFILE\n",
+        b"usage: order DAY CODE.. | check [--budget N] | prove [--budget N] | verify CERTFILE | desk STORE | sample START CODES ORDERS\n",
         USAGE,
         sink,
         log,
@@ -66,10 +79,18 @@ fn write<K: Sink>(text: &[u8], status: u8, sink: &mut K, log: &mut RunLog) -> u8
     if sink.write(text).is_ok() {
         return status;
     }
+    note_write_fault(before, sink.write_faults(), log)
+}
+
+/// Notes that the sink failed, with its counts of faults, and gives the status of a write fault, or of want of memory for the
+/// note.
+pub fn note_write_fault(before: u64, after: u64, log: &mut RunLog) -> u8
+    ensures { NotesSink before after log.old log.new result }
+{
     let note = Note::Count {
         which: SINK,
         before,
-        after: sink.write_faults(),
+        after,
     };
     match log.push(note) {
         Ok(()) => WRITE_FAULT,

@@ -15,8 +15,10 @@ use crate::log::RunLog;
 use crate::run::run;
 use book_model::Book;
 use book_text::read_book;
+use keeper::{MemoryKeeper, Rows};
 use pb_base::{Memory, Text, number_within};
-use pb_outside::{MemoryFiles, MemorySink, MemorySource, NamedFile};
+use pb_gate::NoGate;
+use pb_outside::{Files, MemoryFiles, MemorySink, MemorySource, NamedFile, Sink, Source};
 use std::alloc::Global;
 use std::process::Abort;
 use std::test::Fail;
@@ -39,7 +41,7 @@ variant,V1,P1,A100,1,M1,,\n\
 variant,V2,P1,A200,1,M2,,";
 
 const USAGE: &str =
-    "usage: order DAY CODE.. | check [--budget N] | prove [--budget N] | verify CERTFILE\n";
+    "usage: order DAY CODE.. | check [--budget N] | prove [--budget N] | verify CERTFILE | desk STORE | sample START CODES ORDERS\n";
 
 // The book of a text that says one.
 fn book_of(alloc: Global, text: &[u8]) -> Result<Book, Fail> {
@@ -67,33 +69,83 @@ fn unfolded(alloc: Global, field: &[u8]) -> Result<Vec<u8>, Fail> {
     Ok(text)
 }
 
-// What a run leaves: its status, what the sink took, and the log.
+// No call has this number.
+const NEVER: u64 = 99;
+
+// What a run leaves: its status, what the sink took, the log, the counts of faults of the source, the files and the sink, and
+// how many bytes the source gives next, of at most nine.
 #[derive(Drop)]
 struct Left {
     status: u8,
     text: Vec<u8>,
     log: RunLog,
+    faults: (u64, u64, u64),
+    rest: usize,
 }
 
-// What a run with these words leaves for this input, where these files are there.
+// A keeper in which nothing was ever kept.
+pub fn no_rows(alloc: Global) -> MemoryKeeper {
+    MemoryKeeper::new(
+        Rows {
+            form: 0,
+            drafts: Vec::new(alloc),
+            books: Vec::new(alloc),
+            orders: Vec::new(alloc),
+            withdrawn: Vec::new(alloc),
+        },
+        Vec::new(alloc),
+    )
+}
+
+// What a run with these words leaves for this input, where these files are there, and the calls of these numbers on the
+// source, the files and the sink fail.
 fn run_on(
     alloc: Global,
     input: Vec<u8>,
     files: Vec<NamedFile>,
     words: &[u8],
+    fails: (u64, u64, u64),
 ) -> Result<Left, Fail> {
     let Ok(words) = str::from_utf8(words) else {
         return Err("words are text".into());
     };
     let all = words_of(alloc, words)?;
     let pieces = [7, 0, 1000].to_vec(alloc)?;
-    let mut source = MemorySource::new(input, pieces, Vec::new(alloc));
-    let mut sink = MemorySink::new(alloc, 9999, Vec::new(alloc))?;
-    let mut files = MemoryFiles::new(files, Vec::new(alloc));
+    let mut source = MemorySource::new(input, pieces, [fails.0].to_vec(alloc)?);
+    let mut files = MemoryFiles::new(files, [fails.1].to_vec(alloc)?);
+    let mut sink = MemorySink::new(alloc, 9999, [fails.2].to_vec(alloc)?)?;
     let mut log = RunLog::new(alloc);
-    let status = run(alloc, &all, &mut source, &mut sink, &mut files, &mut log);
+    let end = run(
+        alloc,
+        &all,
+        &mut source,
+        &mut sink,
+        &mut files,
+        no_rows(alloc),
+        &NoGate,
+        &mut log,
+    );
+    let faults = (source.read_faults(), files.faults(), sink.write_faults());
+    let mut next = Vec::new(alloc);
+    let rest = source.read(&mut next, 9).unwrap_or(0);
     let text = sink.taken().to_vec(alloc)?;
-    Ok(Left { status, text, log })
+    Ok(Left {
+        status: end.status,
+        text,
+        log,
+        faults,
+        rest,
+    })
+}
+
+// The field at this place of a row, counted from 0.
+fn field(row: &[u8], place: usize) -> &[u8] {
+    for (at, text) in row.split(|b| *b == b'~').enumerate() {
+        if at == place {
+            return text;
+        }
+    }
+    b"no such field"
 }
 
 // The text of a field, and where it has several, parted by `@`, the one that was found, or the last.
@@ -119,32 +171,34 @@ fn answers(
     status: &[u8],
     output: &[u8],
 ) -> Result<RunLog, Fail> {
-    let left = run_on(alloc, input, files, words)?;
+    let left = run_on(alloc, input, files, words, (NEVER, NEVER, NEVER))?;
     let want = wanted(alloc, output, &left.text)?;
     assert_eq!(rt; left.text.as_slice(), want.as_slice());
     assert_eq!(rt; Some(u64::from(left.status)), number_within(status, 1));
     Ok(left.log)
 }
 
-// Asserts a row `TEXT~WORDS~STATUS~OUTPUT` of a table, over this text with that of the row behind it.
-fn row_answers(rt: &impl Abort, alloc: Global, front: &[u8], row: &[u8]) -> Result<(), Fail> {
-    let mut fields = row.split(|b| *b == b'~');
-    let (Some(text), Some(words)) = (fields.next(), fields.next()) else {
-        return Err("a text and words".into());
-    };
-    let (Some(status), Some(output)) = (fields.next(), fields.next()) else {
-        return Err("a status and an output".into());
-    };
-    let mut input = front.to_vec(alloc)?;
-    input.append(&mut unfolded(alloc, text)?)?;
+// Asserts the words, the status and the output that stand in a row from this field on, for this input.
+fn row_answers(
+    rt: &impl Abort,
+    alloc: Global,
+    input: Vec<u8>,
+    row: &[u8],
+    from: usize,
+) -> Result<(), Fail> {
+    let words = field(row, from);
+    let status = field(row, from + 1);
+    let output = field(row, from + 2);
     answers(rt, alloc, input, Vec::new(alloc), words, status, output)?;
     Ok(())
 }
 
-// Asserts each row of such a table.
+// Asserts each row `TEXT~WORDS~STATUS~OUTPUT` of a table, over this text with that of the row behind it.
 fn table_answers(rt: &impl Abort, alloc: Global, front: &[u8], table: &[u8]) -> Result<(), Fail> {
     for row in table.split(|b| *b == b'\n') {
-        row_answers(rt, alloc, front, row)?;
+        let mut input = front.to_vec(alloc)?;
+        input.append(&mut unfolded(alloc, field(row, 0))?)?;
+        row_answers(rt, alloc, input, row, 1)?;
     }
     Ok(())
 }
@@ -164,25 +218,11 @@ fn engine_with(alloc: Global, place: &[u8], line: &[u8], end: &[u8]) -> Result<V
     Ok(text)
 }
 
-// Asserts a row `PLACE~LINE~WORDS~STATUS~OUTPUT` of a table, over the engine book with that line at that place.
-fn engine_row_answers(rt: &impl Abort, alloc: Global, end: &[u8], row: &[u8]) -> Result<(), Fail> {
-    let mut fields = row.split(|b| *b == b'~');
-    let (Some(place), Some(line)) = (fields.next(), fields.next()) else {
-        return Err("a place and a line".into());
-    };
-    let (Some(words), Some(status), Some(output)) = (fields.next(), fields.next(), fields.next())
-    else {
-        return Err("words, a status and an output".into());
-    };
-    let input = engine_with(alloc, place, line, end)?;
-    answers(rt, alloc, input, Vec::new(alloc), words, status, output)?;
-    Ok(())
-}
-
-// Asserts each row of a table over the engine book.
+// Asserts each row `PLACE~LINE~WORDS~STATUS~OUTPUT` of a table, over the engine book with that line at that place.
 fn engine_answers(rt: &impl Abort, alloc: Global, end: &[u8], table: &[u8]) -> Result<(), Fail> {
     for row in table.split(|b| *b == b'\n') {
-        engine_row_answers(rt, alloc, end, row)?;
+        let input = engine_with(alloc, field(row, 0), field(row, 1), end)?;
+        row_answers(rt, alloc, input, row, 2)?;
     }
     Ok(())
 }
@@ -245,17 +285,20 @@ const ORDERS: &[u8] = b"99~~order 1 M1~0~accepted^codes M1 G5^MOT,P1,A100,1^\n\
 99~~order 1001 M1~3~order fault 1^\n\
 99~~order 1 M1 XX~3~order fault 2 2^\n\
 99~~order 1 M1 M1~3~order fault 3 2^\n\
+99~~order 1 -- M1~0~accepted^codes M1 G5^MOT,P1,A100,1^\n\
 7~~order 1 M1 M2~1~unfit P1 2^\n\
 10~~order 1 M1~1~refused C3^\n\
 12~position,P1,,mandatory,,~order 1 M1~0~accepted^codes M1 G5^-,P1,A100,1^\n\
 12~position,P1,MOT,optional,,^variant,V0,P1,A050,7,AC,,~order 1 M1 AC~1~unfit P1 2^";
 
-// Words that are of no form.
+// Words that are of no form of this program.
 const FORMLESS: &[u8] = b"order\n\
 order x M1\n\
 order 000001 M1\n\
 order 1 TRUE\n\
-order 1 -- M1\n\
+-- order 1 M1\n\
+order 1 -- -M1\n\
+order 1 -- --\n\
 offer 1 M1\n\
 check 5\n\
 check --budget\n\
@@ -268,7 +311,18 @@ prove --budget=\n\
 prove --budget 5 T\n\
 verify\n\
 verify -C\n\
-verify C D";
+verify C D\n\
+serve S 8080 1 1\n\
+sample 1 8\n\
+sample 1 10 3\n\
+sample 1 2004 3\n\
+sample 1 8 10001";
+
+// Generated books and their orders. In a book of 60 codes no rule binds a code.
+const SAMPLES: &[u8] =
+    b"~sample 1 8 3~0~sample 1 8 3^codes 8 rules 12 variants 8^released^accepted 3 refused 0 parts 6^\n\
+~sample 007 8 0~0~sample 7 8 0^codes 8 rules 12 variants 8^released^accepted 0 refused 0 parts 0^\n\
+~sample 7 60 1000~0~sample 7 60 1000^codes 60 rules 90 variants 60^released^accepted 1000 refused 0 parts 15000^";
 
 // The form of the text: a byte order mark, a padded row, and the first fault.
 const FORMS: &[u8] =
@@ -295,23 +349,18 @@ fn orders_against_the_engine_book(rt: HostRuntime) -> Result<(), Fail> {
 #[test]
 fn words_of_no_form(rt: HostRuntime) -> Result<(), Fail> {
     let alloc = rt.alloc();
+    let usage = USAGE.as_bytes();
     for words in FORMLESS.split(|b| *b == b'\n') {
         let none = Vec::new(alloc);
-        answers(
-            &rt,
-            alloc,
-            none,
-            Vec::new(alloc),
-            words,
-            b"2",
-            USAGE.as_bytes(),
-        )?;
+        answers(&rt, alloc, none, Vec::new(alloc), words, b"2", usage)?;
     }
     Ok(())
 }
 
 #[test]
-fn rules_that_supplement_by_rank(rt: HostRuntime) -> Result<(), Fail> {
+fn ranks_and_samples(rt: HostRuntime) -> Result<(), Fail> {
+    let alloc = rt.alloc();
     let front = b"book,U,1,10\ncode,A,\ncode,B,\ncode,C,\n";
-    table_answers(&rt, rt.alloc(), front, RANKS)
+    table_answers(&rt, alloc, front, RANKS)?;
+    table_answers(&rt, alloc, b"", SAMPLES)
 }

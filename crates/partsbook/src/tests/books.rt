@@ -133,15 +133,8 @@ fn orders_against_a_book_at_every_limit(rt: HostRuntime) -> Result<(), Fail> {
     put_rows(&mut want, 0, 100, b"-,", b",Y,1\n")?;
     let input = full.bytes().to_vec(alloc)?;
     let words = b"order 9 B A";
-    answers(
-        &rt,
-        alloc,
-        input,
-        Vec::new(alloc),
-        words,
-        b"0",
-        want.bytes(),
-    )?;
+    let none = Vec::new(alloc);
+    answers(&rt, alloc, input, none, words, b"0", want.bytes())?;
     Ok(())
 }
 

@@ -1,10 +1,9 @@
 //! The answers of `run` to certificates of the engine book.
 
-use super::{ENGINE, answers, text_with};
+use super::{ENGINE, answers, field, text_with};
 use pb_base::{Memory, Text, number_within};
 use pb_outside::NamedFile;
 use std::alloc::Global;
-use std::process::Abort;
 use std::test::Fail;
 
 // The certificate of the engine book: the two questions of its position are closed by the clauses 21 and 22.
@@ -65,25 +64,22 @@ const NEAR: &[u8] = b"9~~0~verified T slices 1 steps 2^\n\
 7~~8~certificate fault 8 1^\n\
 8~~8~certificate fault 9 1^";
 
-fn near_row_answers(rt: &impl Abort, alloc: Global, row: &[u8]) -> Result<(), Fail> {
-    let mut fields = row.split(|b| *b == b'~');
-    let (Some(front), Some(line)) = (fields.next(), fields.next()) else {
-        return Err("a number of lines and a line".into());
-    };
-    let (Some(status), Some(output)) = (fields.next(), fields.next()) else {
-        return Err("a status and an output".into());
-    };
-    let front = number_within(front, 1).ok_or("a number of lines")?;
-    let files = file_c(alloc, certificate_to(alloc, front, line)?)?;
-    let input = ENGINE.to_vec(alloc)?;
-    answers(rt, alloc, input, files, b"verify C", status, output)?;
-    Ok(())
-}
-
 #[test]
 fn certificates_near_to_the_right_one(rt: HostRuntime) -> Result<(), Fail> {
+    let alloc = rt.alloc();
     for row in NEAR.split(|b| *b == b'\n') {
-        near_row_answers(&rt, rt.alloc(), row)?;
+        let front = number_within(field(row, 0), 1).ok_or("a number of lines")?;
+        let files = file_c(alloc, certificate_to(alloc, front, field(row, 1))?)?;
+        let input = ENGINE.to_vec(alloc)?;
+        answers(
+            &rt,
+            alloc,
+            input,
+            files,
+            b"verify C",
+            field(row, 2),
+            field(row, 3),
+        )?;
     }
     Ok(())
 }
@@ -107,15 +103,8 @@ fn limits_of_certificates(rt: HostRuntime) -> Result<(), Fail> {
     let alloc = rt.alloc();
     let long = file_c(alloc, vec![in alloc; b'x'; 67_108_865]?)?;
     let input = ENGINE.to_vec(alloc)?;
-    answers(
-        &rt,
-        alloc,
-        input,
-        long,
-        b"verify C",
-        b"8",
-        b"certificate fault 0 8^",
-    )?;
+    let fault = b"certificate fault 0 8^";
+    answers(&rt, alloc, input, long, b"verify C", b"8", fault)?;
     let none = file_c(alloc, Vec::new(alloc))?;
     let input = many_slices(alloc)?.bytes().to_vec(alloc)?;
     let fault = b"certificate fault 0 9 limit slices 65^";

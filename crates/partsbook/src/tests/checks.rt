@@ -2,13 +2,14 @@
 
 use super::certificates::{file_c, many_slices};
 use super::outside::notes_of;
-use super::{ENGINE, answers, engine_answers, run_on, text_with};
+use super::{ENGINE, NEVER, answers, engine_answers, run_on, text_with};
 use std::alloc::Global;
 use std::process::Abort;
 use std::test::Fail;
 
 // Checks of the engine book, and of it with other lines: a rule left out, a gap of a day between two variants, and no gap.
 const CHECKS: &[u8] = b"99~~check~0~book T 1 1000^slice 1 1000^end releasable^\n\
+99~~check --budget=0010000~0~book T 1 1000^slice 1 1000^end releasable^\n\
 99~~check --budget=1~0~book T 1 1000^slice 1 1000^end releasable^\n\
 7~~check --budget 50000~1~book T 1 1000^slice 1 1000^ambiguous P1 V1 V2 with M1 M2 G5^end blocked^@\
 book T 1 1000^slice 1 1000^ambiguous P1 V1 V2 with M1 M2 G7^end blocked^@\
@@ -93,19 +94,10 @@ fn checks_that_are_left_and_that_find(rt: HostRuntime) -> Result<(), Fail> {
 fn limits_of_checks(rt: HostRuntime) -> Result<(), Fail> {
     let alloc = rt.alloc();
     let input = many_slices(alloc)?.bytes().to_vec(alloc)?;
-    let log = answers(
-        &rt,
-        alloc,
-        input,
-        Vec::new(alloc),
-        b"check",
-        b"3",
-        b"limit slices 65^",
-    )?;
-    assert_eq!(rt;
-        notes_of(alloc, &log)?.bytes(),
-        b"limit slices 65\n".as_slice()
-    );
+    let none = Vec::new(alloc);
+    let log = answers(&rt, alloc, input, none, b"check", b"3", b"limit slices 65^")?;
+    let note: &[u8] = b"limit slices 65\n";
+    assert_eq!(rt; notes_of(alloc, &log)?.bytes(), note);
     let input = text_with(alloc, 1, b"FFFFFFFFFFF")?.bytes().to_vec(alloc)?;
     let fault = b"limit questions 0 221114^";
     answers(&rt, alloc, input, Vec::new(alloc), b"prove", b"3", fault)?;
@@ -115,10 +107,17 @@ fn limits_of_checks(rt: HostRuntime) -> Result<(), Fail> {
 #[test]
 fn what_is_proved_is_verified(rt: HostRuntime) -> Result<(), Fail> {
     let alloc = rt.alloc();
-    let proved = run_on(alloc, ENGINE.to_vec(alloc)?, Vec::new(alloc), b"prove")?;
+    let fails = (NEVER, NEVER, NEVER);
+    let proved = run_on(
+        alloc,
+        ENGINE.to_vec(alloc)?,
+        Vec::new(alloc),
+        b"prove",
+        fails,
+    )?;
     assert_eq!(rt; (proved.status, proved.log.notes().len()), (0, 0));
     let files = file_c(alloc, proved.text)?;
-    let verified = run_on(alloc, ENGINE.to_vec(alloc)?, files, b"verify C")?;
+    let verified = run_on(alloc, ENGINE.to_vec(alloc)?, files, b"verify C", fails)?;
     assert_eq!(rt; verified.status, 0);
     assert!(rt; verified.text.starts_with(b"verified T slices 1 steps "));
     Ok(())

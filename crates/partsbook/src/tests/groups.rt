@@ -1,9 +1,9 @@
 //! The answers of `run` to a book of form 2, whose constructibility rules are groups of codes.
 
-use super::{answers, unfolded};
-use pb_outside::NamedFile;
+use super::certificates::file_c;
+use super::{answers, field, row_answers, unfolded};
+use pb_base::Text;
 use std::alloc::Global;
-use std::process::Abort;
 use std::test::Fail;
 
 // A book of two engines and two gears, of which a group each demands exactly one.
@@ -64,27 +64,13 @@ fn grouped_with(alloc: Global, old: &[u8], new: &[u8]) -> Result<Vec<u8>, Fail> 
     Ok(text)
 }
 
-// Asserts a row of a table.
-fn row_answers(rt: &impl Abort, alloc: Global, row: &[u8]) -> Result<(), Fail> {
-    let mut fields = row.split(|b| *b == b'~');
-    let (Some(old), Some(new)) = (fields.next(), fields.next()) else {
-        return Err("a line and another".into());
-    };
-    let (Some(words), Some(status), Some(output)) = (fields.next(), fields.next(), fields.next())
-    else {
-        return Err("words, a status and an output".into());
-    };
-    let input = grouped_with(alloc, old, new)?;
-    answers(rt, alloc, input, Vec::new(alloc), words, status, output)?;
-    Ok(())
-}
-
 #[test]
 fn orders_against_groups(rt: HostRuntime) -> Result<(), Fail> {
     let alloc = rt.alloc();
     for table in [ORDERS, FAULTS] {
         for row in table.split(|b| *b == b'\n') {
-            row_answers(&rt, alloc, row)?;
+            let input = grouped_with(alloc, field(row, 0), field(row, 1))?;
+            row_answers(&rt, alloc, input, row, 2)?;
         }
     }
     Ok(())
@@ -93,50 +79,40 @@ fn orders_against_groups(rt: HostRuntime) -> Result<(), Fail> {
 #[test]
 fn a_group_too_many(rt: HostRuntime) -> Result<(), Fail> {
     let alloc = rt.alloc();
-    let mut text = b"book,T,1,1,2\ncode,A,\ncode,B,\n".to_vec(alloc)?;
-    for place in 0_u32..1001 {
-        let number = place.to_string(alloc)?;
-        for piece in ["group,G", &number, ",most,A/B,,\n"] {
-            text.extend_from_slice(piece.as_bytes())?;
-        }
+    let mut text = Text::new(alloc);
+    text.put(b"book,T,1,1,2\ncode,A,\ncode,B,\n")?;
+    for place in 0_u64..1001 {
+        text.put(b"group,G")?;
+        text.put_number(place)?;
+        text.put(b",most,A/B,,\n")?;
     }
-    let output = b"book fault 1004 13 groups^";
-    answers(
-        &rt,
-        alloc,
-        text,
-        Vec::new(alloc),
-        b"order 1 A",
-        b"3",
-        output,
-    )?;
-    Ok(())
+    let input = text.bytes().to_vec(alloc)?;
+    let row = b"order 1 A~3~book fault 1004 13 groups^";
+    row_answers(&rt, alloc, input, row, 0)
 }
 
+// What stands behind the front: a right certificate, and a step that takes the first of two pairs of codes for the second.
+const OVER_GROUPS: &[u8] =
+    b"step 6 -0 9 -1 10^close 13 15^step 5 +0 12 +1 13^close 14 16^end^~0~verified T slices 1 steps 2^\n\
+step 8 -0 9 -1 10^close 13 15^end^~8~certificate fault 5 4^";
+
 #[test]
-fn a_certificate_over_groups(rt: HostRuntime) -> Result<(), Fail> {
+fn certificates_over_groups(rt: HostRuntime) -> Result<(), Fail> {
     let alloc = rt.alloc();
-    // A step that takes the first of two pairs of codes for the second is at fault.
-    for (rest, status, output) in [
-        (
-            "step 6 -0 9 -1 10\nclose 13 15\nstep 5 +0 12 +1 13\nclose 14 16\nend\n",
-            b"0",
-            "verified T slices 1 steps 2^",
-        ),
-        (
-            "step 8 -0 9 -1 10\nclose 13 15\nend\n",
-            b"8",
-            "certificate fault 5 4^",
-        ),
-    ] {
+    for row in OVER_GROUPS.split(|b| *b == b'\n') {
         let mut content = FRONT.to_vec(alloc)?;
-        content.extend_from_slice(rest.as_bytes())?;
-        let name = String::from_str(alloc, "C")?;
-        let mut files = Vec::new(alloc);
-        files.push(NamedFile { name, content })?;
+        content.append(&mut unfolded(alloc, field(row, 0))?)?;
+        let files = file_c(alloc, content)?;
         let input = GROUPED.to_vec(alloc)?;
-        let want = output.as_bytes();
-        answers(&rt, alloc, input, files, b"verify C", status, want)?;
+        answers(
+            &rt,
+            alloc,
+            input,
+            files,
+            b"verify C",
+            field(row, 1),
+            field(row, 2),
+        )?;
     }
     Ok(())
 }

@@ -1,5 +1,5 @@
 use Rattle.partsbook.proofs.Caused.{Does-caused, Does-usage}
-use Rattle.partsbook.proofs.Releasable.{IsCaused-released}
+use Rattle.partsbook.proofs.Releasable.{IsCaused-released, Does-released}
 use Rattle.partsbook.proofs.Sure.{Does-sure, Does-unfailing}
 use Rattle.partsbook.proofs.run.run.Goals as goal
 
@@ -11,6 +11,9 @@ returns-clause-usage g c = Does-usage _ _ _ _ c.do_words.ensures
 
 pub returns-clause-released : goal.returns-clause-released
 returns-clause-released g c = IsCaused-released _ _ _ _ (Does-caused _ _ _ _ c.do_words.ensures)
+
+pub returns-clause-kept_released : goal.returns-clause-kept_released
+returns-clause-kept_released g c = Does-released _ _ _ _ c.do_words.ensures
 
 pub returns-clause-complete : goal.returns-clause-complete
 returns-clause-complete g c = Does-sure _ _ _ _ c.do_words.ensures
