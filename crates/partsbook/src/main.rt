@@ -1,31 +1,7 @@
 //! The program: it does what its words ask, mostly of a book that it reads from standard input.
 #![tactic(auto)]
 
-mod budget;
-mod cert_text;
-mod certify;
-mod check;
-mod command;
-mod desk;
-mod due;
-mod fault_text;
-mod given;
-mod judge;
-mod log;
-mod logged;
-mod run;
-mod run_end;
-mod run_reply;
-mod sample;
-mod sample_size;
-mod tally;
-mod tell;
-#[cfg(test)]
-mod tests;
-mod words;
-
-use crate::given::run_given;
-use crate::log::RunLog;
+use commands::{RunLog, run_given};
 use keeper_sql::SqlKeeper;
 use pb_gate::NoGate;
 use pb_outside::{StreamSink, StreamSource, SystemFiles};

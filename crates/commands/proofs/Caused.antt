@@ -1,0 +1,151 @@
+-- From what each status comes.
+use Rattle.std.proofs.Common.{◌≡◌, ◌∙◌, ℕ, List, refl, sym, subst, ap, inl, inr}
+use Rattle.std.specs.Prelude.{◌⊎◌}
+use Rattle.pb_outside.specs.Faults.{Rose}
+use Rattle.pb_outside.specs.Files.{FilesTold}
+use Rattle.command_words.specs.Parts.{Words}
+use Rattle.commands.specs.Size.{Size}
+use Rattle.commands.specs.Words.{Asks, AsksNothing}
+use Rattle.pb_base.specs.declared.answer.Fail.TheVariants.{Refused as RefusedStart, Memory as NoMemory}
+use Rattle.pb_outside.specs.Sink.{SinkTold}
+use Rattle.session.specs.declared.end.SessionEnd.TheVariants.{Done, Broken, ReadFault, WriteFault, Memory}
+use Rattle.desk_run.specs.declared.end.DeskEnd.{DeskEnd}
+use Rattle.desk_run.specs.declared.end.DeskEnd.TheVariants.{NotStarted, Served}
+use Rattle.commands.specs.Outside.{Outside, outputs}
+use Rattle.commands.specs.DeskEnds.{RunsDesk, start_reply}
+use Rattle.commands.specs.RunReply.{RunReply, usage_reply, memory_reply, read_fault_reply}
+use Rattle.commands.specs.Replies.{FailsAtFile}
+use Rattle.commands.specs.Tells.{IsTold}
+use Rattle.commands.specs.Run.{Due, answer, source_fault, file_fault, no_memory, AnswersBook, AnswersSample, AnswersUsage, DoesTask, Does, IsDeskStatus, IsCaused, by_words, by_inputs, by_sink, by_memory, by_reply, by_sample, by_desk}
+use Rattle.commands.specs.declared.command.BookCommand.{BookCommand}
+use Rattle.commands.specs.declared.command.BookCommand.TheVariants.{Order, Check, Prove, Verify}
+use Rattle.commands.specs.declared.command.Task.{Task}
+use Rattle.commands.specs.declared.command.Task.TheVariants.{Book, Desk, Sample}
+use Rattle.commands.proofs.Statuses.{IsReplyStatus, IsSampleStatus, replies-kind, sample-kind}
+use Rattle.commands.proofs.Tasks.{asked_or_nothing}
+use Rattle.commands.proofs.Told.{Ends, IsFailed, Ends-of_tells}
+use Rattle.commands.proofs.DeskTold.{Ran, ToldFrom, same_count, start_status}
+
+-- files that failed
+pub file_rose : (command : BookCommand) (input : List ℕ) (files files' : FilesTold) → FailsAtFile command input files files' → Rose files.faults.count files'.faults.count
+unfolding FailsAtFile
+file_rose (Order day ordered) input files files' h = absurd h
+file_rose (Check budget) input files files' h = absurd h
+file_rose (Prove budget) input files files' h = absurd h
+file_rose (Verify file) input files files' h = h.fault.rose
+
+-- a command that was answered
+by_told : (words : Words) (command : BookCommand) (before after : Outside) (status : ℕ) (reply : RunReply) → Asks words (Book command)
+    → Due command before.reads after.reads reply → IsTold reply before.writes after.writes status → IsCaused words before after status
+by_told words command before after status reply asked (answer input read replies) told = by_reply (record {
+  command = command;
+  input = input;
+  reply = reply;
+  asked = asked;
+  read = read;
+  replies = replies;
+  told = told;
+  statuses = subst IsReplyStatus (sym told.ends) (replies-kind command input before.reads.files after.reads.files reply replies);
+})
+by_told words command before after status reply asked (source_fault fails same is) told = by_inputs (told.ends ∙ ap (λ (r : RunReply). r.status) is) (inl fails.fault)
+by_told words command before after status reply asked (file_fault input read fails is) told = by_inputs (told.ends ∙ ap (λ (r : RunReply). r.status) is) (inr (file_rose command input before.reads.files after.reads.files fails))
+by_told words command before after status reply asked (no_memory front is) told = by_memory (told.ends ∙ ap (λ (r : RunReply). r.status) is)
+
+of_book : (words : Words) (command : BookCommand) (before after : Outside) (status : ℕ) → Asks words (Book command)
+    → AnswersBook command before after status → IsCaused words before after status
+of_book words command before after status asked h = elim (Ends-of_tells h.reply before.writes after.writes status h.told) [
+  | inl told ↦ by_told words command before after status h.reply asked h.due told
+  | inr failed ↦ elim failed [ inl sink ↦ by_sink sink.ends sink.rose | inr nine ↦ by_memory nine ]
+]
+
+of_sample : (words : Words) (size : Size) (before after : Outside) (status : ℕ) → Asks words (Sample size)
+    → AnswersSample size before after status → IsCaused words before after status
+of_sample words size before after status asked h = elim (Ends-of_tells h.tells.reply before.writes after.writes status h.tells.told) [
+  | inl told ↦ elim h.tells.due [
+    | inl replies ↦ by_sample (record {
+      size = size;
+      reply = h.tells.reply;
+      asked = asked;
+      replies = replies;
+      told = told;
+      statuses = subst IsSampleStatus (sym told.ends) (sample-kind size h.tells.reply replies);
+    })
+    | inr is ↦ by_memory (told.ends ∙ ap (λ (r : RunReply). r.status) is)
+  ]
+  | inr failed ↦ elim failed [ inl sink ↦ by_sink sink.ends sink.rose | inr nine ↦ by_memory nine ]
+]
+
+-- the sink failed, or memory was wanting, when a desk's end was told
+desk_failed : (words : Words) (before after : Outside) (middle : SinkTold) (status : ℕ) → middle.faults ≡ before.writes.sink.faults
+    → IsFailed (outputs middle before.writes.log) after.writes status ⊎ (status ≡ 9) → IsCaused words before after status
+desk_failed words before after middle status same failed = elim failed [
+  | inl sink ↦ by_sink sink.ends (subst (λ (n : ℕ). Rose n after.writes.sink.faults) same sink.rose)
+  | inr nine ↦ by_memory nine
+]
+
+-- a desk's run, by how it ended
+by_end : (how : DeskEnd) (words : Words) (store : List ℕ) (before after : Outside) (status : ℕ) → Asks words (Desk store)
+    → (h : RunsDesk before after status) → h.how ≡ how → Ran how before after h.middle → ToldFrom how before after h.middle status
+    → IsCaused words before after status
+by_end (Served Done) words store before after status asked h e run told =
+    by_desk (record { store = store; asked = asked; runs = h; statuses = subst (λ (k : DeskEnd). IsDeskStatus k status) (sym e) told.ends })
+by_end (Served Broken) words store before after status asked h e run told =
+    by_desk (record { store = store; asked = asked; runs = h; statuses = subst (λ (k : DeskEnd). IsDeskStatus k status) (sym e) told.ends })
+by_end (Served (ReadFault fault)) words store before after status asked h e run told =
+    elim (Ends-of_tells (read_fault_reply 1 fault.before fault.after) (outputs h.middle before.writes.log) after.writes status told) [
+      | inl whole ↦ by_inputs whole.ends (inl run.served.session.counted.fails)
+      | inr failed ↦ desk_failed words before after h.middle status run.served.session.written.count failed
+    ]
+by_end (Served (WriteFault fault)) words store before after status asked h e run told = elim told.notes [
+  | inl noted ↦ by_sink noted.1 (subst (λ (s : SinkTold). Rose before.writes.sink.faults s.faults) (sym told.sink) run.served.session.written.refused.rose)
+  | inr unnoted ↦ by_memory unnoted.1
+]
+by_end (Served Memory) words store before after status asked h e run told = by_memory told.ends
+by_end (NotStarted (RefusedStart fault)) words store before after status asked h e run told =
+    elim (Ends-of_tells (start_reply fault) (outputs h.middle before.writes.log) after.writes status told) [
+      | inl whole ↦ by_desk (record {
+        store = store;
+        asked = asked;
+        runs = h;
+        statuses = subst (λ (k : DeskEnd). IsDeskStatus k status) (sym e) (whole.ends ∙ start_status fault);
+      })
+      | inr failed ↦ desk_failed words before after h.middle status (same_count _ before after h.middle run) failed
+    ]
+by_end (NotStarted NoMemory) words store before after status asked h e run told =
+    elim (Ends-of_tells memory_reply (outputs h.middle before.writes.log) after.writes status (inl told)) [
+      | inl whole ↦ by_memory whole.ends
+      | inr failed ↦ desk_failed words before after h.middle status (same_count _ before after h.middle run) failed
+    ]
+
+of_desk : (words : Words) (store : List ℕ) (before after : Outside) (status : ℕ) → Asks words (Desk store)
+    → RunsDesk before after status → IsCaused words before after status
+of_desk words store before after status asked h = by_end h.how words store before after status asked h refl h.run h.told
+
+of_usage : (words : Words) (before after : Outside) (status : ℕ) → AsksNothing words
+    → AnswersUsage before after status → IsCaused words before after status
+of_usage words before after status none h = elim (Ends-of_tells usage_reply before.writes after.writes status h.told) [
+  | inl told ↦ by_words told.ends none
+  | inr failed ↦ elim failed [ inl sink ↦ by_sink sink.ends sink.rose | inr nine ↦ by_memory nine ]
+]
+
+of_task : (words : Words) (task : Task) (before after : Outside) (status : ℕ) → Asks words task
+    → DoesTask task before after status → IsCaused words before after status
+of_task words (Book command) before after status asked h = of_book words command before after status asked h
+of_task words (Desk store) before after status asked h = of_desk words store before after status asked h
+of_task words (Sample size) before after status asked h = of_sample words size before after status asked h
+
+pub Does-caused : (words : Words) (before after : Outside) (status : ℕ) → Does words before after status → IsCaused words before after status
+Does-caused words before after status h = elim (asked_or_nothing words) [
+  | inl a ↦ of_task words a.task before after status a.asks (h.asked a.task a.asks)
+  | inr none ↦ of_usage words before after status none (h.nothing none)
+]
+
+usage_status : (before after : Outside) (status : ℕ) → AnswersUsage before after status → (status ≡ 2) ⊎ (status ≡ 5) ⊎ (status ≡ 9)
+usage_status before after status h = elim (Ends-of_tells usage_reply before.writes after.writes status h.told) [
+  | inl told ↦ inl told.ends
+  | inr failed ↦ elim failed [ inl sink ↦ inr (inl sink.ends) | inr nine ↦ inr (inr nine) ]
+]
+
+pub Does-usage : (words : Words) (before after : Outside) (status : ℕ) → Does words before after status → AsksNothing words
+    → (status ≡ 2) ⊎ (status ≡ 5) ⊎ (status ≡ 9)
+Does-usage words before after status h none = usage_status before after status (h.nothing none)

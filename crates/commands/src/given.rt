@@ -1,0 +1,70 @@
+//! A run with the words that the system gives.
+ghost use Rattle.std.specs.Prelude.{◌≡◌, ◌≢◌, IfOk, IfErr};
+ghost use Rattle.std.specs.IoError.{error_kind};
+ghost use Rattle.command_words.specs.Prepared.{texts_of};
+ghost use Rattle.commands.specs.Outside.{keeps, outputs, outside};
+ghost use Rattle.commands.specs.Run.{Does, AnswersUsage, AnswersMemory};
+ghost use Rattle.commands.specs.RunReply.{usage_reply, memory_reply};
+ghost use Rattle.commands.specs.Tells.{Tells};
+
+use crate::log::RunLog;
+use crate::run_end::RunEnd;
+use crate::tell::{tell_usage, tell_want_of_memory};
+use crate::top_call::run;
+use keeper::Keeper;
+use pb_gate::Gate;
+use pb_outside::{Files, Sink, Source};
+use std::alloc::Global;
+use std::io;
+use std::io::ErrorKind;
+
+/// Does what the given words ask, and gives the status. Where the system can't give them as text, as where a
+/// word isn't UTF-8, they are of no form.
+pub fn run_given<S: Source, K: Sink, F: Files, P: Keeper, G: Gate>(
+    alloc: Global,
+    given: io::Result<Vec<String>>,
+    source: &mut S,
+    sink: &mut K,
+    files: &mut F,
+    keeper: P,
+    gate: &G,
+    log: &mut RunLog,
+) -> RunEnd<P>
+    ensures text { let kept = keeps (P.told keeper) (P.failures keeper) in
+        let kept' = keeps (P.told result.keeper) (P.failures result.keeper) in
+        let before = outside (S.input source.old) (F.told files.old) (K.output sink.old) log.old kept in
+        let after = outside (S.input source.new) (F.told files.new) (K.output sink.new) log.new kept' in
+        IfOk given (λ words. Does (texts_of words.items) before after result.status) }
+    ensures none { let kept = keeps (P.told keeper) (P.failures keeper) in
+        let kept' = keeps (P.told result.keeper) (P.failures result.keeper) in
+        let before = outside (S.input source.old) (F.told files.old) (K.output sink.old) log.old kept in
+        let after = outside (S.input source.new) (F.told files.new) (K.output sink.new) log.new kept' in
+        IfErr given (λ error. error_kind error ≢ ErrorKind.OutOfMemory → AnswersUsage before after result.status) }
+    ensures want { let kept = keeps (P.told keeper) (P.failures keeper) in
+        let kept' = keeps (P.told result.keeper) (P.failures result.keeper) in
+        let before = outside (S.input source.old) (F.told files.old) (K.output sink.old) log.old kept in
+        let after = outside (S.input source.new) (F.told files.new) (K.output sink.new) log.new kept' in
+        IfErr given (λ error. error_kind error ≡ ErrorKind.OutOfMemory → AnswersMemory before after result.status) }
+{
+    match given {
+        Ok(words) => run(alloc, &words, source, sink, files, keeper, gate, log),
+        Err(error) => RunEnd {
+            status: tell_no_words(&error, sink, log),
+            keeper,
+        },
+    }
+}
+
+fn tell_no_words<K: Sink>(error: &io::Error, sink: &mut K, log: &mut RunLog) -> u8
+    ensures none { let before = outputs (K.output sink.old) log.old in
+        let after = outputs (K.output sink.new) log.new in
+        error_kind error.now ≢ ErrorKind.OutOfMemory → Tells usage_reply before after result }
+    ensures want { let before = outputs (K.output sink.old) log.old in
+        let after = outputs (K.output sink.new) log.new in
+        error_kind error.now ≡ ErrorKind.OutOfMemory → Tells memory_reply before after result }
+{
+    match error.kind() {
+        ErrorKind::OutOfMemory => tell_want_of_memory(sink, log),
+        _ => tell_usage(sink, log),
+    }
+}

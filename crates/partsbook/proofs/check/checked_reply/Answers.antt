@@ -1,5 +1,0 @@
-use Rattle.partsbook.proofs.SlicesTold.{few_told}
-use Rattle.partsbook.proofs.check.checked_reply.Goals as goal
-
-pub report_reply-requires : goal.report_reply-requires
-report_reply-requires c = record { few = few_told _ _ c.in-Ok.ensures.report }

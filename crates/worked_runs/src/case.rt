@@ -1,0 +1,92 @@
+//! What is said of a case.
+
+use crate::named_text::NamedText;
+use crate::said::{Object, number_in};
+use pb_base::{Memory, Text};
+use std::alloc::Global;
+
+// Room for whatever a run writes.
+const AMPLE_ROOM: u64 = 1_000_000;
+
+/// What is said of a case: what its runs are handed, and what of them is shown.
+#[derive(Drop)]
+pub struct Case<'a> {
+    /// The words of each run, in a line.
+    pub runs: Vec<&'a str>,
+    pub input: Text,
+    pub pieces: Vec<usize>,
+    pub files: Vec<NamedText<'a>>,
+    pub room: u64,
+    pub source_fails: Vec<u64>,
+    pub files_fails: Vec<u64>,
+    pub sink_fails: Vec<u64>,
+    pub keeper_fails: Vec<u64>,
+    /// How many bytes of what the sink took are shown.
+    pub shown: u64,
+    /// Whether the sets of findings are shown.
+    pub shows_sets: bool,
+    /// Whether it is shown how much of the input was left unread.
+    pub shows_rest: bool,
+    pub inputs: Inputs,
+}
+
+/// Which inputs a run of a case is made on.
+#[derive(Clone, Copy, PartialEq, Eq)]
+pub enum Inputs {
+    /// The input as it is.
+    Whole,
+    /// The input in two pieces, for each place between them.
+    CutEverywhere,
+    /// Each front of the input.
+    EndedEverywhere,
+}
+
+impl<'a> Case<'a> {
+    /// No run yet, over an empty input, no files, and a sink with ample room, of which no call fails.
+    pub fn new(alloc: Global) -> Case<'a> {
+        Case {
+            runs: Vec::new(alloc),
+            input: Text::new(alloc),
+            pieces: Vec::new(alloc),
+            files: Vec::new(alloc),
+            room: AMPLE_ROOM,
+            source_fails: Vec::new(alloc),
+            files_fails: Vec::new(alloc),
+            sink_fails: Vec::new(alloc),
+            keeper_fails: Vec::new(alloc),
+            shown: AMPLE_ROOM,
+            shows_sets: true,
+            shows_rest: true,
+            inputs: Inputs::Whole,
+        }
+    }
+
+    /// Has calls of an object fail.
+    pub fn fail(&mut self, object: Object, numbers: &str) -> Result<(), Memory> {
+        match object {
+            Object::Source => put_numbers(&mut self.source_fails, numbers),
+            Object::Files => put_numbers(&mut self.files_fails, numbers),
+            Object::Sink => put_numbers(&mut self.sink_fails, numbers),
+            Object::Keeper => put_numbers(&mut self.keeper_fails, numbers),
+        }
+    }
+
+    /// Has the source give its bytes in pieces.
+    pub fn part(&mut self, lengths: &str) -> Result<(), Memory> {
+        for word in lengths.split(' ') {
+            if let Some(length) = number_in(word) {
+                self.pieces.push(length as usize)?;
+            }
+        }
+        Ok(())
+    }
+}
+
+fn put_numbers(numbers: &mut Vec<u64>, words: &str) -> Result<(), Memory> {
+    for word in words.split(' ') {
+        if let Some(number) = number_in(word) {
+            numbers.push(number)?;
+        }
+    }
+    Ok(())
+}
