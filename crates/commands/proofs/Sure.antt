@@ -1,5 +1,5 @@
 -- Valid words and inputs have their answer where nothing fails, memory allowing.
-use Rattle.std.proofs.Common.{◌≡◌, ◌≤◌, ◌∙◌, ℕ, List, true, false, length, sym, subst, ap, inl, inr, take}
+use Rattle.std.proofs.Common.{◌≡◌, ◌≤◌, ◌∙◌, ℕ, List, true, false, length, sym, subst, ap, inl, inr, take, arith}
 use Rattle.std.specs.Prelude.{◌⊎◌, Option, None, Some, Result, Ok, Err, IsOk, IfOk, IfSome, IsSomeAnd}
 use Rattle.book_model.specs.Contents.{Contents}
 use Rattle.book_text.specs.BookText.{book_of}
