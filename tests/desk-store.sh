@@ -37,10 +37,10 @@ same 'drafts' 'T|ANNA|1|1' "$(sqlite3 "$store" 'select name, owner, revision, le
 same 'books' '1|T|1' "$(sqlite3 "$store" 'select number, draft, revision from books')"
 same 'orders' 'HALL1|7|1|1|M1' "$(sqlite3 "$store" 'select caller, number, book, day, codes from orders')"
 same 'withdrawn' 1 "$(sqlite3 "$store" 'select number from withdrawn')"
-sqlite3 "$store" 'select body from books where number = 1' > "$work/book.csv"
-sqlite3 "$store" 'select cert from books where number = 1' > "$work/book.cert"
-same 'the kept certificate shows the kept book' 'verified T slices 1 steps 2' \
-    "$("$top/partsbook" verify "$work/book.cert" < "$work/book.csv" | sed 's/steps [0-9]*/steps 2/')"
+# sqlite3 writes a line's end behind a value, but not into a file of its own.
+(cd "$work" && sqlite3 desk.db "select writefile('book.csv', body), writefile('book.cert', cert) from books" > /dev/null)
+same 'the kept certificate shows the kept book' 'verified T slices 1' \
+    "$("$top/partsbook" verify "$work/book.cert" < "$work/book.csv" | cut -d ' ' -f 1-4)"
 
 request GET /orders/7 HALL1 '' | desk > "$work/second.out"
 same 'a second desk ends with 0' 0 $?
