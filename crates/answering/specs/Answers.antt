@@ -2,7 +2,7 @@
 --     IsCall what           a call that may be made: texts, budgets and numbers of orders are in their ranges
 --     course_of call        the events of the call, and what is said
 use Rattle.std.specs.Prelude.{◌≡◌, ◌⊎◌, ℕ, ◌<◌, ◌≤◌, true, false, List, None, Some, Result, Ok, Err, length}
-use Rattle.pb_base.specs.declared.limits.TheConstants.{MOST_TEXT_BYTES}
+use Rattle.pb_base.specs.declared.limits.TheConstants.{MOST_TEXT_BYTES, MOST_BUDGET}
 use Rattle.book_model.specs.Contents.{Contents}
 use Rattle.book_model.specs.declared.record.Slice.{Slice}
 use Rattle.book_model.specs.declared.slicing.LimitFault.{LimitFault}
@@ -38,7 +38,7 @@ use Rattle.answering.specs.declared.said.Said.{Said}
 
 -- a number of learnt clauses for each question
 abbrev pub IsBudget : ℕ → Type 0
-IsBudget budget = (0 < budget) × (budget ≤ 50000)
+IsBudget budget = (0 < budget) × (budget ≤ MOST_BUDGET)
 
 abbrev pub IsCall : What → Type 0
 IsCall (what.PutDraft draft text) = length text ≤ MOST_TEXT_BYTES

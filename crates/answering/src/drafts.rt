@@ -8,6 +8,7 @@ ghost use Rattle.order_desk.specs.Fits.{IsReleaseOf};
 ghost use Rattle.answering.specs.Answers.{IsChecked, IsKeptBack, IsToldAs, by_limits, checking, commits, either, no_more, releasing};
 ghost use Rattle.answering.specs.Course.{asks, ends, or_memory, plain};
 ghost use Rattle.answering.specs.Told.{IsDraftOrReply, IsDraftThere};
+ghost use Rattle.pb_base.specs.declared.limits.TheConstants.{MOST_BUDGET};
 
 use crate::one_event::one_event;
 use crate::said::Said;
@@ -33,7 +34,7 @@ pub(crate) fn check_draft<T: Turns, G: Gate>(
     budget: u32,
 ) -> Said
     requires some { 0 < budget }
-    requires most { budget ≤ 50000 }
+    requires most { budget ≤ MOST_BUDGET }
     ensures { checking caller draft budget (T.hand turns.old) result (T.hand turns.new) }
 {
     let answer = turns.step(Event::TakeDraft {
@@ -67,7 +68,7 @@ fn text_of(answer: Answer) -> Result<Body, Reply>
 
 fn check_text(alloc: Global, text: &[u8], budget: u32) -> Said
     requires some { 0 < budget }
-    requires most { budget ≤ 50000 }
+    requires most { budget ≤ MOST_BUDGET }
     ensures { IsChecked text.now budget result }
 {
     match read_book(alloc, text) {
@@ -79,7 +80,7 @@ fn check_text(alloc: Global, text: &[u8], budget: u32) -> Said
 
 fn check_read(alloc: Global, book: &Book, budget: u32) -> Said
     requires some { 0 < budget }
-    requires most { budget ≤ 50000 }
+    requires most { budget ≤ MOST_BUDGET }
     ensures { (result ≡ plain Reply.Memory) ⊎ by_limits (slices_within book.now) book.now budget result }
 {
     match check_book(alloc, book, budget, Ask::All) {
@@ -112,7 +113,7 @@ pub(crate) fn release_draft<T: Turns, G: Gate>(
     budget: u32,
 ) -> Said
     requires some { 0 < budget }
-    requires most { budget ≤ 50000 }
+    requires most { budget ≤ MOST_BUDGET }
     ensures { releasing asked.now.caller asked.now.draft asked.now.revision budget
         (T.hand turns.old) result (T.hand turns.new) }
 {
@@ -138,7 +139,7 @@ fn release_text<T: Turns>(
     budget: u32,
 ) -> Said
     requires some { 0 < budget }
-    requires most { budget ≤ 50000 }
+    requires most { budget ≤ MOST_BUDGET }
     requires there { IsDraftThere (T.hand turns.old).state.tables asked.now.draft text asked.now.revision }
     ensures { or_memory (either (ends (IsKeptBack text budget))
         (commits asked.now.caller asked.now.draft asked.now.revision text))

@@ -14,6 +14,7 @@ use Rattle.pb_base.specs.Digits.{number_within, short_number}
 use Rattle.command_words.specs.Parts.{Words, HasParts}
 use Rattle.command_words.specs.declared.command.Command.{Command}
 use Rattle.command_words.specs.declared.command.Command.TheVariants.{Order, Check, Prove, Verify, Desk, Serve, Sample}
+use Rattle.pb_base.specs.declared.limits.TheConstants.{MOST_BUDGET, DEFAULT_BUDGET}
 
 -- the number of 1 to 10 digits, where it lies in the range
 abbrev pub number_in : ℕ → ℕ → List ℕ → Option ℕ
@@ -30,8 +31,8 @@ order_of budget operands = None
 
 -- the budget where no option gives one is 10,000
 abbrev pub budget_of : Option (List ℕ) → Option ℕ
-budget_of None = Some 10000
-budget_of (Some text) = number_in 1 50000 text
+budget_of None = Some DEFAULT_BUDGET
+budget_of (Some text) = number_in 1 MOST_BUDGET text
 
 abbrev pub check_of : (ℕ → Command) → Option (List ℕ) → Words → Option Command
 check_of command budget [] = option_map command (budget_of budget)

@@ -7,6 +7,7 @@ ghost use Rattle.command_words.specs.declared.command.Command.TheVariants.{Check
 
 use crate::command::Command;
 use crate::file_name::FileName;
+use pb_base::limits::{DEFAULT_BUDGET, MOST_BUDGET};
 use pb_base::{CodeList, CodeName, Memory, number_within, short_number};
 use std::alloc::Global;
 
@@ -100,8 +101,8 @@ fn budget_of(text: Option<&str>) -> Option<u32>
     ensures { result ≡ budget_of (lent_option text.entry) }
 {
     match text {
-        Some(text) => number_in(text, 1, 50_000),
-        None => Some(10_000),
+        Some(text) => number_in(text, 1, MOST_BUDGET),
+        None => Some(DEFAULT_BUDGET),
     }
 }
 

@@ -11,6 +11,7 @@ use Rattle.command_words.specs.Parts.{Words}
 use Rattle.command_words.specs.declared.command.Command.{Command}
 use Rattle.command_words.specs.declared.command.Command.TheVariants.{Order, Check, Prove, Verify, Desk, Serve, Sample}
 use Rattle.commands.specs.Words.{InRange, IsBudget}
+use Rattle.pb_base.specs.declared.limits.TheConstants.{MOST_BUDGET}
 
 abbrev AllInRange : Option Command → Type 0
 AllInRange found = IfSome found InRange
@@ -38,7 +39,7 @@ number_within_range least most (Some n) = tested least most n (nat_le least n) (
 
 budget_fits : (budget : Option (List ℕ)) → IfSome (budget_of budget) IsBudget
 budget_fits None = (omega arith, omega arith)
-budget_fits (Some text) = number_within_range 1 50000 (number_within 10 text)
+budget_fits (Some text) = number_within_range 1 MOST_BUDGET (number_within 10 text)
 
 check_fits : (command : ℕ → Command) → ((n : ℕ) → IsBudget n → InRange (command n)) → (budget : Option (List ℕ)) (operands : Words)
     → AllInRange (check_of command budget operands)

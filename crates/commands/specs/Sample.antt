@@ -28,7 +28,7 @@ use Rattle.commands.specs.Checks.{inquiry}
 use Rattle.commands.specs.Logged.{logged}
 use Rattle.commands.specs.RunReply.{RunReply}
 use Rattle.commands.specs.Size.{Size}
-use Rattle.commands.specs.declared.budget.TheConstants.{RELEASE_BUDGET}
+use Rattle.pb_base.specs.declared.limits.TheConstants.{DEFAULT_BUDGET}
 use Rattle.commands.specs.declared.tally.Tally.{Tally}
 
 -- the next so many orders
@@ -102,7 +102,7 @@ pub record IsReleasedSample (size : Size) (b : Contents) (reply : RunReply) : Ty
 
 pub record IsLeftSample (size : Size) (b : Contents) (reply : RunReply) : Type 0 where
   pub report : List Told
-  pub is_right : IsReport (inquiry Blocking RELEASE_BUDGET b) report
+  pub is_right : IsReport (inquiry Blocking DEFAULT_BUDGET b) report
   pub undecided : verdict_of report ≡ verdicts.Undecided
   pub answer : reply ≡ undecided_reply size b report
 

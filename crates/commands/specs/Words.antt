@@ -12,7 +12,7 @@ use Rattle.command_words.specs.Meaning.{IsForm}
 use Rattle.command_words.specs.Parts.{Words}
 use Rattle.command_words.specs.declared.command.Command.{Command}
 use Rattle.command_words.specs.declared.command.Command.TheVariants as commands
-use Rattle.commands.specs.declared.budget.TheConstants.{MOST_BUDGET}
+use Rattle.pb_base.specs.declared.limits.TheConstants.{MOST_BUDGET}
 use Rattle.commands.specs.declared.command.BookCommand.TheVariants.{Order, Check, Prove, Verify}
 use Rattle.commands.specs.declared.command.Task.{Task}
 use Rattle.commands.specs.declared.command.Task.TheVariants.{Book, Desk, Sample}

@@ -3,12 +3,6 @@ ghost use Rattle.std.specs.Prelude.{◌≡◌, ◌<◌, ◌≤◌};
 
 use std::marker::Model;
 
-/// The most clauses that may be learnt for one question.
-pub const MOST_BUDGET: u32 = 50_000;
-
-/// The budget of each question of a release.
-pub const RELEASE_BUDGET: u32 = 10_000;
-
 /// So many clauses may be learnt for one question before it is left: 1 to 50,000.
 #[derive(Drop)]
 pub struct Budget {
@@ -17,7 +11,7 @@ pub struct Budget {
 
 impl Model for Budget {
     ghost use Rattle.std.specs.Prelude.{ℕ, ◌<◌, ◌≤◌};
-    ghost use Rattle.commands.specs.declared.budget.TheConstants.{MOST_BUDGET};
+    ghost use Rattle.pb_base.specs.declared.limits.TheConstants.{MOST_BUDGET};
 
     ghost Value = { ℕ };
 

@@ -10,9 +10,9 @@ ghost use Rattle.release.specs.NotReleased.{IsRefusal};
 ghost use Rattle.commands.specs.Logged.{slices_told};
 ghost use Rattle.commands.specs.Sample.{RepliesToSample, undecided_reply};
 ghost use Rattle.commands.specs.Sample.{answer_to, counts_text, size_text, tally_of, released_text, undecided_text};
-ghost use Rattle.commands.specs.declared.budget.TheConstants.{RELEASE_BUDGET};
+ghost use Rattle.pb_base.specs.declared.limits.TheConstants.{DEFAULT_BUDGET};
 
-use crate::budget::RELEASE_BUDGET;
+use pb_base::limits::DEFAULT_BUDGET;
 use crate::logged::logged;
 use crate::run_reply::RunReply;
 use crate::sample_size::SampleSize;
@@ -31,7 +31,7 @@ pub fn sample_reply(alloc: Global, size: &SampleSize) -> Result<RunReply, Memory
     ensures { IfOk result (RepliesToSample size.now) }
 {
     let text = sample_book(alloc, size.start(), size.codes())?;
-    match try_release(alloc, text, RELEASE_BUDGET) {
+    match try_release(alloc, text, DEFAULT_BUDGET) {
         Ok(released) => released_reply(alloc, size, &released),
         Err(Fail::Refused(why)) => refused_reply(alloc, size, why),
         Err(Fail::Memory) => Err(Memory),
@@ -68,7 +68,7 @@ fn released_text(
 // A generated book is one within all limits that can be released, so that only a question that was left keeps it back.
 fn refused_reply(alloc: Global, size: &SampleSize, why: NotReleased) -> Result<RunReply, Memory>
     requires lawful { MaySample size.now.codes }
-    requires refusal { IsRefusal (sample_text size.now.start size.now.codes) RELEASE_BUDGET why }
+    requires refusal { IsRefusal (sample_text size.now.start size.now.codes) DEFAULT_BUDGET why }
     ensures { IfOk result (RepliesToSample size.now) }
 {
     match why {

@@ -2,6 +2,7 @@
 ghost use Rattle.std.specs.Prelude.{◌≡◌, ◌<◌, ◌≤◌, All, IfOk};
 ghost use Rattle.solver.specs.Solver.{Extends};
 ghost use Rattle.findings.specs.Answering.{SliceFacts, IsAsked, IsOver, IsFound, IsOutcome, inquiry};
+ghost use Rattle.pb_base.specs.declared.limits.TheConstants.{MOST_BUDGET};
 
 use crate::effort::Effort;
 use crate::found::found_with;
@@ -32,7 +33,7 @@ pub(crate) fn answer(
     requires over { IsOver book.now slice.now solver.old }
     requires sets { All (IsFound book.now slice.now) sets.old.found.items }
     requires some { 0 < effort.budget }
-    requires budget { effort.budget ≤ 50000 }
+    requires budget { effort.budget ≤ MOST_BUDGET }
     ensures extends { Extends solver.old.kernel solver.new.kernel }
     ensures vars { solver.new.vars ≡ solver.old.vars }
     ensures over { IsOver book.now slice.now solver.new }

@@ -10,6 +10,7 @@ ghost use Rattle.derivation.specs.Showing.{ShowsSlice};
 ghost use Rattle.findings.specs.Notes.{InParts, IsReport, SliceNotes, verdict_of};
 ghost use Rattle.findings.specs.Answering.{inquiry, stops};
 ghost use Rattle.findings.specs.Certified.{IsAccepted};
+ghost use Rattle.pb_base.specs.declared.limits.TheConstants.{MOST_BUDGET};
 
 use crate::effort::Effort;
 use crate::laws::book_laws;
@@ -37,7 +38,7 @@ pub fn check_book(
     ask: Ask,
 ) -> Result<Checked, Fail<LimitFault>>
     requires some { 0 < budget }
-    requires most { budget ≤ 50000 }
+    requires most { budget ≤ MOST_BUDGET }
     ensures limits { IfRefused result (λ fault. slices_within book.now ≡ Err fault) }
     ensures report { IfOk result (λ c.
         IsReport (record { book = book.now; ask = ask; budget = budget }) c.report) }
@@ -79,7 +80,7 @@ fn check_slices(
     requires order { All IsOrdered slices.now }
     requires few { AreWithin book.now slices.now }
     requires some { 0 < effort.budget }
-    requires budget { effort.budget ≤ 50000 }
+    requires budget { effort.budget ≤ MOST_BUDGET }
     ensures notes { IfOk result (λ c.
         InParts (SliceNotes (inquiry book.now effort)) slices.now c.notes.items) }
     ensures stopped { IfOk result (λ c. c.stopped ≡ list_any stops c.notes.items) }

@@ -6,7 +6,7 @@ ghost use Rattle.clausify.specs.Coded.{slice_clauses, slice_asked};
 ghost use Rattle.clausify.specs.declared.question.Asked.{Asked};
 ghost use Rattle.derivation.specs.Limits.{asked_of};
 ghost use Rattle.derivation.specs.Showing.{StandsOver};
-ghost use Rattle.pb_base.specs.declared.limits.TheConstants.{MOST_QUESTIONS};
+ghost use Rattle.pb_base.specs.declared.limits.TheConstants.{MOST_QUESTIONS, MOST_BUDGET};
 ghost use Rattle.solver.specs.Solver.{Extends};
 ghost use Rattle.findings.specs.Notes.{SliceNotes};
 ghost use Rattle.findings.specs.Findings.{MeetsThrough};
@@ -44,7 +44,7 @@ pub(crate) fn check_slice(
     requires order { IsOrdered slice.now }
     requires few { asked_of book.now slice.now ≤ MOST_QUESTIONS }
     requires some { 0 < effort.budget }
-    requires budget { effort.budget ≤ 50000 }
+    requires budget { effort.budget ≤ MOST_BUDGET }
     ensures notes { IfOk result (λ c. SliceNotes (inquiry book.now effort) slice.now c.notes.items) }
     ensures proof { IfOk result (λ c. ShowsUnlessStopped book.now slice.now c.notes.items c.proof) }
 {
@@ -134,7 +134,7 @@ fn check_later(
     requires counted { length set ≡ length book.now.codes }
     requires void { MeetsThrough book.now slice.now Question.Void set }
     requires some { 0 < effort.budget }
-    requires budget { effort.budget ≤ 50000 }
+    requires budget { effort.budget ≤ MOST_BUDGET }
     ensures notes { IfOk result (λ c. SliceNotes (inquiry book.now effort) slice.now c.notes.items) }
     ensures proof { IfOk result (λ c. ShowsUnlessStopped book.now slice.now c.notes.items c.proof) }
 {
@@ -176,7 +176,7 @@ fn ask_later(
     requires over { IsOver book.now slice.now solver.old }
     requires sets { All (IsFound book.now slice.now) sets.old.found.items }
     requires some { 0 < effort.budget }
-    requires budget { effort.budget ≤ 50000 }
+    requires budget { effort.budget ≤ MOST_BUDGET }
     ensures extends { Extends solver.old.kernel solver.new.kernel }
     ensures told { IfOk result (λ told. AreTold (inquiry book.now effort) slice.now later.now told
         solver.new.kernel.clauses) }

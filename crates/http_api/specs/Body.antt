@@ -12,6 +12,7 @@ use Rattle.desk_words.specs.declared.call.What.{What}
 use Rattle.desk_words.specs.declared.call.What.TheVariants as call
 use Rattle.http_api.specs.declared.request.Request.{Request}
 use Rattle.http_api.specs.declared.request.Request.TheVariants.{Whole, PutDraft, GiveDraft, Check, Release, PlaceOrder}
+use Rattle.pb_base.specs.declared.limits.TheConstants.{MOST_BUDGET, DEFAULT_BUDGET}
 
 abbrev pub data_of : List ℕ → Option Data
 data_of bytes = if is_utf8 bytes then read bytes else None
@@ -32,8 +33,8 @@ number_at key least most d = option_and_then (number_within least most) (get key
 
 -- the budget, 10,000 where the object names none
 abbrev pub budget_or : Option Data → Option ℕ
-budget_or None = Some 10000
-budget_or (Some d) = number_within 1 50000 d
+budget_or None = Some DEFAULT_BUDGET
+budget_or (Some d) = number_within 1 MOST_BUDGET d
 
 abbrev pub budget_in : Data → Option ℕ
 budget_in d = budget_or (get (codes "budget") d)
@@ -61,7 +62,7 @@ order_in d =
     (number_at (codes "book") 1 largest d)
 
 abbrev pub check_in : List ℕ → List ℕ → Option What
-check_in name [] = Some (call.Check name 10000)
+check_in name [] = Some (call.Check name DEFAULT_BUDGET)
 check_in name (b ∷ body) = option_map (call.Check name) (option_and_then budget_in (object_of (b ∷ body)))
 
 abbrev pub release_in : List ℕ → Data → Option What

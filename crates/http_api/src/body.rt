@@ -10,12 +10,10 @@ ghost use Rattle.http_api.specs.declared.denied.Denied.TheVariants.{BadBody};
 use crate::denied::Denied;
 use crate::request::Request;
 use desk_words::{OrderWords, What};
+use pb_base::limits::{DEFAULT_BUDGET, MOST_BUDGET};
 use pb_base::{Body, CodeList, CodeName, Fail, Id, Memory};
 use serde_json::Value;
 use std::alloc::Global;
-
-// The budget of a check or a release whose body names none.
-const DEFAULT_BUDGET: u32 = 10_000;
 
 /// The call that a body completes.
 pub fn what_of(alloc: Global, request: Request, body: &Body) -> Result<What, Fail<Denied>>
@@ -89,7 +87,7 @@ fn budget_in(value: &Value) -> Option<u32>
     ensures { result ≡ budget_in (view value.now) }
 {
     match value.get("budget") {
-        Some(member) => number_within(member, 1, 50_000),
+        Some(member) => number_within(member, 1, MOST_BUDGET),
         None => Some(DEFAULT_BUDGET),
     }
 }

@@ -52,3 +52,9 @@ pub const MOST_CERT_BYTES: usize = 67_108_864;
 
 /// The last production day that a book may name.
 pub const LAST_DAY: Day = 99_999;
+
+/// The most clauses that may be learnt for one question.
+pub const MOST_BUDGET: u32 = 50_000;
+
+/// The clauses that may be learnt for one question where nobody says how many.
+pub const DEFAULT_BUDGET: u32 = 10_000;

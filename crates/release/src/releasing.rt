@@ -6,6 +6,7 @@ ghost use Rattle.findings.specs.Notes.{verdict_of};
 ghost use Rattle.findings.specs.declared.report.Verdict.TheVariants as Verdict;
 ghost use Rattle.release.specs.NotReleased.{IsRefusal, IsReportOf};
 ghost use Rattle.release.specs.Release.{IsRelease};
+ghost use Rattle.pb_base.specs.declared.limits.TheConstants.{MOST_BUDGET};
 
 use crate::not_released::NotReleased;
 use crate::released::Released;
@@ -20,7 +21,7 @@ use std::alloc::Global;
 /// is.
 pub fn try_release(alloc: Global, text: Body, budget: u32) -> Result<Released, Fail<NotReleased>>
     requires some { 0 < budget }
-    requires most { budget ≤ 50000 }
+    requires most { budget ≤ MOST_BUDGET }
     ensures text { IfOk result (λ r. r.text ≡ text) }
     ensures release { IfOk result IsRelease }
     ensures refused { IfRefused result (IsRefusal text budget) }
@@ -39,7 +40,7 @@ fn release_book(
     budget: u32,
 ) -> Result<Released, Fail<NotReleased>>
     requires some { 0 < budget }
-    requires most { budget ≤ 50000 }
+    requires most { budget ≤ MOST_BUDGET }
     requires reads { book_of text ≡ Ok book }
     ensures text { IfOk result (λ r. r.text ≡ text) }
     ensures release { IfOk result IsRelease }

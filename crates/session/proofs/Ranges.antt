@@ -10,7 +10,7 @@ use Rattle.serde_json.specs.Data.{Data}
 use Rattle.serde_json.specs.Find.{get, as_number, as_u64}
 use Rattle.pb_base.specs.Digits.{is_digit, is_number, value_from, value_of}
 use Rattle.pb_base.specs.Results.{and_then}
-use Rattle.pb_base.specs.declared.limits.TheConstants.{MOST_TEXT_BYTES}
+use Rattle.pb_base.specs.declared.limits.TheConstants.{MOST_TEXT_BYTES, MOST_BUDGET}
 use Rattle.desk_words.specs.declared.call.Call.{Call}
 use Rattle.desk_words.specs.declared.call.What.{What}
 use Rattle.desk_words.specs.declared.call.What.TheVariants as what
@@ -116,19 +116,19 @@ always : {A : Type 0} (o : Option A) → IfSome o (λ a. Unit {0})
 always None = tt
 always (Some a) = tt
 
-budget_number : (n : ℕ) → IfSome (only_if (λ k. nat_le 1 k && nat_le k 50000) n) IsBudget
-budget_number n = at (nat_le 1 n && nat_le n 50000) refl
+budget_number : (n : ℕ) → IfSome (only_if (λ k. nat_le 1 k && nat_le k MOST_BUDGET) n) IsBudget
+budget_number n = at (nat_le 1 n && nat_le n MOST_BUDGET) refl
   where
-    at : (is : Bool) → (nat_le 1 n && nat_le n 50000) ≡ is → IfSome (if is then Some n else None) IsBudget
+    at : (is : Bool) → (nat_le 1 n && nat_le n MOST_BUDGET) ≡ is → IfSome (if is then Some n else None) IsBudget
     at true is =
-        let low : 1 ≤ n = leb-true 1 n (first_so (nat_le 1 n) (nat_le n 50000) is) in
-        let high : n ≤ 50000 = leb-true n 50000 (second_so (nat_le 1 n) (nat_le n 50000) is) in (omega arith, high)
+        let low : 1 ≤ n = leb-true 1 n (first_so (nat_le 1 n) (nat_le n MOST_BUDGET) is) in
+        let high : n ≤ MOST_BUDGET = leb-true n MOST_BUDGET (second_so (nat_le 1 n) (nat_le n MOST_BUDGET) is) in (omega arith, high)
     at false is = tt
 
 budget_within : (o : Option Data) → IfSome (budget_or o) IsBudget
 budget_within None = (omega arith, omega arith)
 budget_within (Some d) =
-    then_within IsBudget (only_if (λ k. nat_le 1 k && nat_le k 50000)) budget_number (option_and_then as_u64 (as_number d))
+    then_within IsBudget (only_if (λ k. nat_le 1 k && nat_le k MOST_BUDGET)) budget_number (option_and_then as_u64 (as_number d))
 
 check_within : (name body : List ℕ) → IfSome (check_in name body) IsCall
 check_within name [] = (omega arith, omega arith)
@@ -208,8 +208,8 @@ stable (what.PutDraft draft text) so = stable_le (length text) MOST_TEXT_BYTES s
 stable (what.GiveDraft draft to) so = tt
 stable (what.ReadDraft draft) so = tt
 stable (what.ReadOwner draft) so = tt
-stable (what.Check draft budget) so = (stable_le 1 budget (λ out. so (λ is. out is.0)), stable_le budget 50000 (λ out. so (λ is. out is.1)))
-stable (what.Release draft revision budget) so = (stable_le 1 budget (λ out. so (λ is. out is.0)), stable_le budget 50000 (λ out. so (λ is. out is.1)))
+stable (what.Check draft budget) so = (stable_le 1 budget (λ out. so (λ is. out is.0)), stable_le budget MOST_BUDGET (λ out. so (λ is. out is.1)))
+stable (what.Release draft revision budget) so = (stable_le 1 budget (λ out. so (λ is. out is.0)), stable_le budget MOST_BUDGET (λ out. so (λ is. out is.1)))
 stable (what.ReadBook book) so = tt
 stable (what.ReadCert book) so = tt
 stable (what.Withdraw book) so = tt

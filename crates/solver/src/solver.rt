@@ -9,6 +9,7 @@ ghost use Rattle.solver.specs.Answer.{Begins, IsSpent};
 ghost use Rattle.solver.specs.Marks.{AreClear};
 ghost use Rattle.solver.specs.Search.{IsReady, IsSearch, IsKept, IsFull, AllNew};
 ghost use Rattle.solver.specs.Solver.{Extends, IsRight, given_of};
+ghost use Rattle.pb_base.specs.declared.limits.TheConstants.{MOST_BUDGET};
 
 use crate::answer::Answer;
 use crate::marks::clear;
@@ -95,7 +96,7 @@ impl Solver {
     pub fn solve(&mut self, assume: Lit, budget: u32) -> Result<Answer, Memory>
         requires below { assume < 2 * self.old.vars }
         requires some { 0 < budget }
-        requires budget { budget ≤ 50000 }
+        requires budget { budget ≤ MOST_BUDGET }
         ensures extends { Extends self.old.kernel self.new.kernel }
         ensures vars { self.new.vars ≡ self.old.vars }
         ensures codes { self.new.codes ≡ self.old.codes }
