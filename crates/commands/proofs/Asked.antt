@@ -71,10 +71,7 @@ wanting (Book command) reads kept writes writes' status h = record {
 wanting (Desk store) reads kept writes writes' status h = record {
   how = NotStarted fails.Memory;
   middle = writes.sink;
-  run = record { cause = tt; link = refl; later = record { never_falls = omega arith; kept = λ k. k } };
-  released = tt;
-  complete = λ sure. inr (inr refl);
-  unfailing = λ orderly unfailing. inr (inr refl);
+  run = record { cause = tt; left = inl refl; link = refl; later = record { never_falls = omega arith; kept = λ k. k } };
   told = h;
   files = refl;
 }

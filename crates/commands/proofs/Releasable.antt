@@ -25,8 +25,8 @@ use Rattle.command_words.specs.Parts.{Words}
 use Rattle.pb_outside.specs.Sink.{SinkTold}
 use Rattle.desk_run.specs.declared.end.DeskEnd.{DeskEnd}
 use Rattle.desk_run.specs.declared.end.DeskEnd.TheVariants.{NotStarted, Served}
-use Rattle.desk_run.specs.Released.{HasReleasedBooks}
-use Rattle.commands.specs.DeskEnds.{RunsDesk}
+use Rattle.desk_run.proofs.Released.{run_released}
+use Rattle.commands.specs.DeskEnds.{desk_outside, RunsDesk}
 use Rattle.commands.specs.Outside.{Outside, input_limit}
 use Rattle.commands.specs.RunReply.{RunReply, certified_reply, content_reply, verdict_status, report_reply}
 use Rattle.commands.specs.Checks.{IsReported, IsProvedBy, IsProved, RepliesWithin, inquiry, RepliesToCheck, RepliesToProof}
@@ -133,16 +133,17 @@ IsCaused-released words before after status h done asks = done_released words be
 
 -- what a desk keeps that was started
 by_end : (how : DeskEnd) (before after : Outside) (middle : SinkTold) (status : ℕ) → Ran how before after middle
-    → HasReleasedBooks how after.keeper.rows → ToldFrom how before after middle status → after.reads.files ≡ before.reads.files
+    → ToldFrom how before after middle status → after.reads.files ≡ before.reads.files
     → KeepsReleased before after status
-by_end (Served end) before after middle status run released told files = inl released
-by_end (NotStarted why) before after middle status run released told files = inr (record {
+by_end (Served end) before after middle status run told files =
+    inl (run_released (Served end) (desk_outside before before.writes.sink) (desk_outside after middle) run)
+by_end (NotStarted why) before after middle status run told files = inr (record {
   untouched = same_reads why before after middle run files;
   statuses = unstarted_status why before after middle status told;
 })
 
 desk_released : (before after : Outside) (status : ℕ) → RunsDesk before after status → KeepsReleased before after status
-desk_released before after status h = by_end h.how before after h.middle status h.run h.released h.told h.files
+desk_released before after status h = by_end h.how before after h.middle status h.run h.told h.files
 
 pub Does-released : (words : Words) (before after : Outside) (status : ℕ) → Does words before after status → AskDesk words
     → KeepsReleased before after status

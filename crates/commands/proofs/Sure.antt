@@ -12,6 +12,7 @@ use Rattle.pb_outside.specs.Faults.{Rose}
 use Rattle.pb_outside.specs.Sink.{SinkTold}
 use Rattle.session.specs.declared.end.SessionEnd.TheVariants.{Done, Memory}
 use Rattle.desk_run.specs.Sure.{IsDoneOrMemory}
+use Rattle.desk_run.proofs.Sure.{run_sure, run_unfailing}
 use Rattle.desk_run.specs.declared.end.DeskEnd.{DeskEnd}
 use Rattle.desk_run.specs.declared.end.DeskEnd.TheVariants.{NotStarted, Served}
 use Rattle.commands.specs.DeskEnds.{RunsDesk, desk_outside}
@@ -180,7 +181,7 @@ sure_memory before after middle status same room written =
 
 sure_desk : (before after : Outside) (status : ℕ) → IsSureDesk before → RunsDesk before after status → IsServed before after status
 sure_desk before after status s h =
-    desk_done h.how before after h.middle status (h.complete s.desk) h.told
+    desk_done h.how before after h.middle status (run_sure h.how (desk_outside before before.writes.sink) (desk_outside after h.middle) h.run s.desk) h.told
     (λ e. sure_memory before after h.middle status (unstarted_sink h.how before after h.middle h.run e) s.room)
 
 sure_task : (task : Task) (before after : Outside) (status : ℕ) → IsSureTask task before → DoesTask task before after status → IsServed before after status
@@ -208,7 +209,7 @@ unfailing_desk : (before after : Outside) (status : ℕ) → IsValidDesk before 
     → IsServed before after status
 unfailing_desk before after status v none h =
     desk_done h.how before after h.middle status
-    (h.unfailing v (record {
+    (run_unfailing h.how (desk_outside before before.writes.sink) (desk_outside after h.middle) h.run v (record {
       source = none.source;
       sink = λ rose. none.sink (desk_rose h.how before after h.middle status h.run h.told rose);
       keeper = none.keeper;

@@ -13,8 +13,6 @@ use Rattle.session.specs.declared.end.SessionEnd.{SessionEnd}
 use Rattle.session.specs.declared.end.SessionEnd.TheVariants.{Done, Broken, ReadFault, WriteFault, Memory}
 use Rattle.desk_run.specs.DeskRun.{DeskOutside, IsDeskRun}
 use Rattle.desk_run.specs.DeskRun as desks
-use Rattle.desk_run.specs.Released.{HasReleasedBooks}
-use Rattle.desk_run.specs.Sure.{IsDoneOrMemory, IsOrderly, IsSure, IsUnfailing}
 use Rattle.desk_run.specs.declared.end.DeskEnd.{DeskEnd}
 use Rattle.desk_run.specs.declared.end.DeskEnd.TheVariants.{NotStarted, Served}
 use Rattle.commands.specs.Outside.{Outputs, Outside, outputs}
@@ -65,10 +63,5 @@ pub record RunsDesk (before after : Outside) (status : ℕ) : Type 0 where
   pub how : DeskEnd
   pub middle : SinkTold
   pub run : IsDeskRun how (desk_outside before before.writes.sink) (desk_outside after middle)
-  pub released : HasReleasedBooks how after.keeper.rows
-  pub complete : IsSure (desk_outside before before.writes.sink) → IsDoneOrMemory how
-  pub unfailing :
-      IsOrderly (desk_outside before before.writes.sink)
-      → IsUnfailing (desk_outside before before.writes.sink) (desk_outside after middle) → IsDoneOrMemory how
   pub told : EndsDesk how (outputs middle before.writes.log) after.writes status
   pub files : after.reads.files ≡ before.reads.files

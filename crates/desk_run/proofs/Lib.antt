@@ -1,4 +1,4 @@
 mod Faults
 mod Serving
-mod Released
-mod Sure
+pub mod Released
+pub mod Sure

@@ -11,7 +11,7 @@ use Rattle.order_desk.specs.declared.start.StartFault.{StartFault}
 use Rattle.order_desk.specs.History.{Reaches}
 use Rattle.order_desk.specs.RightRows.{first_bad}
 use Rattle.order_desk.specs.Rows.{rows_of}
-use Rattle.order_desk.specs.Start.{IsCause}
+use Rattle.order_desk.specs.Start.{IsCause, IsLeft}
 use Rattle.order_desk.specs.Tables.{State}
 use Rattle.order_desk.specs.Valid.{IsValid}
 use Rattle.answering.specs.Alone.{hand_alone}
@@ -40,9 +40,10 @@ pub record IsStarted (before : DeskOutside) (old : State) : Type 0 where
   pub count : old.faults.count ≡ before.faults.count
   pub later : IsLater before.faults old.faults
 
--- the desk was not started, and nothing of the link was touched
+-- the desk was not started, nothing of the link was touched, and the rows are as they were, or begun
 pub record IsNotStarted (why : Fail StartFault) (before after : DeskOutside) : Type 0 where
   pub cause : IsCause before.rows before.faults after.faults why
+  pub left : IsLeft before.rows after.rows why
   pub link : after.link ≡ before.link
   pub later : IsLater before.faults after.faults
 

@@ -6,5 +6,4 @@ mod halves;
 mod run;
 
 pub use end::{DeskEnd, DeskRun};
-pub use halves::Halves;
 pub use run::{MOST_STEPS, run_desk};
