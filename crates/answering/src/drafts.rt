@@ -153,7 +153,8 @@ fn release_text<T: Turns>(
 }
 
 fn commit<T: Turns>(alloc: Global, turns: &mut T, asked: &Asked, released: Released) -> Said
-    requires { IsReleaseOf (T.hand turns.old).state.tables.drafts asked.now.draft asked.now.revision released }
+    requires { let drafts = (T.hand turns.old).state.tables.drafts in
+        IsReleaseOf drafts asked.now.draft asked.now.revision released }
     ensures { or_memory
         (asks (Event.Commit asked.now.caller asked.now.draft asked.now.revision released) no_more)
         (T.hand turns.old) result (T.hand turns.new) }

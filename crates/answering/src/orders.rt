@@ -186,7 +186,8 @@ fn text_of_kept(alloc: Global, order: &OrderWords, book: &SharedBook) -> Result<
 
 /// Reads a kept order of the caller, which is judged again for its text.
 pub(crate) fn read_order<T: Turns>(alloc: Global, turns: &mut T, caller: Id, number: u32) -> Said
-    ensures { asks (Event.ReadOrder caller number) after_reading (T.hand turns.old) result (T.hand turns.new) }
+    ensures { let event = Event.ReadOrder caller number in
+        asks event after_reading (T.hand turns.old) result (T.hand turns.new) }
 {
     let answer = turns.step(Event::ReadOrder { caller, number });
     match answer {

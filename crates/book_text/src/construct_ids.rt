@@ -29,7 +29,8 @@ impl Model for ConstructIds {
 
     ghost view = { λ c. record { ids = c.ids; rules = c.rules; groups = c.groups } };
 
-    ghost invariant = { λ c. (length c.ids ≡ c.rules + c.groups) × (c.rules ≤ MOST_CONSTRUCTS) × (c.groups ≤ MOST_GROUPS) };
+    ghost invariant = { λ c.
+        (length c.ids ≡ c.rules + c.groups) × (c.rules ≤ MOST_CONSTRUCTS) × (c.groups ≤ MOST_GROUPS) };
 }
 
 impl ConstructIds {

@@ -31,9 +31,11 @@ impl Model for Kernel {
 
     ghost Value = { Derivation };
 
-    ghost view = { λ k. record { given = k.given; clauses = k.pool.clauses; starts = k.log.starts; pairs = k.log.pairs } };
+    ghost view = { λ k.
+        record { given = k.given; clauses = k.pool.clauses; starts = k.log.starts; pairs = k.log.pairs } };
 
-    ghost invariant = { λ k. IsDerived (record { given = k.given; clauses = k.pool.clauses; starts = k.log.starts; pairs = k.log.pairs }) };
+    ghost invariant = { λ k. IsDerived
+        (record { given = k.given; clauses = k.pool.clauses; starts = k.log.starts; pairs = k.log.pairs }) };
 }
 
 impl Kernel {

@@ -6,7 +6,7 @@ ghost use Rattle.clause_pool.specs.Chain.{resolved};
 use crate::lit::Lit;
 use std::alloc::AllocError;
 
-/// Appends a literal, unless it is the one to leave out.
+// Appends a literal, unless it is the one to leave out.
 fn push_unless(out: &mut Vec<Lit>, lit: Lit, left_out: Lit) -> Result<(), AllocError>
     ensures { OnOk result (out.new.items ≡ out.old.items ++ without left_out (lit ∷ [])) }
 {
@@ -17,7 +17,7 @@ fn push_unless(out: &mut Vec<Lit>, lit: Lit, left_out: Lit) -> Result<(), AllocE
     Ok(())
 }
 
-/// Appends all literals but the one to leave out.
+// Appends all literals but the one to leave out.
 fn keep(out: &mut Vec<Lit>, lits: &[Lit], left_out: Lit) -> Result<(), AllocError>
     ensures { OnOk result (out.new.items ≡ out.old.items ++ without left_out lits.now) }
 {

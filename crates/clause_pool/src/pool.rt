@@ -36,7 +36,8 @@ impl Model for Pool {
       spare_lits = min (vec_capacity p.lits - vec_len p.lits) (vec_capacity p.scratch);
     } };
 
-    ghost invariant = { λ p. IsRegion p.starts.items (length p.lits.items) × AllByRecursion IsRising (region p.starts.items p.lits.items) };
+    ghost invariant = { λ p. IsRegion p.starts.items (length p.lits.items)
+        × AllByRecursion IsRising (region p.starts.items p.lits.items) };
 }
 
 /// A length of a pool, to which it can be taken back.

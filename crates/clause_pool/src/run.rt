@@ -10,7 +10,7 @@ use crate::merge::resolve_into;
 use crate::pool::{Pool, Ref};
 use pb_base::Fail;
 
-/// Leaves in `next` what the pair at this place makes of the running clause.
+// Leaves in `next` what the pair at this place makes of the running clause.
 fn step(
     pool: &Pool,
     place: usize,

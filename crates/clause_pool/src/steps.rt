@@ -23,9 +23,11 @@ impl Model for StepLog {
 
     ghost Value = { Steps };
 
-    ghost view = { λ s. record { starts = s.starts.items; pairs = region s.pair_starts.items s.pairs.items } };
+    ghost view = { λ s.
+        record { starts = s.starts.items; pairs = region s.pair_starts.items s.pairs.items } };
 
-    ghost invariant = { λ s. IsRegion s.pair_starts.items (length s.pairs.items) × (length s.pair_starts.items ≡ length s.starts.items) };
+    ghost invariant = { λ s. IsRegion s.pair_starts.items (length s.pairs.items)
+        × (length s.pair_starts.items ≡ length s.starts.items) };
 }
 
 impl StepLog {

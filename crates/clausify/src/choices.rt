@@ -12,7 +12,7 @@ use book_model::{Book, active};
 use pb_base::{Day, Formula, Memory};
 use std::alloc::Global;
 
-/// Whether the variant at this place is active.
+// Whether the variant at this place is active.
 fn is_active(book: &Book, day: Day, variant: u32) -> bool
     requires { variant < length book.now.variants }
     ensures { result ≡ is_active_variant book.now day variant }
@@ -21,7 +21,7 @@ fn is_active(book: &Book, day: Day, variant: u32) -> bool
     active(variant.from, variant.until, day)
 }
 
-/// The formula of the variant at this place.
+// The formula of the variant at this place.
 fn usage(book: &Book, variant: u32) -> &Formula
     requires { variant < length book.now.variants }
     ensures { result.now ≡ usage book.now variant }

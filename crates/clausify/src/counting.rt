@@ -6,8 +6,8 @@ ghost use Rattle.clausify.specs.Questions.{questions};
 use crate::choices::active_count;
 use book_model::{Book, Slice, active};
 
-/// The number of questions of a choice of so many variants: one of each, one of each pair, and one where the position is
-/// mandatory.
+// The number of questions of a choice of so many variants: one of each, one of each pair, and one where the position is
+// mandatory.
 #[tactic(auto, using(crate::proofs::CountLaws::pairs_limit))]
 fn choice_count(variants: u64, mandatory: bool) -> u64
     requires { variants ≤ MOST_CHOICES }

@@ -72,7 +72,7 @@ impl Encoder {
         Ok(named)
     }
 
-    /// What one more node of a formula makes of its parts.
+    // What one more node of a formula makes of its parts.
     fn add_node(&mut self, node: Node) -> Result<(), Memory>
         requires parts { parts_taken node ≤ length self.old.parts }
         requires room { (with_node self.old.truth node (making_of self.old)).next < 2 ^ 32 }

@@ -15,7 +15,7 @@ use clause_pool::Lit;
 use pb_base::{CodeTable, Day, Memory};
 
 impl Encoder {
-    /// What has this literal, and none of the usages.
+    // What has this literal, and none of the usages.
     fn and_none(&mut self, literal: Lit, usages: &[Usage]) -> Result<Lit, Memory>
         requires { self.old.next + length usages.now < 2 ^ 32 }
         ensures made { OnOk result (Encodes self.old self.new
@@ -29,7 +29,7 @@ impl Encoder {
         Ok(none)
     }
 
-    /// None of the usages.
+    // None of the usages.
     fn none_of(&mut self, usages: &[Usage]) -> Result<Lit, Memory>
         requires { self.old.next + (length usages.now - 1) < 2 ^ 32 }
         ensures made { OnOk result (Encodes self.old self.new
@@ -60,7 +60,7 @@ pub(crate) fn ask_codes(asked: &mut Vec<Asked>, codes: &CodeTable) -> Result<(),
     Ok(())
 }
 
-/// Whether each variant is superfluous.
+// Whether each variant is superfluous.
 fn ask_superfluous(asked: &mut Vec<Asked>, usages: &[Usage]) -> Result<(), Memory>
     ensures { OnOk result (asked.new.items ≡ asked.old.items ++ map superfluous_asked usages.now) }
 {
@@ -73,7 +73,7 @@ fn ask_superfluous(asked: &mut Vec<Asked>, usages: &[Usage]) -> Result<(), Memor
     Ok(())
 }
 
-/// Whether these two variants are ambiguous.
+// Whether these two variants are ambiguous.
 fn ask_pair(
     encoder: &mut Encoder,
     asked: &mut Vec<Asked>,
@@ -96,7 +96,7 @@ fn ask_pair(
     Ok(())
 }
 
-/// Whether the first variant and a later one are ambiguous, for each later one.
+// Whether the first variant and a later one are ambiguous, for each later one.
 fn ask_with(
     encoder: &mut Encoder,
     asked: &mut Vec<Asked>,
@@ -116,7 +116,7 @@ fn ask_with(
     Ok(())
 }
 
-/// Whether two variants of a position are ambiguous, for each pair.
+// Whether two variants of a position are ambiguous, for each pair.
 fn ask_pairs(
     encoder: &mut Encoder,
     asked: &mut Vec<Asked>,
@@ -134,8 +134,8 @@ fn ask_pairs(
     Ok(())
 }
 
-/// The questions of one choice: each variant, each pair of variants, and where the position is mandatory, whether it is
-/// uncovered.
+// The questions of one choice: each variant, each pair of variants, and where the position is mandatory, whether it is
+// uncovered.
 fn ask_choice(
     encoder: &mut Encoder,
     asked: &mut Vec<Asked>,

@@ -33,7 +33,7 @@ impl Encoder {
         Ok(())
     }
 
-    /// The first code is not present beside one of the later ones.
+    // The first code is not present beside one of the later ones.
     fn apart_from(&mut self, first: u32, later: &[u32]) -> Result<(), Memory>
         ensures { let pairs = map (λ second. (first, second)) later.now in
             OnOk result (EncodesAlone self.old self.new (map apart_clause pairs)) }

@@ -11,7 +11,7 @@ use clause_pool::Lit;
 use pb_base::{Day, Formula, Memory};
 
 impl Encoder {
-    /// Where the rule's formula is true, its code is present.
+    // Where the rule's formula is true, its code is present.
     fn supplement(&mut self, supplement: &Supplement) -> Result<(), Memory>
         requires { self.old.next + connectives supplement.now.rule < 2 ^ 32 }
         ensures { OnOk result (EncodesItem self.old self.new (supplement_item supplement.now)) }
@@ -22,7 +22,7 @@ impl Encoder {
         Ok(())
     }
 
-    /// What a constructibility rule demands: of its formula, or where it is a group, of its codes.
+    // What a constructibility rule demands: of its formula, or where it is a group, of its codes.
     fn demand(&mut self, demand: &Demand) -> Result<(), Memory>
         requires fits { DemandFits self.old.truth demand.now }
         requires room { self.old.next + connectives (demand_item demand.now).rule < 2 ^ 32 }
@@ -38,7 +38,7 @@ impl Encoder {
         }
     }
 
-    /// Where the code is present, or always where there is none, the formula is true.
+    // Where the code is present, or always where there is none, the formula is true.
     fn rule_on(&mut self, on: Option<u32>, rule: &Formula) -> Result<(), Memory>
         requires { self.old.next + connectives rule.now < 2 ^ 32 }
         ensures { OnOk result (EncodesItem self.old self.new (rule_item on rule.now)) }
@@ -52,7 +52,7 @@ impl Encoder {
     }
 }
 
-/// The supplementing rules.
+// The supplementing rules.
 fn add_supplements(encoder: &mut Encoder, book: &Book, day: Day) -> Result<(), Memory>
     requires { encoder.old.next + variables_of (supplement_items book.now day) < 2 ^ 32 }
     ensures { OnOk result (EncodesItems encoder.old encoder.new (supplement_items book.now day)) }
@@ -65,7 +65,7 @@ fn add_supplements(encoder: &mut Encoder, book: &Book, day: Day) -> Result<(), M
     Ok(())
 }
 
-/// The constructibility rules.
+// The constructibility rules.
 fn add_constructs(encoder: &mut Encoder, book: &Book, day: Day) -> Result<(), Memory>
     requires truth { encoder.old.truth ≡ length book.now.codes }
     requires room { encoder.old.next + variables_of (construct_items book.now day) < 2 ^ 32 }

@@ -10,7 +10,8 @@ use std::alloc::Global;
 /// The words as the option parser is given them, or None where they are of no form. The first `--` is dropped, and
 /// a word that the parser would take for a value though it begins with `-` is refused.
 pub fn prepare<'a>(alloc: Global, words: &'a [String]) -> Result<Option<Vec<&'a str>>, Memory>
-    ensures { IfOk result (λ list. option_map (λ kept. lent kept.items) list ≡ prepared (texts_of words.now)) }
+    ensures { IfOk result (λ list.
+        option_map (λ kept. lent kept.items) list ≡ prepared (texts_of words.now)) }
 {
     let Some((name, _)) = words.split_first() else {
         return Ok(None);
@@ -29,7 +30,8 @@ pub fn prepare<'a>(alloc: Global, words: &'a [String]) -> Result<Option<Vec<&'a 
 
 // Takes the plain words in front, and gives those behind them.
 fn take_plain<'a>(kept: &mut Vec<&'a str>, words: &'a [String]) -> Result<&'a [String], Memory>
-    ensures kept { OnOk result (lent kept.new.items ≡ lent kept.old.items ++ plain_front (texts_of words.now)) }
+    ensures kept { OnOk result
+        (lent kept.new.items ≡ lent kept.old.items ++ plain_front (texts_of words.now)) }
     ensures behind { IfOk result (λ behind. texts_of behind.now ≡ behind_plain (texts_of words.now)) }
 {
     let mut left = words;

@@ -27,6 +27,7 @@ use Rattle.clausify.specs.declared.question.Question.{Question}
 use Rattle.clausify.specs.declared.question.Question.TheVariants.{Void, Necessary, Inadmissible, Superfluous, Ambiguous, Uncovered}
 use Rattle.clausify.proofs.ListLaws.{all-append, all_first, all_last, all_filtered, all_mapped}
 use Rattle.clausify.proofs.QuestionLaws.{asked_in_order}
+use Rattle.derivation.proofs.Fit.{met_first, unmet_first, chosen_of, filtered}
 use Rattle.derivation.proofs.LimitLaws.{slices_are_all, slices_from_within}
 use Rattle.derivation.proofs.Refuted.{IsRefuted, AllRefuted}
 use Rattle.findings.specs.Notes.{Inquiry, OwnNotes, InParts, AfterVoid, QuestionNotes, SliceNotes, IsReport, is_asked, is_blocking, is_fault, is_left, verdict_of}
@@ -41,12 +42,6 @@ meets b x variant = holds (usage b variant) x
 
 abbrev NotBoth : Contents → List Bool → ℕ × ℕ → Type 0
 NotBoth b x p = (meets b x p.0 && meets b x p.1) ≡ false
-
-met_first : (p : ℕ → Bool) (y : ℕ) (ys : List ℕ) → p y ≡ true → filter p (y ∷ ys) ≡ y ∷ filter p ys
-met_first p y ys met = cond-true (p y) (y ∷ filter p ys) (filter p ys) met
-
-unmet_first : (p : ℕ → Bool) (y : ℕ) (ys : List ℕ) → p y ≡ false → filter p (y ∷ ys) ≡ filter p ys
-unmet_first p y ys unmet = cond-false (p y) (y ∷ filter p ys) (filter p ys) unmet
 
 -- where none is kept, none passes
 none_passes : (p : ℕ → Bool) (ys : List ℕ) → length (filter p ys) ≡ 0 → AllByRecursion (λ y. p y ≡ false) ys
@@ -108,24 +103,6 @@ uncovered_refuted b day x true position some =
     let vs = active_variants b day position in
     ((λ _. none_used b x vs ∙ ap not (some_passes (meets b x) vs (some refl))), tt)
 uncovered_refuted b day x false position some = tt
-
--- the chosen variants are the active ones whose usage is met
-chosen_of : (day : ℕ) (x : List Bool) (o : Option Variant)
-    → option_map_or (is_selected day x) o false ≡ (option_map_or (λ v. is_within v.from v.until day) o false && holds (option_map_or (λ v. v.rule) o never) x)
-chosen_of day x None = refl
-chosen_of day x (Some v) = refl
-
-filtered : (p q r : ℕ → Bool) → ((v : ℕ) → p v ≡ (q v && r v)) → (vs : List ℕ) → filter p vs ≡ filter r (filter q vs)
-filtered p q r same [] = refl
-filtered p q r same (v ∷ vs) =
-    elim (cases_Bool (q v)) [
-      | inl taken ↦
-          let e : p v ≡ r v = same v ∙ ap (λ t. t && r v) taken in
-          ap (λ t. cond t (v ∷ filter p vs) (filter p vs)) e ∙ ap (λ l. cond (r v) (v ∷ l) l) (filtered p q r same vs) ∙ sym (ap (filter r) (met_first q v vs taken))
-      | inr left ↦
-          let e : p v ≡ false = same v ∙ ap (λ t. t && r v) left in
-          unmet_first p v vs e ∙ filtered p q r same vs ∙ sym (ap (filter r) (unmet_first q v vs left))
-    ]
 
 permitted : (mandatory : Bool) (count : ℕ) → (if mandatory then count == 1 else nat_le count 1) ≡ true → (count ≤ 1) × (mandatory ≡ true → 1 ≤ count)
 permitted true count e = let one : count ≡ 1 = eqb-true count 1 e in (omega (arith, one), λ _. omega (arith, one))

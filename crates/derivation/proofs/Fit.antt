@@ -36,10 +36,10 @@ none_beside b x u (y ∷ ys) met h =
     let unmet : meets b x y ≡ false = elim (and_cases (meets b x u) (meets b x y) h.0) [ inl e ↦ absurd (true≢false (sym met ∙ e)) | inr e ↦ e ] in
     cond-false (meets b x y) (y ∷ filter (meets b x) ys) (filter (meets b x) ys) unmet ∙ none_beside b x u ys met h.1
 
-met_first : (p : ℕ → Bool) (y : ℕ) (ys : List ℕ) → p y ≡ true → filter p (y ∷ ys) ≡ y ∷ filter p ys
+pub met_first : (p : ℕ → Bool) (y : ℕ) (ys : List ℕ) → p y ≡ true → filter p (y ∷ ys) ≡ y ∷ filter p ys
 met_first p y ys met = cond-true (p y) (y ∷ filter p ys) (filter p ys) met
 
-unmet_first : (p : ℕ → Bool) (y : ℕ) (ys : List ℕ) → p y ≡ false → filter p (y ∷ ys) ≡ filter p ys
+pub unmet_first : (p : ℕ → Bool) (y : ℕ) (ys : List ℕ) → p y ≡ false → filter p (y ∷ ys) ≡ filter p ys
 unmet_first p y ys unmet = cond-false (p y) (y ∷ filter p ys) (filter p ys) unmet
 
 -- where no two variants are met together, at most one is
@@ -88,12 +88,12 @@ at_least_one b x (y ∷ ys) h =
     ]
 
 -- the chosen variants are the active ones whose usage is met
-chosen_of : (day : ℕ) (x : List Bool) (o : Option Variant)
+pub chosen_of : (day : ℕ) (x : List Bool) (o : Option Variant)
     → option_map_or (is_selected day x) o false ≡ (option_map_or (λ v. is_within v.from v.until day) o false && holds (option_map_or (λ v. v.rule) o never) x)
 chosen_of day x None = refl
 chosen_of day x (Some v) = refl
 
-filtered : (p q r : ℕ → Bool) → ((v : ℕ) → p v ≡ (q v && r v)) → (vs : List ℕ) → filter p vs ≡ filter r (filter q vs)
+pub filtered : (p q r : ℕ → Bool) → ((v : ℕ) → p v ≡ (q v && r v)) → (vs : List ℕ) → filter p vs ≡ filter r (filter q vs)
 filtered p q r same [] = refl
 filtered p q r same (v ∷ vs) =
     elim (cases_Bool (q v)) [

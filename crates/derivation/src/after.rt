@@ -90,7 +90,7 @@ fn after_slices(count: u32, line: &Line) -> Result<Stage, Fail<CertKind>>
     }
 }
 
-/// The slice line of the next slice, where this much is left of the one before.
+// The slice line of the next slice, where this much is left of the one before.
 fn next_slice(
     count: u32,
     next: u64,
@@ -140,7 +140,7 @@ fn after_number(
     }
 }
 
-/// Whether the names make a set, and it is good on a day.
+// Whether the names make a set, and it is good on a day.
 fn is_good_set(alloc: Global, book: &Book, day: Day, names: &CodeList) -> Result<bool, Memory>
     ensures { IfOk result (λ good. good ≡ is_good_set book.now day (set_of_names book.now.codes names.now)) }
 {
@@ -151,7 +151,7 @@ fn is_good_set(alloc: Global, book: &Book, day: Day, names: &CodeList) -> Result
     }
 }
 
-/// A slice of which the set line has been read, with its clauses and nothing closed.
+// A slice of which the set line has been read, with its clauses and nothing closed.
 fn open_slice(alloc: Global, book: &Book, slice: &Slice, number: u32) -> Result<OpenSlice, Memory>
     requires { asked_of book.now slice.now ≤ MOST_QUESTIONS }
     ensures opened { IfOk result (λ s. so_far_of s ≡ opened book.now slice.now.first number) }
@@ -200,7 +200,7 @@ fn after_within(
     }
 }
 
-/// Appends the resolvent of a chain.
+// Appends the resolvent of a chain.
 fn derive(slice: &mut OpenSlice, start: Ref, pairs: &[Pair]) -> Result<(), Fail<CertKind>>
     requires { 0 < length pairs.now }
     ensures answer { Leaves result (within (so_far_of slice.new)) (with_clause (so_far_of slice.old)
@@ -226,7 +226,7 @@ fn step_kind(fault: StepFault) -> CertKind
     }
 }
 
-/// Closes the next question by a clause.
+// Closes the next question by a clause.
 fn close_next(slice: &mut OpenSlice, question: u64, clause: Ref) -> Result<(), Fail<CertKind>>
     ensures named { NamesKept (so_far_of slice.old) → OnOk result (NamesKept (so_far_of slice.new)) }
     ensures answer { Leaves result (within (so_far_of slice.new)) (close_next (so_far_of slice.old)

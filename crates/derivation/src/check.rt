@@ -41,7 +41,7 @@ pub fn check_cert(alloc: Global, book: &Book, cert: &[u8]) -> Result<Certified, 
     }
 }
 
-/// Reads the lines one after another.
+// Reads the lines one after another.
 fn read_cert(
     alloc: Global,
     book: &Book,
@@ -79,7 +79,7 @@ fn read_cert(
     Err(fault_at(number, Fail::Refused(CertKind::Syntax)))
 }
 
-/// What is wrong with the line of this number.
+// What is wrong with the line of this number.
 fn fault_at(line: u64, fail: Fail<CertKind>) -> Fail<CertFault>
     ensures { result ≡ fault_at line fail }
 {
@@ -89,7 +89,7 @@ fn fault_at(line: u64, fail: Fail<CertKind>) -> Fail<CertFault>
     }
 }
 
-/// What comes behind the last line feed: nothing, and only behind the end line.
+// What comes behind the last line feed: nothing, and only behind the end line.
 fn after_last(so_far: Certified, stage: &Stage, rest: &[u8]) -> Result<Certified, CertKind>
     ensures { result ≡ after_last so_far (stage_of stage.now) rest.now }
 {
@@ -104,7 +104,7 @@ fn after_last(so_far: Certified, stage: &Stage, rest: &[u8]) -> Result<Certified
     }
 }
 
-/// Counts a step.
+// Counts a step.
 fn with_line(so_far: Certified, is_step: bool) -> Certified
     requires { so_far.steps + 1 < 2 ^ 64 }
     ensures value { result ≡ with_line so_far is_step }
@@ -137,14 +137,14 @@ fn is_step(line: &Line) -> bool
     }
 }
 
-/// The stage behind a line, and whether the line is a step.
+// The stage behind a line, and whether the line is a step.
 #[derive(Drop)]
 struct Taken {
     stage: Stage,
     is_step: bool,
 }
 
-/// Takes one text. The room for pairs serves every line.
+// Takes one text. The room for pairs serves every line.
 fn take_line(
     alloc: Global,
     book: &Book,
@@ -164,7 +164,7 @@ fn take_line(
     take_read(alloc, book, slices, stage, line, pairs)
 }
 
-/// Takes a line that was read, or nothing where the text has the form of none.
+// Takes a line that was read, or nothing where the text has the form of none.
 fn take_read(
     alloc: Global,
     book: &Book,

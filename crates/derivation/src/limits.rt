@@ -24,7 +24,7 @@ pub fn slices_within(alloc: Global, book: &Book) -> Result<SliceList, Fail<Limit
     Ok(slices)
 }
 
-/// The first slice with too many questions.
+// The first slice with too many questions.
 fn first_over(book: &Book, slices: &[Slice]) -> Option<LimitFault>
     requires { length slices.now < 2 ^ 32 }
     ensures { result ≡ first_over 0 book.now slices.now }

@@ -51,7 +51,7 @@ pub(crate) fn read_line(
     read_other(alloc, keyword, words)
 }
 
-/// Reads a line other than a step.
+// Reads a line other than a step.
 fn read_other(alloc: Global, keyword: &[u8], words: Pieces) -> Result<Option<Line>, Memory>
     ensures line { IfOk result (λ line. (pairs : List Pair)
         → other_from number_kept literal_kept keyword.now words.entry
@@ -102,7 +102,7 @@ fn read_step(mut words: Pieces, pairs: &mut Vec<Pair>) -> Result<Option<Line>, M
     }))
 }
 
-/// Whether the words are pairs, which take the place of those that are there.
+// Whether the words are pairs, which take the place of those that are there.
 #[tactic(auto, using(crate::proofs::ReadLaws::no_pairs_read, crate::proofs::ReadLaws::all_pairs_read, crate::proofs::ReadLaws::pair_read))]
 fn read_pairs(mut words: Pieces, pairs: &mut Vec<Pair>) -> Result<bool, Memory>
     ensures { IfOk result (λ are_pairs. pairs_from number_kept literal_kept words.entry

@@ -61,7 +61,7 @@ impl<'a> Pieces<'a> {
     }
 }
 
-/// The place of the first such byte, or the length of the text.
+// The place of the first such byte, or the length of the text.
 fn first_place(text: &[u8], byte: u8) -> usize
     ensures within { result ≤ length text.now }
     ensures before { (k : ℕ) → k < result → slice_index text.now k ≢ byte }

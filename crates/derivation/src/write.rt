@@ -34,7 +34,7 @@ pub fn write_cert(alloc: Global, book: &Book, proofs: &[SliceProof]) -> Result<B
     Ok(text.into_body())
 }
 
-/// The line with the name of the book and the number of its slices.
+// The line with the name of the book and the number of its slices.
 #[tactic(auto, using(crate::proofs::LineLaws::some_words, crate::proofs::LineLaws::more_words))]
 fn put_book(text: &mut Text, name: &Id, slices: u64) -> Result<(), Memory>
     ensures text { OnOk result (text.new
@@ -47,7 +47,7 @@ fn put_book(text: &mut Text, name: &Id, slices: u64) -> Result<(), Memory>
     text.put(b"\n")
 }
 
-/// The lines of the slice of this number.
+// The lines of the slice of this number.
 fn put_slice(text: &mut Text, book: &Book, number: usize, proof: &SliceProof) -> Result<(), Memory>
     requires { length proof.now.set ≡ length book.now.codes }
     ensures text { OnOk result (text.new ≡ text.old ++ written (slice_lines book.now number proof.now)) }
@@ -61,7 +61,7 @@ fn put_slice(text: &mut Text, book: &Book, number: usize, proof: &SliceProof) ->
     put_closings(text, &proof.closed)
 }
 
-/// The line that a slice begins with.
+// The line that a slice begins with.
 #[tactic(auto, using(crate::proofs::LineLaws::some_words, crate::proofs::LineLaws::more_words))]
 fn put_slice_line(text: &mut Text, number: u64) -> Result<(), Memory>
     ensures text { OnOk result (text.new ≡ text.old ++ line_of (codes "slice") (decimal number ∷ [])) }
@@ -72,7 +72,7 @@ fn put_slice_line(text: &mut Text, number: u64) -> Result<(), Memory>
     text.put(b"\n")
 }
 
-/// The line of a set.
+// The line of a set.
 #[tactic(auto, using(crate::proofs::LineLaws::some_words, crate::proofs::LineLaws::more_words))]
 fn put_set_line(text: &mut Text, table: &CodeTable, set: &CodeSet) -> Result<(), Memory>
     requires { length set.now ≡ length table.now }
@@ -95,7 +95,7 @@ fn put_members(text: &mut Text, table: &CodeTable, set: &CodeSet) -> Result<(), 
     Ok(())
 }
 
-/// The steps by which the further clauses were derived.
+// The steps by which the further clauses were derived.
 fn put_steps(text: &mut Text, kernel: &Kernel) -> Result<(), Memory>
     ensures text { OnOk result (text.new
         ≡ text.old ++ written (step_lines kernel.now.starts kernel.now.pairs)) }
@@ -149,7 +149,7 @@ fn put_pairs(text: &mut Text, pairs: &[Pair]) -> Result<(), Memory>
     Ok(())
 }
 
-/// The closings, in order.
+// The closings, in order.
 fn put_closings(text: &mut Text, closings: &[Closing]) -> Result<(), Memory>
     ensures text { OnOk result (text.new ≡ text.old ++ written (close_lines closings.now)) }
     ensures fit { OnOk result (AllByRecursion LineFits (close_lines closings.now)) }
@@ -172,7 +172,7 @@ fn put_close_line(text: &mut Text, closing: Closing) -> Result<(), Memory>
     text.put(b"\n")
 }
 
-/// The words stand behind one space each.
+// The words stand behind one space each.
 fn put_word(text: &mut Text, word: &[u8]) -> Result<(), Memory>
     ensures { OnOk result (text.new ≡ text.old ++ spaced (word.now ∷ [])) }
 {

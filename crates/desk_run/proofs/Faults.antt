@@ -3,6 +3,7 @@ use Rattle.std.proofs.Common.{List, [], ◌∷◌, sym, subst, arith}
 use Rattle.pb_outside.specs.Faults.{Faults, IsLater}
 use Rattle.turn_book.specs.History.{end_of}
 use Rattle.turn_book.specs.declared.entry.Entry.{Entry}
+use Rattle.session.proofs.Faults.{later_twice}
 use Rattle.order_desk.specs.declared.answer.Answer.{Answer}
 use Rattle.order_desk.specs.declared.event.Event.{Event}
 use Rattle.order_desk.specs.Effect.{Effect, says, shows, keeps, effect}
@@ -12,12 +13,6 @@ use Rattle.order_desk.specs.Tables.{State}
 
 later_same : (f : Faults) → IsLater f f
 later_same f = record { never_falls = omega arith; kept = λ faultless. faultless }
-
-pub later_twice : (x y z : Faults) → IsLater x y → IsLater y z → IsLater x z
-later_twice x y z first second = record {
-  never_falls = let a = first.never_falls in let b = second.never_falls in omega arith;
-  kept = λ faultless. second.kept (first.kept faultless);
-}
 
 follows_later : (u : Effect) (old : State) (given : Answer) (new : State) → Follows u old given new → IsLater old.faults new.faults
 follows_later (says due) old given new f = subst (λ (s : State). IsLater old.faults s.faults) (sym f.1) (later_same old.faults)

@@ -4,7 +4,8 @@ use Rattle.pb_outside.specs.Faults.{Faults, IsLater}
 use Rattle.order_desk.specs.Tables.{State}
 use Rattle.session.specs.declared.end.SessionEnd.{SessionEnd}
 use Rattle.desk_run.specs.DeskRun.{DeskOutside, IsServed, IsStarted, ServesLink}
-use Rattle.desk_run.proofs.Faults.{later_twice, reaches_later}
+use Rattle.session.proofs.Faults.{later_twice}
+use Rattle.desk_run.proofs.Faults.{reaches_later}
 
 pub is_served : (old : State) (end : SessionEnd) (before after : DeskOutside) → IsStarted before old → ServesLink old end before.link after
     → IsServed end before after

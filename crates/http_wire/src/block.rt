@@ -4,7 +4,7 @@ ghost use Rattle.http_wire.specs.Front.{empty_line, block_length};
 
 use memchr::memchr;
 
-/// The length of the empty line in front.
+// The length of the empty line in front.
 fn empty_line(bytes: &[u8]) -> Option<usize>
     ensures line { result ≡ empty_line bytes.now }
     ensures within { IfSome result (λ n. n ≤ length bytes.now) }

@@ -35,7 +35,7 @@ pub fn judge(alloc: Global, parts: &Parts) -> Result<HeadStep, Memory>
     }
 }
 
-/// Whether the one Host field is missing that HTTP/1.1 asks for.
+// Whether the one Host field is missing that HTTP/1.1 asks for.
 fn lacks_host(parts: &Parts, known: &KnownFields) -> bool
     requires { AreKnown parts.now.fields known.now }
     ensures { result ≡ lacks_host parts.now }
@@ -43,7 +43,7 @@ fn lacks_host(parts: &Parts, known: &KnownFields) -> bool
     parts.minor == 1 && !matches!(known.host, Few::One(_))
 }
 
-/// Whether the body is in pieces of another coding.
+// Whether the body is in pieces of another coding.
 fn is_coded(parts: &Parts, known: &KnownFields) -> bool
     requires { AreKnown parts.now.fields known.now }
     ensures { result ≡ is_coded parts.now }
@@ -51,7 +51,7 @@ fn is_coded(parts: &Parts, known: &KnownFields) -> bool
     !matches!(known.coding, Few::None)
 }
 
-/// The length of the body, or the status by which the head is refused.
+// The length of the body, or the status by which the head is refused.
 fn body_length(length: Few) -> Result<u32, u16>
     ensures length { (values : List (List ℕ)) → IsFew values length.entry → result ≡ body_length values }
     ensures small { IfOk result (λ length. length ≤ MOST_TEXT_BYTES) }
@@ -63,7 +63,7 @@ fn body_length(length: Few) -> Result<u32, u16>
     }
 }
 
-/// The number of bytes that a value of Content-Length gives.
+// The number of bytes that a value of Content-Length gives.
 fn length_by(value: &[u8]) -> Result<u32, u16>
     ensures length { result ≡ length_by value.now }
     ensures small { IfOk result (λ length. length ≤ MOST_TEXT_BYTES) }
@@ -86,7 +86,7 @@ fn are_digits(value: &[u8]) -> bool
     value.iter().all(|b| b.is_ascii_digit())
 }
 
-/// The number that the digits write, unless it is above the limit.
+// The number that the digits write, unless it is above the limit.
 fn number_up_to(digits: &[u8], limit: u32) -> Option<u32>
     requires digits { list_all is_digit digits.now ≡ true }
     requires small { limit ≤ MOST_TEXT_BYTES }
@@ -103,7 +103,7 @@ fn number_up_to(digits: &[u8], limit: u32) -> Option<u32>
     Some(value)
 }
 
-/// What is kept of a head whose body has this length.
+// What is kept of a head whose body has this length.
 fn kept_of(alloc: Global, parts: &Parts, known: &KnownFields, length: u32) -> Result<Head, Memory>
     requires { AreKnown parts.now.fields known.now }
     ensures { IfOk result (λ head. head ≡ kept_of parts.now length) }

@@ -17,5 +17,6 @@ impl<'a> Model for Parts<'a> {
 
     ghost Value = { HeadParts };
 
-    ghost view = { λ p. record { method = p.method.now; target = p.target.now; minor = p.minor; fields = p.fields } };
+    ghost view = { λ p.
+        record { method = p.method.now; target = p.target.now; minor = p.minor; fields = p.fields } };
 }

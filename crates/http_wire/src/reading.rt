@@ -17,7 +17,7 @@ use httparse::spans::{EMPTY_HEADER_SPAN, HeaderSpan, RequestSpans, parse_request
 use pb_base::Memory;
 use std::alloc::Global;
 
-/// The most fields of a head that is read before it is searched for its end.
+// The most fields of a head that is read before it is searched for its end.
 const USUAL_FIELDS: usize = 16;
 
 /// What the bytes come to that a head is made of, and how many these are.
@@ -60,7 +60,7 @@ pub fn read_block(alloc: Global, block: &[u8]) -> Result<HeadStep, Memory>
     }
 }
 
-/// What the head comes to whose parts lie there.
+// What the head comes to whose parts lie there.
 fn judged(
     alloc: Global,
     bytes: &[u8],
@@ -81,7 +81,7 @@ fn judged(
     judge(alloc, &parts)
 }
 
-/// The lines between the request line and the empty line.
+// The lines between the request line and the empty line.
 fn field_lines(block: &[u8]) -> usize
     ensures { result ≡ field_lines block.now }
 {
@@ -98,8 +98,8 @@ fn line_feeds(block: &[u8]) -> usize
     count
 }
 
-/// Where the parts of the head lie that stands in front of the bytes, if there is one with no more fields than there is
-/// room.
+// Where the parts of the head lie that stands in front of the bytes, if there is one with no more fields than there is
+// room.
 fn front_head(bytes: &[u8], spans: &mut [HeaderSpan]) -> Option<RequestSpans>
     ensures within { IfSome result (IsRequestWithin bytes.now spans.new) }
     ensures head { IfSome result (λ found. (h : RequestHead) × IsRequestAt bytes.now spans.new found h) }

@@ -53,7 +53,7 @@ impl Search {
         }
     }
 
-    /// How many line ends stand in front of what is held, in bytes.
+    // How many line ends stand in front of what is held, in bytes.
     fn skipped_in(self, held: &[u8]) -> usize
         requires { IsSearched self.skipped self.seen held.now }
         ensures skipped { result ≡ skipped_bytes held.now }

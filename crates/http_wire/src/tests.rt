@@ -8,7 +8,7 @@ use std::alloc::Global;
 use std::process::Abort;
 use std::test::Fail;
 
-/// A head as a text: method, target, version, `c` where it closes, `e` where it expects 100, and the caller.
+// A head as a text: method, target, version, `c` where it closes, `e` where it expects 100, and the caller.
 fn put_head(text: &mut Text, head: &Head) -> Result<(), Fail> {
     text.put(head.method.as_slice())?;
     text.put(b" ")?;
@@ -24,7 +24,7 @@ fn put_head(text: &mut Text, head: &Head) -> Result<(), Fail> {
     Ok(())
 }
 
-/// The same with its body, or a word for what comes in its place. It answers whether more may come.
+// The same with its body, or a word for what comes in its place. It answers whether more may come.
 fn put_body(
     text: &mut Text,
     wire: &mut Wire,
@@ -48,7 +48,7 @@ fn put_body(
     }
 }
 
-/// The items of a source, as a text.
+// The items of a source, as a text.
 fn items_of(alloc: Global, mut source: MemorySource) -> Result<Text, Fail> {
     let mut wire = Wire::new(alloc);
     let mut text = Text::new(alloc);
@@ -73,7 +73,7 @@ fn items_of(alloc: Global, mut source: MemorySource) -> Result<Text, Fail> {
     Ok(text)
 }
 
-/// The bytes of a stream as a table has it.
+// The bytes of a stream as a table has it.
 fn stream_of(alloc: Global, row: &[u8]) -> Result<Vec<u8>, Fail> {
     let mut bytes = Vec::new(alloc);
     for b in row {
@@ -86,7 +86,7 @@ fn stream_of(alloc: Global, row: &[u8]) -> Result<Vec<u8>, Fail> {
     Ok(bytes)
 }
 
-/// Asserts what a stream has, given whole.
+// Asserts what a stream has, given whole.
 fn has(rt: &impl Abort, alloc: Global, bytes: Vec<u8>, want: &[u8]) -> Result<(), Fail> {
     let source = MemorySource::new(bytes, Vec::new(alloc), Vec::new(alloc));
     let text = items_of(alloc, source)?;
@@ -94,7 +94,7 @@ fn has(rt: &impl Abort, alloc: Global, bytes: Vec<u8>, want: &[u8]) -> Result<()
     Ok(())
 }
 
-/// The edge cases of reading a message.
+// The edge cases of reading a message.
 const EDGES: &[u8] = b"GET /a HTTP/1.1^Host: x^^~GET /a 1 -- - 0:;end\n\
 ~end\n\
 ^^$^~end\n\
@@ -145,14 +145,14 @@ fn each_edge_case_has_its_item(rt: HostRuntime) -> Result<(), Fail> {
     Ok(())
 }
 
-/// Two requests, the first with a body.
+// Two requests, the first with a body.
 const TWO: &[u8] =
     b"^PUT /a HTTP/1.1^Host: x^X-Caller: K1^Content-Length: 3^^abcGET /b HTTP/1.1^Host: x^^";
 
-/// What they are read as.
+// What they are read as.
 const BOTH: &[u8] = b"PUT /a 1 -- K1 3:abc;GET /b 1 -- - 0:;end";
 
-/// Asserts that the two requests have their items where their bytes come in these pieces.
+// Asserts that the two requests have their items where their bytes come in these pieces.
 fn has_both(rt: &impl Abort, alloc: Global, pieces: Vec<usize>) -> Result<(), Fail> {
     let source = MemorySource::new(stream_of(alloc, TWO)?, pieces, Vec::new(alloc));
     let text = items_of(alloc, source)?;
@@ -169,7 +169,7 @@ fn a_stream_has_the_same_items_however_it_is_cut(rt: HostRuntime) -> Result<(), 
     has_both(&rt, alloc, vec![in alloc; 1; 94]?)
 }
 
-/// What so many of their bytes are read as.
+// What so many of their bytes are read as.
 fn items_up_to(length: usize) -> &'static [u8] {
     if length < 3 {
         b"end"
@@ -195,7 +195,7 @@ fn a_stream_ends_at_each_byte(rt: HostRuntime) -> Result<(), Fail> {
     Ok(())
 }
 
-/// A request with so many fields, the first of them so long.
+// A request with so many fields, the first of them so long.
 fn request_with(alloc: Global, fields: usize, padding: usize) -> Result<Vec<u8>, Fail> {
     let mut bytes = stream_of(alloc, b"GET / HTTP/1.1^Host: ")?;
     bytes.append(&mut vec![in alloc; b'x'; padding]?)?;

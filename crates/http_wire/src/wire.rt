@@ -81,7 +81,7 @@ impl Wire {
         Ok(self.step(front)?)
     }
 
-    /// Reads once where nothing is held, and answers whether something is held then.
+    // Reads once where nothing is held, and answers whether something is held then.
     fn fill<S: Source>(&mut self, source: &mut S) -> Result<bool, Fail<ReadFault>>
         ensures stream { let left = (S.input source.old).left in
             let left' = (S.input source.new).left in
@@ -103,7 +103,7 @@ impl Wire {
         Ok(read_more(&mut self.bytes, source, MOST_HEAD_BYTES)? > 0)
     }
 
-    /// The head that comes next, where all of it is held and it has no more fields than usual. It is used up.
+    // The head that comes next, where all of it is held and it has no more fields than usual. It is used up.
     fn usual_head(&mut self) -> Result<Option<HeadStep>, Memory>
         ensures step { IfOk result (λ found. IfSome found (λ step. ReadsHeld step self.old self.new)) }
         ensures none { IfOk result (λ found. IfNone found (self.new ≡ self.old)) }
@@ -120,7 +120,7 @@ impl Wire {
         Ok(Some(first.step))
     }
 
-    /// What that comes to which stands at the front. It is used up if it is a head.
+    // What that comes to which stands at the front. It is used up if it is a head.
     fn step(&mut self, front: Front) -> Result<HeadStep, Memory>
         requires { IsHeld self.old front }
         ensures step { IfOk result (λ step. ReadsFront front step self.old self.new) }
@@ -143,7 +143,7 @@ impl Wire {
         }
     }
 
-    /// Uses up the bytes of a head, so many. What is refused stays.
+    // Uses up the bytes of a head, so many. What is refused stays.
     fn pass(&mut self, step: &HeadStep, count: usize)
         requires { count ≤ length self.old }
         ensures { self.new ≡ behind step.now count self.old }
@@ -153,7 +153,7 @@ impl Wire {
         }
     }
 
-    /// What stands at the front of the stream.
+    // What stands at the front of the stream.
     fn front<S: Source>(&mut self, source: &mut S) -> Result<Front, Fail<ReadFault>>
         ensures front { let left = (S.input source.old).left in
             let left' = (S.input source.new).left in
@@ -208,7 +208,7 @@ impl Wire {
         }))
     }
 
-    /// As many bytes as are held, `most` of them at most, in a vector with room for `most` bytes.
+    // As many bytes as are held, `most` of them at most, in a vector with room for `most` bytes.
     fn take_front(&mut self, most: usize) -> Result<Vec<u8>, Memory>
         ensures taken { IfOk result (λ front. front.items ≡ take most self.old) }
         ensures rest { OnOk result (self.new ≡ drop most self.old) }
@@ -221,7 +221,7 @@ impl Wire {
         Ok(front)
     }
 
-    /// The bytes that are held.
+    // The bytes that are held.
     fn held(&self) -> &[u8]
         ensures value { result.now ≡ self.now }
         ensures small { length self.now ≤ MOST_HEAD_BYTES }
@@ -230,7 +230,7 @@ impl Wire {
     }
 }
 
-/// Drops so many bytes in front.
+// Drops so many bytes in front.
 fn drop_front(bytes: &mut Vec<u8>, count: usize)
     requires { count ≤ length bytes.old.items }
     ensures { bytes.new.items ≡ drop count bytes.old.items }

@@ -26,7 +26,7 @@ pub fn says_close(value: &[u8]) -> bool
         .any(|word| same_word(trimmed(word), b"close"))
 }
 
-/// The bytes without blanks and tabs at both ends.
+// The bytes without blanks and tabs at both ends.
 #[tactic(auto, unfolding(httparse::specs::Grammar::trim_ows))]
 fn trimmed(bytes: &[u8]) -> &[u8]
     ensures { result.now ≡ trim_ows bytes.now }
@@ -40,7 +40,7 @@ fn is_blank(b: u8) -> bool
     b == b' ' || b == b'\t'
 }
 
-/// The bytes without blanks and tabs in front.
+// The bytes without blanks and tabs in front.
 fn without_first(bytes: &[u8]) -> &[u8]
     ensures { result.now ≡ skip_ows bytes.now }
 {
@@ -51,7 +51,7 @@ fn without_first(bytes: &[u8]) -> &[u8]
     &bytes[start..]
 }
 
-/// The bytes without blanks and tabs at their end.
+// The bytes without blanks and tabs at their end.
 fn without_last(bytes: &[u8]) -> &[u8]
     ensures { result.now ≡ reverse (skip_ows (reverse bytes.now)) }
 {

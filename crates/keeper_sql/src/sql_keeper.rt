@@ -23,7 +23,7 @@ pub struct SqlKeeper<S: Alter + Drop> {
 /// A keeper over a file, which sqlite3 can read while no keeper holds it.
 pub type FileKeeper = SqlKeeper<FileStore<File>>;
 
-/// What a call before `begin` comes to, too.
+// What a call before `begin` comes to, too.
 const CANNOT_OPEN: Error = Error::SqliteFailure(ErrorCode::CannotOpen);
 
 impl SqlKeeper<FileStore<File>> {

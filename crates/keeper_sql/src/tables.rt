@@ -3,7 +3,7 @@
 use crate::stored::number;
 use sqlite::{Alter, Connection, Error, ErrorCode, Row};
 
-/// The tables of form 2, and the form.
+// The tables of form 2, and the form.
 const MAKE: &str = "CREATE TABLE form (number INTEGER PRIMARY KEY NOT NULL) STRICT; \
      CREATE TABLE drafts (name TEXT PRIMARY KEY NOT NULL, owner TEXT NOT NULL, revision INTEGER NOT NULL, \
      body BLOB NOT NULL) STRICT; \
@@ -14,16 +14,16 @@ const MAKE: &str = "CREATE TABLE form (number INTEGER PRIMARY KEY NOT NULL) STRI
      CREATE TABLE withdrawn (number INTEGER PRIMARY KEY NOT NULL) STRICT; \
      INSERT INTO form VALUES (2)";
 
-/// The table that form 1 lacks, and the form.
+// The table that form 1 lacks, and the form.
 const MIGRATE: &str =
     "CREATE TABLE withdrawn (number INTEGER PRIMARY KEY NOT NULL) STRICT; UPDATE form SET number = 2";
 
-/// How many objects there are, and how many of the tables that every form has.
+// How many objects there are, and how many of the tables that every form has.
 const COUNT: &str =
     "SELECT count(*), count(CASE WHEN type = 'table' AND name IN ('form', 'drafts', 'books', 'orders') THEN 1 END) \
      FROM sqlite_schema";
 
-/// The form, or 0 where there isn't just one.
+// The form, or 0 where there isn't just one.
 const FORM: &str = "SELECT CASE WHEN count(*) = 1 THEN max(number) ELSE 0 END FROM form";
 
 /// Makes the tables of form 2 where there is nothing, and leaves every other store as it is. `NotADatabase` says that

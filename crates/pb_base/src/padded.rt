@@ -25,9 +25,11 @@ impl<const MAX: usize> Model for Padded<MAX> {
 
     ghost view = { λ a. take a.len a.bytes };
 
-    ghost invariant = { λ a. (a.len ≤ MAX) × (length a.bytes ≡ MAX) × (drop a.len a.bytes ≡ replicate (MAX - a.len) 0) };
+    ghost invariant = { λ a.
+        (a.len ≤ MAX) × (length a.bytes ≡ MAX) × (drop a.len a.bytes ≡ replicate (MAX - a.len) 0) };
 
-    ghost inverse = { λ bytes. record { len = length bytes; bytes = bytes ++ replicate (MAX - length bytes) 0 } };
+    ghost inverse = { λ bytes.
+        record { len = length bytes; bytes = bytes ++ replicate (MAX - length bytes) 0 } };
 
     ghost inverse_ok = { λ a h i. record {
       len = length_back MAX a.len a.bytes h.0 h.1 i;

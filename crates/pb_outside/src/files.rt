@@ -64,7 +64,7 @@ impl<R: rt::Files> Files for SystemFiles<'_, R> {
     }
 }
 
-/// The content of a file of the system, or None where it is longer than `max` bytes.
+// The content of a file of the system, or None where it is longer than `max` bytes.
 fn read_file<R: rt::Files>(
     alloc: Global,
     system: &R,
@@ -77,7 +77,7 @@ fn read_file<R: rt::Files>(
     }
 }
 
-/// The content of a reader, or None where it is longer than `max` bytes.
+// The content of a reader, or None where it is longer than `max` bytes.
 fn read_within<R: Read + Drop>(
     alloc: Global,
     reader: R,

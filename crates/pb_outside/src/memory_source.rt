@@ -24,7 +24,8 @@ impl Model for MemorySource {
 
     ghost Value = { Reads };
 
-    ghost view = { λ s. record { left = drop s.place s.content.items; pieces = s.pieces.items; plan = s.plan } };
+    ghost view = { λ s.
+        record { left = drop s.place s.content.items; pieces = s.pieces.items; plan = s.plan } };
 
     ghost invariant = { λ s. s.place ≤ length s.content.items };
 }
@@ -45,7 +46,7 @@ impl MemorySource {
     }
 }
 
-/// The most bytes that the call of this number gives.
+// The most bytes that the call of this number gives.
 fn limit_of_call(pieces: &[usize], call: u64, most: usize) -> usize
     requires { 1 ≤ most }
     ensures limit { result ≡ piece_limit pieces.now call most }

@@ -7,7 +7,7 @@ ghost use Rattle.pb_outside.specs.Sink.{no_output};
 use crate::{Ends, FaultCount, OutError, Sink, Source};
 use std::io::{Read, Write};
 
-/// How many bytes one read asks for at most. So many are cleared for each read, and a reader seldom has more.
+// How many bytes one read asks for at most. So many are cleared for each read, and a reader seldom has more.
 const CHUNK: usize = 8_192;
 
 /// A source over a reader. Each error of the reader is a fault.
@@ -31,7 +31,8 @@ impl<R: Read> StreamSource<R> {
 }
 
 impl<R: Read> Ends for StreamSource<R> {
-    ghost input = { λ s. record { left = R.remaining s.reader; faults = record { count = s.faults; faultless = false } } };
+    ghost input = { λ s.
+        record { left = R.remaining s.reader; faults = record { count = s.faults; faultless = false } } };
 
     ghost output = { λ _. no_output };
 

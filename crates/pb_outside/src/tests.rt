@@ -98,7 +98,7 @@ fn files_in_memory_are_found_by_the_first_of_a_name(rt: HostRuntime) -> Result<(
     Ok(())
 }
 
-/// A reader that gives two bytes and then fails.
+// A reader that gives two bytes and then fails.
 #[derive(Drop)]
 struct Torn {
     given: bool,
@@ -116,7 +116,7 @@ impl Read for Torn {
     }
 }
 
-/// A writer that takes one byte a call, and whose flush may fail.
+// A writer that takes one byte a call, and whose flush may fail.
 #[derive(Drop)]
 struct Slow<'a> {
     taken: &'a mut Vec<u8>,

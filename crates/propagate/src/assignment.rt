@@ -220,7 +220,7 @@ impl Assignment {
         self.starts.push(self.lits.len() as u32).unwrap();
     }
 
-    /// Takes the last literal back.
+    // Takes the last literal back.
     fn take_last(&mut self)
         requires some { 0 < length self.old.lits }
         requires within { (i : ℕ) → i < length self.old.starts
@@ -233,7 +233,7 @@ impl Assignment {
         self.values[lit.not().code() as usize] = None;
     }
 
-    /// Takes back all literals behind the first so many.
+    // Takes back all literals behind the first so many.
     fn keep_literals(&mut self, end: usize)
         requires counted { length self.old.reasons ≡ length self.old.lits }
         requires end { end ≤ length self.old.lits }
@@ -245,7 +245,7 @@ impl Assignment {
         }
     }
 
-    /// Forgets all levels behind this one, but not their literals.
+    // Forgets all levels behind this one, but not their literals.
     fn keep_levels(&mut self, level: usize)
         requires { level ≤ length self.old.starts }
         ensures { self.new ≡ first_levels self.old level }
@@ -265,7 +265,7 @@ impl Assignment {
     }
 }
 
-/// How many of these rising numbers aren't above this one.
+// How many of these rising numbers aren't above this one.
 fn count_upto(starts: &[u32], place: usize) -> usize
     requires { AreRising starts.now }
     ensures count { result ≤ length starts.now }

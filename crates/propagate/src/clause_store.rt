@@ -80,7 +80,7 @@ impl ClauseStore {
     }
 }
 
-/// Puts the codes of these literals behind the others, in room that is there.
+// Puts the codes of these literals behind the others, in room that is there.
 fn append_codes(codes: &mut Vec<u32>, lits: &[Lit])
     requires room { vec_len codes.old + length lits.now ≤ vec_capacity codes.old }
     requires small { All (λ l. l < 2 ^ 32) lits.now }
@@ -91,7 +91,7 @@ fn append_codes(codes: &mut Vec<u32>, lits: &[Lit])
     }
 }
 
-/// The list at this place, counted from 0.
+// The list at this place, counted from 0.
 #[inline(always)]
 #[tactic(auto, using(clause_pool::proofs::RegionLaws::start_within, clause_pool::proofs::RegionLaws::start_below, clause_pool::proofs::RegionLaws::region_get, clause_pool::proofs::RegionLaws::region_last))]
 fn list_at<'a>(codes: &'a [u32], starts: &[u32], at: usize) -> &'a [u32]

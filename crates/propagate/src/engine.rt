@@ -257,7 +257,7 @@ impl Engine {
     }
 }
 
-/// Visits the literals of the trail from this place on, up to the first clause that is false.
+// Visits the literals of the trail from this place on, up to the first clause that is false.
 fn run(
     assignment: &mut Assignment,
     watched: &mut WatchedClauses,
@@ -281,7 +281,7 @@ fn run(
     Ok(None)
 }
 
-/// Attaches a clause, and says whether it has a literal that isn't false.
+// Attaches a clause, and says whether it has a literal that isn't false.
 fn join(
     assignment: &mut Assignment,
     watched: &mut WatchedClauses,

@@ -20,7 +20,7 @@ pub(crate) enum Saying {
     Literal(u32),
 }
 
-/// What a clause says.
+// What a clause says.
 fn said_by(assignment: &Assignment, lits: &[Lit]) -> Saying
     requires { AreLiteralsOf assignment.now lits.now }
     ensures { Says assignment.now.lits lits.now result }

@@ -11,13 +11,13 @@ use pb_base::Memory;
 use std::alloc::Global;
 use std::test::Fail;
 
-/// Drawn numbers.
+// Drawn numbers.
 #[derive(Drop)]
 struct Numbers {
     state: u64,
 }
 
-/// A further drawn number below this one.
+// A further drawn number below this one.
 fn drawn(numbers: &mut Numbers, bound: u32) -> u32
     requires { 0 < bound }
     ensures { result < bound }
@@ -29,7 +29,7 @@ fn drawn(numbers: &mut Numbers, bound: u32) -> u32
     (numbers.state >> 33) as u32 % bound
 }
 
-/// Whether all literals of a clause are of these variables.
+// Whether all literals of a clause are of these variables.
 fn are_below(lits: &[Lit], vars: u32) -> bool
     ensures { OnTrue result ((l : ℕ) → has lits.now l ≡ true → l < 2 * vars) }
 {
@@ -41,7 +41,7 @@ fn are_below(lits: &[Lit], vars: u32) -> bool
     true
 }
 
-/// Whether a clause begins with two literals that are open.
+// Whether a clause begins with two literals that are open.
 fn begins_open(engine: &Engine, lits: &[Lit]) -> bool
     requires { (l : ℕ) → has lits.now l ≡ true → l < 2 * engine.now.vars }
     ensures { OnTrue result (IsOpenAbove engine.now lits.now) }
@@ -58,7 +58,7 @@ fn begins_open(engine: &Engine, lits: &[Lit]) -> bool
     true
 }
 
-/// Whether the clause may be attached.
+// Whether the clause may be attached.
 fn may_be_attached(engine: &Engine, lits: &[Lit]) -> bool
     ensures below { OnTrue result ((l : ℕ) → has lits.now l ≡ true → l < 2 * engine.now.vars) }
     ensures open_above { OnTrue result (0 < level engine.now → IsOpenAbove engine.now lits.now) }
@@ -72,7 +72,7 @@ fn may_be_attached(engine: &Engine, lits: &[Lit]) -> bool
     begins_open(engine, lits)
 }
 
-/// Adds a clause to the pool and to both engines, unless it may not be attached to one.
+// Adds a clause to the pool and to both engines, unless it may not be attached to one.
 fn add(pool: &mut Pool, fast: &mut Engine, slow: &mut Engine, lits: &[Lit]) -> Result<(), Memory>
     requires fast { pool.old.clauses ≡ fast.old.clauses }
     requires slow { pool.old.clauses ≡ slow.old.clauses }
@@ -90,7 +90,7 @@ fn add(pool: &mut Pool, fast: &mut Engine, slow: &mut Engine, lits: &[Lit]) -> R
     Ok(())
 }
 
-/// Opens a level with this literal, where it is open.
+// Opens a level with this literal, where it is open.
 fn assume(engine: &mut Engine, lit: Lit)
     ensures { engine.new.clauses ≡ engine.old.clauses }
 {
@@ -103,7 +103,7 @@ fn assume(engine: &mut Engine, lit: Lit)
     engine.assume(lit);
 }
 
-/// Goes back to this level, where it is below.
+// Goes back to this level, where it is below.
 fn go_back(engine: &mut Engine, level: u32)
     ensures { engine.new.clauses ≡ engine.old.clauses }
 {
@@ -112,7 +112,7 @@ fn go_back(engine: &mut Engine, level: u32)
     }
 }
 
-/// Whether the two say the same of each variable.
+// Whether the two say the same of each variable.
 fn are_same(fast: &Engine, slow: &Engine) -> bool {
     if fast.vars() != slow.vars() || fast.level() != slow.level() {
         return false;
@@ -126,7 +126,7 @@ fn are_same(fast: &Engine, slow: &Engine) -> bool {
     true
 }
 
-/// Propagates in both, and says whether they came to the same; in conflict both go back to level 0.
+// Propagates in both, and says whether they came to the same; in conflict both go back to level 0.
 fn agree(pool: &Pool, fast: &mut Engine, slow: &mut Engine) -> Result<bool, Memory>
     requires fast { pool.now.clauses ≡ fast.old.clauses }
     requires slow { pool.now.clauses ≡ slow.old.clauses }
@@ -143,7 +143,7 @@ fn agree(pool: &Pool, fast: &mut Engine, slow: &mut Engine) -> Result<bool, Memo
     Ok(found.is_some() && wanted.is_some())
 }
 
-/// A clause of one to four literals is added to the pool and to both engines.
+// A clause of one to four literals is added to the pool and to both engines.
 fn add_drawn(
     numbers: &mut Numbers,
     pool: &mut Pool,
@@ -165,12 +165,12 @@ fn add_drawn(
     add(pool, fast, slow, &lits[..len])
 }
 
-/// A literal of eight variables.
+// A literal of eight variables.
 fn drawn_literal(numbers: &mut Numbers) -> Lit {
     Lit::new(drawn(numbers, 8), drawn(numbers, 2) == 0)
 }
 
-/// One drawn call: a clause more, a level more, levels taken back, or propagation in both. Whether they agree.
+// One drawn call: a clause more, a level more, levels taken back, or propagation in both. Whether they agree.
 fn step(
     numbers: &mut Numbers,
     pool: &mut Pool,
@@ -202,7 +202,7 @@ fn step(
     agree(pool, fast, slow)
 }
 
-/// Clauses over eight variables, and a sequence of calls: whether both bodies agree all the way.
+// Clauses over eight variables, and a sequence of calls: whether both bodies agree all the way.
 fn agree_on_drawn(alloc: Global, numbers: &mut Numbers) -> Result<bool, Memory> {
     let mut pool = Pool::new(alloc);
     let mut fast = Engine::new(alloc, 8)?;
@@ -227,12 +227,12 @@ fn both_bodies_agree_over_drawn_clauses_and_calls(rt: HostRuntime) -> Result<(),
     Ok(())
 }
 
-/// The literal of a letter: a is the first variable's positive one, A its negative one.
+// The literal of a letter: a is the first variable's positive one, A its negative one.
 fn literal_of(letter: u8) -> Lit {
     Lit::new(u32::from(letter % 32).saturating_sub(1), letter >= 97)
 }
 
-/// Adds the clause of these letters to the pool and to both engines.
+// Adds the clause of these letters to the pool and to both engines.
 fn add_letters(
     alloc: Global,
     pool: &mut Pool,
@@ -252,7 +252,7 @@ fn add_letters(
     add(pool, fast, slow, &lits)
 }
 
-/// Whether the trail is of these letters.
+// Whether the trail is of these letters.
 fn is_of(trail: &[Lit], letters: &[u8]) -> bool {
     if trail.len() != letters.len() {
         return false;
@@ -265,8 +265,8 @@ fn is_of(trail: &[Lit], letters: &[u8]) -> bool {
     true
 }
 
-/// Goes back to this level, assumes the letter's literal and propagates, in both: whether they agree, and the
-/// trail is of these letters.
+// Goes back to this level, assumes the letter's literal and propagates, in both: whether they agree, and the
+// trail is of these letters.
 fn comes_to(
     pool: &Pool,
     fast: &mut Engine,
@@ -288,7 +288,7 @@ fn comes_to(
     Ok(agreed && is_of(fast.trail(), letters))
 }
 
-/// Adds the clauses ab, Acd and BC.
+// Adds the clauses ab, Acd and BC.
 fn add_three(
     alloc: Global,
     pool: &mut Pool,
@@ -306,7 +306,7 @@ fn add_three(
     Ok(())
 }
 
-/// Whether A, then a, and then D besides, come to the trails that they should.
+// Whether A, then a, and then D besides, come to the trails that they should.
 fn three_come(pool: &Pool, fast: &mut Engine, slow: &mut Engine) -> Result<bool, Memory>
     requires fast { pool.now.clauses ≡ fast.old.clauses }
     requires slow { pool.now.clauses ≡ slow.old.clauses }

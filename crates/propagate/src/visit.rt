@@ -112,7 +112,7 @@ pub(crate) fn look(
     Ok(Outcome::Conflict(entry.clause))
 }
 
-/// The same where the entry alone doesn't tell: looks at the clause.
+// The same where the entry alone doesn't tell: looks at the clause.
 fn look_further(
     assignment: &mut Assignment,
     watched: &mut WatchedClauses,

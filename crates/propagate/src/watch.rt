@@ -85,7 +85,7 @@ impl WatchLists {
         Ok(())
     }
 
-    /// Takes the last entry of a literal back.
+    // Takes the last entry of a literal back.
     fn pop(&mut self, code: u32)
         requires { code < length self.old }
         ensures { self.new ≡ popped_at self.old code }

@@ -1,5 +1,5 @@
 mod Writing
-mod Faults
+pub mod Faults
 mod Streams
 mod Going
 mod Ending

@@ -12,7 +12,7 @@ use std::alloc::Global;
 use std::process::Abort;
 use std::test::Fail;
 
-/// A holder with no step left, of a desk that keeps nothing.
+// A holder with no step left, of a desk that keeps nothing.
 #[derive(Drop)]
 struct Spent;
 
@@ -34,7 +34,7 @@ impl Turns for Spent {
     }
 }
 
-/// Bytes as a table has them.
+// Bytes as a table has them.
 fn bytes_of(alloc: Global, row: &[u8]) -> Result<Vec<u8>, Fail> {
     let mut bytes = Vec::new(alloc);
     for b in row {
@@ -57,14 +57,14 @@ fn word_of(end: SessionEnd) -> &'static [u8] {
     }
 }
 
-/// A link in memory over this stream, which comes in these pieces.
+// A link in memory over this stream, which comes in these pieces.
 fn link_of(alloc: Global, stream: &[u8], pieces: Vec<usize>) -> Result<MemoryLink, Fail> {
     let source = MemorySource::new(bytes_of(alloc, stream)?, pieces, Vec::new(alloc));
     let sink = MemorySink::new(alloc, 4_096, Vec::new(alloc))?;
     Ok(MemoryLink::new(source, sink))
 }
 
-/// Asserts how a session over a link ends, and what it writes.
+// Asserts how a session over a link ends, and what it writes.
 fn has(
     rt: &impl Abort,
     alloc: Global,
@@ -109,11 +109,11 @@ fn each_stream_has_its_end_and_its_responses(rt: HostRuntime) -> Result<(), Fail
     Ok(())
 }
 
-/// Two requests, the second of which closes.
+// Two requests, the second of which closes.
 const TWO: &[u8] =
     b"PUT /a HTTP/1.1^Host: x^Expect: 100-continue^Content-Length: 3^^abcGET /b HTTP/1.0^^";
 
-/// What is written for them.
+// What is written for them.
 const BOTH: &[u8] = b"HTTP/1.1 100 Continue^^\
 HTTP/1.1 404 Not Found^Content-Type: text/plain^Content-Length: 13^^no such path$\
 HTTP/1.1 404 Not Found^Content-Type: text/plain^Content-Length: 13^Connection: close^^no such path$";
@@ -129,8 +129,8 @@ fn a_stream_has_the_same_responses_however_it_is_cut(rt: HostRuntime) -> Result<
     has(&rt, alloc, link, b"done", BOTH)
 }
 
-/// The same requests over a link whose source comes in two pieces, of which the first ends inside the first body, with these
-/// calls that fail.
+// The same requests over a link whose source comes in two pieces, of which the first ends inside the first body, with these
+// calls that fail.
 fn faulty_link(
     alloc: Global,
     read_fails: Vec<u64>,

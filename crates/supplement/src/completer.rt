@@ -32,7 +32,8 @@ impl<'a> Model for Completer<'a> {
 
     ghost view = { λ c. record { book = c.book.now; day = c.day } };
 
-    ghost invariant = { λ c. AreOccurrences (length c.book.now.codes) c.book.now.supplements c.day c.occurrences };
+    ghost invariant = { λ c.
+        AreOccurrences (length c.book.now.codes) c.book.now.supplements c.day c.occurrences };
 }
 
 impl<'a> Completer<'a> {

@@ -32,7 +32,8 @@ impl Model for Worklist {
 
     ghost view = { λ w. map (λ r. r.0) (heap_items w.heap) };
 
-    ghost invariant = { λ w. IsHeap (λ x y. ordering_then (nat_cmp y.0.rank x.0.rank) (nat_cmp y.0.rule x.0.rule)) (heap_items w.heap) };
+    ghost invariant = { λ w. IsHeap
+        (λ x y. ordering_then (nat_cmp y.0.rank x.0.rank) (nat_cmp y.0.rule x.0.rule)) (heap_items w.heap) };
 }
 
 impl Worklist {

@@ -8,5 +8,6 @@ ghost use Rattle.written_book.specs.Written.{IsWritten};
 
 /// The text of a heading and records that fit reads as their book. The call does nothing.
 pub fn reads_back()
-    ensures { (h : Heading) (items : List Item) → IsWritten h items → book_of (text_of h items) ≡ Ok (contents_of h items) }
+    ensures { (h : Heading) (items : List Item) → IsWritten h items
+        → book_of (text_of h items) ≡ Ok (contents_of h items) }
 {}
