@@ -161,7 +161,7 @@ pub reached_otherwise : (d : DraftRow) (row : BookRow) → d.revision ≤ row.re
 reached_otherwise d row within other = grind (arith, within, other)
 
 -- a book that is read goes behind the others, under the next number
-book_rows-append : (n : ℕ) (books : List KeptBook) (book : KeptBook)
+pub book_rows-append : (n : ℕ) (books : List KeptBook) (book : KeptBook)
     → book_rows n (books ++ book ∷ []) ≡ book_rows n books ++ book_row (length books + n) book ∷ []
 book_rows-append n [] book = ap (λ k. book_row k book ∷ []) (omega arith)
 book_rows-append n (b ∷ bs) book =

@@ -1,5 +1,5 @@
 -- Rows of drafts as they are read.
-use Rattle.std.proofs.Common.{◌≡◌, ℕ, ◌<◌, ◌≤◌, true, false, ◌&&◌, List, [], ◌∷◌, ◌++◌, length, map, sym, ap, subst, ◌∙◌, arith}
+use Rattle.std.proofs.Common.{◌≡◌, ℕ, ◌<◌, ◌≤◌, Bool, true, false, List, Some, [], ◌∷◌, ◌++◌, length, map, sym, ap, subst, ◌∙◌, arith}
 use Rattle.std.specs.Prelude.{nat_le, nat_lt}
 use Rattle.std.specs.BTreeMap.{insert_entry}
 use Rattle.std.specs.List.{list_all}
@@ -16,7 +16,7 @@ use Rattle.order_desk.specs.declared.limits.TheConstants.{MOST_DRAFTS, MOST_REVI
 use Rattle.order_desk.specs.RightRows.{comes_last, is_draft_row}
 use Rattle.order_desk.specs.Rows.{draft_row}
 use Rattle.order_desk.specs.Tables.{by_name}
-use Rattle.order_desk.proofs.Conjunction.{left_of, right_of, not_left, not_right}
+use Rattle.order_desk.proofs.Conjunction.{each_of, one_fails}
 use Rattle.order_desk.proofs.Keys.{by_name_total}
 use Rattle.order_desk.proofs.Reading.{IsRead, read_more}
 use Rattle.order_desk.proofs.RisingKeys.{insert-last, rising_rows}
@@ -31,44 +31,31 @@ pub record IsDraftRow (before : List DraftRow) (row : DraftRow) : Type 0 where
   pub size : nat_le (length row.text) MOST_TEXT_BYTES ≡ true
   pub room : nat_lt (length before) MOST_DRAFTS ≡ true
 
-pub draft_row_says : (before : List DraftRow) (row : DraftRow) → is_draft_row before row ≡ true → IsDraftRow before row
-draft_row_says before row is =
-    let n = is_name row.name in
-    let o = is_name row.owner in
-    let r = comes_last keys.by_name before row in
-    let l = nat_le 1 row.revision in
-    let m = nat_le row.revision MOST_REVISION in
-    let s = nat_le (length row.text) MOST_TEXT_BYTES in
-    let f = nat_lt (length before) MOST_DRAFTS in
-    let six = left_of (n && o && r && l && m && s) f is in
-    let five = left_of (n && o && r && l && m) s six in
-    let four = left_of (n && o && r && l) m five in
-    let three = left_of (n && o && r) l four in
-    let two = left_of (n && o) r three in
-    record {
-      name = left_of n o two;
-      owner = right_of n o two;
-      rises = right_of (n && o) r three;
-      least = right_of (n && o && r) l four;
-      most = right_of (n && o && r && l) m five;
-      size = right_of (n && o && r && l && m) s six;
-      room = right_of (n && o && r && l && m && s) f is;
-    }
+module _ (before : List DraftRow) (row : DraftRow) where
+  -- the tests behind the first
+  abbrev tests : List Bool
+  tests =
+      is_name row.owner ∷ comes_last keys.by_name before row ∷ nat_le 1 row.revision ∷ nat_le row.revision MOST_REVISION
+      ∷ nat_le (length row.text) MOST_TEXT_BYTES ∷ nat_lt (length before) MOST_DRAFTS ∷ []
 
-pub draft_row_is : (before : List DraftRow) (row : DraftRow) → IsDraftRow before row → is_draft_row before row ≡ true
-draft_row_is before row is = grind (arith, is.name, is.owner, is.rises, is.least, is.most, is.size, is.room)
+  pub draft_row_says : is_draft_row before row ≡ true → IsDraftRow before row
+  draft_row_says is =
+      let each = each_of (is_name row.name) tests is in
+      record {
+        name = each.0;
+        owner = each.1.0;
+        rises = each.1.1.0;
+        least = each.1.1.1.0;
+        most = each.1.1.1.1.0;
+        size = each.1.1.1.1.1.0;
+        room = each.1.1.1.1.1.1.0;
+      }
 
-pub draft_row_falls : (before : List DraftRow) (row : DraftRow) → comes_last keys.by_name before row ≡ false → is_draft_row before row ≡ false
-draft_row_falls before row falls =
-    let n = is_name row.name in
-    let o = is_name row.owner in
-    let r = comes_last keys.by_name before row in
-    let l = nat_le 1 row.revision in
-    let m = nat_le row.revision MOST_REVISION in
-    let s = nat_le (length row.text) MOST_TEXT_BYTES in
-    let f = nat_lt (length before) MOST_DRAFTS in
-    not_left (n && o && r && l && m && s) f (not_left (n && o && r && l && m) s (not_left (n && o && r && l) m
-    (not_left (n && o && r) l (not_right (n && o) r falls))))
+  pub draft_row_is : IsDraftRow before row → is_draft_row before row ≡ true
+  draft_row_is is = grind (arith, is.name, is.owner, is.rises, is.least, is.most, is.size, is.room)
+
+  pub draft_row_falls : comes_last keys.by_name before row ≡ false → is_draft_row before row ≡ false
+  draft_row_falls falls = one_fails (is_name row.name) tests 1 (ap Some falls)
 
 -- the names of rows rise with those of their drafts
 pub draft_rises : (es : List (List ℕ × Draft)) (row : DraftRow) (name : List ℕ) → row.name ≡ name

@@ -9,13 +9,13 @@ use Rattle.keeper.specs.Rows as kept
 use Rattle.desk_words.specs.declared.order_words.OrderWords.{OrderWords}
 use Rattle.order_desk.specs.declared.draft.Draft.{Draft}
 use Rattle.order_desk.specs.declared.kept_book.KeptBook.{KeptBook}
-use Rattle.order_desk.specs.declared.limits.TheConstants.{MOST_BOOKS, MOST_DRAFTS, MOST_ORDERS}
+use Rattle.order_desk.specs.declared.limits.TheConstants.{MOST_BOOKS, MOST_ORDERS}
 use Rattle.order_desk.specs.declared.order_key.OrderKey.{OrderKey}
 use Rattle.order_desk.specs.Fits.{IsReleaseOf, IsPlaced}
 use Rattle.order_desk.specs.History.{Stays, IsLaterDraft}
 use Rattle.order_desk.specs.Rows.{IsDesk, draft_row, book_row, order_row}
 use Rattle.order_desk.specs.Tables.{Tables, by_name, by_key, draft_at, book_at, order_at, released_as, with_draft, with_book, with_withdrawn, with_order}
-use Rattle.order_desk.specs.Valid.{IsDraft}
+use Rattle.order_desk.specs.Valid.{HasRoom, IsDraft}
 use Rattle.order_desk.specs.Writing.{IsWritten}
 use Rattle.order_desk.proofs.Following.{desk_write}
 use Rattle.order_desk.proofs.Growth.{place_of_number}
@@ -38,7 +38,7 @@ module _ (drafts : List (List ℕ × Draft)) (books : List KeptBook) (orders : L
   t = record { drafts = drafts; books = books; orders = orders }
 
   pub draft_kept : t ≡ u → IsDesk t told → (name : List ℕ) (draft : Draft) → IsDraft name draft
-      → (draft_at u.drafts name ≡ None → length u.drafts < MOST_DRAFTS) → Stays IsLaterDraft (draft_at u.drafts name) (Some draft)
+      → HasRoom u.drafts name → Stays IsLaterDraft (draft_at u.drafts name) (Some draft)
       → (new : List (List ℕ × Draft)) → OnOk written (new ≡ insert_entry by_name drafts name draft) → OnErr written (new ≡ drafts)
       → OnOk written (later_told ≡ option_map (kept.with_draft (draft_row (name, draft))) told) → OnErr written (later_told ≡ told)
       → IsDesk (record { drafts = new; books = books; orders = orders }) later_told
@@ -46,7 +46,7 @@ module _ (drafts : List (List ℕ × Draft)) (books : List KeptBook) (orders : L
       desk_write (kept.with_draft (draft_row (name, draft))) t (with_draft t name draft) (record { drafts = new; books = books; orders = orders })
       told later_told written desk
       (valid-with_draft t name draft desk.valid form
-      (subst (λ (x : Tables). draft_at x.drafts name ≡ None → length x.drafts < MOST_DRAFTS) (sym is) room)
+      (subst (λ (x : Tables). HasRoom x.drafts name) (sym is) room)
       (subst (λ (x : Tables). Stays IsLaterDraft (draft_at x.drafts name) (Some draft)) (sym is) later))
       (rows-with_draft t name draft)
       (written_as (λ (ds : List (List ℕ × Draft)). record { drafts = ds; books = books; orders = orders }) written drafts

@@ -1,8 +1,8 @@
 -- Rows of orders as they are read.
-use Rattle.std.proofs.Common.{◌≡◌, ℕ, ◌+◌, ◌-◌, ◌<◌, ◌≤◌, ◌==◌, zero, suc, cond, Bool, true, false, ◌&&◌, List, [], ◌∷◌, ◌++◌, Option, None, Some, length, map, refl, sym, ap, subst, ◌∙◌, arith}
+use Rattle.std.proofs.Common.{◌≡◌, ℕ, ◌+◌, ◌-◌, ◌<◌, ◌≤◌, ◌==◌, zero, suc, cond, Bool, true, false, List, [], ◌∷◌, ◌++◌, Option, None, Some, length, map, refl, sym, ap, subst, ◌∙◌, arith}
 use Rattle.std.specs.Prelude.{Ok, find, nat_le, nat_lt, slice_get}
 use Rattle.std.specs.BTreeMap.{insert_entry}
-use Rattle.std.specs.List.{All, AllByRecursion, join_by, join_with_byte, list_all, slice_split}
+use Rattle.std.specs.List.{AllByRecursion, join_by, join_with_byte, list_all, slice_split}
 use Rattle.std.specs.Map.{keys_of}
 use Rattle.std.specs.Option.{option_map}
 use Rattle.std.specs.Ordering.{is_lt}
@@ -22,11 +22,12 @@ use Rattle.release.specs.Release.{Release, IsRelease}
 use Rattle.order_desk.specs.declared.kept_book.KeptBook.{KeptBook}
 use Rattle.order_desk.specs.declared.limits.TheConstants.{MOST_ORDERS, MOST_ORDER_NUMBER}
 use Rattle.order_desk.specs.declared.order_key.OrderKey.{OrderKey}
+use Rattle.order_desk.specs.Fits.{AreCodes}
 use Rattle.order_desk.specs.Judging.{accepts, accepted_by}
 use Rattle.order_desk.specs.RightRows.{accepts_row, codes_in, comes_last, is_order_row, is_under}
 use Rattle.order_desk.specs.Rows.{book_row, book_rows, codes_text, order_row}
 use Rattle.order_desk.specs.Tables.{book_at, by_key}
-use Rattle.order_desk.proofs.Conjunction.{left_of, right_of, not_left, not_right}
+use Rattle.order_desk.proofs.Conjunction.{each_of, none_after, one_fails}
 use Rattle.order_desk.proofs.Entries.{all-insert}
 use Rattle.order_desk.proofs.Growth.{place_of_number}
 use Rattle.order_desk.proofs.Keys.{by_key_total, by_key_exact}
@@ -34,26 +35,6 @@ use Rattle.order_desk.proofs.Reading.{IsRead, read_more}
 use Rattle.order_desk.proofs.RisingKeys.{insert-last, rising_rows}
 
 -- ---- the tests of a row
-
--- tests that are made from the left
-abbrev all_of : Bool → List Bool → Bool
-all_of passed [] = passed
-all_of passed (test ∷ tests) = all_of (passed && test) tests
-
-each_of : (passed : Bool) (tests : List Bool) → all_of passed tests ≡ true → (passed ≡ true) × AllByRecursion (λ test. test ≡ true) tests
-each_of passed [] all = (all, tt)
-each_of passed (test ∷ tests) all =
-    let each = each_of (passed && test) tests all in
-    (left_of passed test each.0, (right_of passed test each.0, each.1))
-
-none_after : (passed : Bool) (tests : List Bool) → passed ≡ false → all_of passed tests ≡ false
-none_after passed [] fails = fails
-none_after passed (test ∷ tests) fails = none_after (passed && test) tests (not_left passed test fails)
-
-one_fails : (passed : Bool) (tests : List Bool) (place : ℕ) → slice_get tests place ≡ Some false → all_of passed tests ≡ false
-one_fails passed [] place fails = cc
-one_fails passed (test ∷ tests) zero fails = let fails : test ≡ false = cc in none_after (passed && test) tests (not_right passed test fails)
-one_fails passed (test ∷ tests) (suc place) fails = one_fails (passed && test) tests place fails
 
 -- what the tests of a row say
 pub record IsOrderRow (books : List BookRow) (before : List OrderRow) (row : OrderRow) : Type 0 where
@@ -214,24 +195,21 @@ order_rises es row key caller number =
     ∙ ap (λ n. by_key e.0 (record { caller = key.caller; number = n })) number) es
 
 pub codes_named : (text : List ℕ) (codes : List (List ℕ)) → codes ≡ codes_in text → list_all is_code_name (codes_in text) ≡ true
-    → All (λ code. is_code_name code ≡ true) codes
+    → AreCodes codes
 codes_named text codes split named =
     AllPass-from_list_all is_code_name codes (ap (list_all is_code_name) split ∙ named)
-
-abbrev AreNamed : OrderKey × OrderWords → Type 0
-AreNamed e = All (λ code. is_code_name code ≡ true) e.1.codes
 
 -- the orders of the rows that were seen, and the rows that are left
 pub record AreRead (books : List BookRow) (rows : List OrderRow) (es : List (OrderKey × OrderWords)) (rest : List OrderRow) : Type 0 where
   pub read : IsRead (is_order_row books) rows (map order_row es) rest
   pub few : length es ≤ MOST_ORDERS
-  pub named : AllByRecursion (λ e. All (λ code. is_code_name code ≡ true) e.1.codes) es
+  pub named : AllByRecursion (λ e. AreCodes e.1.codes) es
 
 -- the order of the next row
 pub record IsNextOrder (books : List BookRow) (es : List (OrderKey × OrderWords)) (row : OrderRow) (key : OrderKey) (order : OrderWords) : Type 0 where
   pub right : is_order_row books (map order_row es) row ≡ true
   pub said : order_row (key, order) ≡ row
-  pub named : All (λ code. is_code_name code ≡ true) order.codes
+  pub named : AreCodes order.codes
 
 pub orders_more : (books : List BookRow) (rows : List OrderRow) (es : List (OrderKey × OrderWords)) (row : OrderRow) (rest : List OrderRow)
     (key : OrderKey) (order : OrderWords) → AreRead books rows es (row ∷ rest) → IsNextOrder books es row key order
@@ -248,5 +226,5 @@ orders_more books rows es row rest key order are next =
     record {
       read = subst (λ l. IsRead (is_order_row books) rows l rest) (sym seen) (read_more (is_order_row books) rows (map order_row es) row rest are.read next.right);
       few = omega (arith, ap length last, length_push es (key, order), length-map es order_row, room);
-      named = all-insert by_key_total by_key_exact key order AreNamed next.named es are.named;
+      named = all-insert by_key_total by_key_exact key order (λ e. AreCodes e.1.codes) next.named es are.named;
     }

@@ -30,7 +30,7 @@ use Rattle.order_desk.specs.Rows.{book_row, book_rows, draft_row, order_row, row
 use Rattle.order_desk.specs.Tables.{Tables, by_key, by_name, is_of}
 use Rattle.order_desk.specs.Valid.{IsDraft, IsValid, are_of_one}
 use Rattle.order_desk.proofs.BookDays.{accepted_day}
-use Rattle.order_desk.proofs.BookRows.{book_row_is, find_draft, length-book_rows, reached_before, reached_now, released_before}
+use Rattle.order_desk.proofs.BookRows.{book_row_is, book_rows-append, find_draft, length-book_rows, reached_before, reached_now, released_before}
 use Rattle.order_desk.proofs.Conjunction.{both_of}
 use Rattle.order_desk.proofs.DraftRows.{draft_row_is, draft_rises}
 use Rattle.order_desk.proofs.Entries.{weaker}
@@ -38,7 +38,6 @@ use Rattle.order_desk.proofs.Growth.{place_of_number}
 use Rattle.order_desk.proofs.OrderRows.{accepted_as, made_of, order_rises, order_row_is}
 use Rattle.order_desk.proofs.StartCodes.{codes_same}
 use Rattle.order_desk.proofs.StartRows.{none_is_bad}
-use Rattle.order_desk.proofs.StartTables.{book_rows-more}
 
 -- a row that is right leaves the rows behind it
 turn : {R : Type 0} (is_right : List R → R → Bool) (before : List R) (row : R) (rows : List R) → is_right before row ≡ true
@@ -139,7 +138,7 @@ books_own es seen [] distinct few all = refl
 books_own es seen (b ∷ bs) distinct few all =
     turn is_right (book_rows 1 seen) (book_row (length seen + 1) b) (book_rows (length seen + 1 + 1) bs)
     (book_own es seen b bs distinct (omega (arith, few)) all.0)
-    ∙ ap (λ before. first_wrong is_right before (book_rows (length seen + 1 + 1) bs)) (sym (book_rows-more 1 seen b))
+    ∙ ap (λ before. first_wrong is_right before (book_rows (length seen + 1 + 1) bs)) (sym (book_rows-append 1 seen b))
     ∙ ap (λ n. first_wrong is_right (book_rows 1 (seen ++ b ∷ [])) (book_rows (n + 1) bs)) (sym (length_push seen b))
     ∙ books_own es (seen ++ b ∷ []) bs (subst (IsDistinct are_of_one) (sym (append_assoc seen (b ∷ []) bs)) distinct)
     (omega (arith, length_push seen b, few)) all.1

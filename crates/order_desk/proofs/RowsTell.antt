@@ -13,13 +13,13 @@ use Rattle.release.specs.Release.{Release, IsRelease}
 use Rattle.order_desk.specs.declared.draft.Draft.{Draft}
 use Rattle.order_desk.specs.declared.kept_book.KeptBook.{KeptBook}
 use Rattle.order_desk.specs.declared.order_key.OrderKey.{OrderKey}
+use Rattle.order_desk.specs.Fits.{AreCodes}
 use Rattle.order_desk.specs.RightRows.{codes_in}
 use Rattle.order_desk.specs.Rows.{book_row, book_rows, draft_row, order_row, rows_of, withdrawn_rows}
 use Rattle.order_desk.specs.Tables.{Tables}
 use Rattle.order_desk.specs.Valid.{IsValid}
 use Rattle.order_desk.proofs.Entries.{weaker}
 use Rattle.order_desk.proofs.StartCodes.{codes_same}
-use Rattle.order_desk.proofs.StartTables.{AreCodes}
 
 -- ---- drafts
 
@@ -36,7 +36,7 @@ drafts_back (e ∷ es) = ap (λ l. e ∷ l) (drafts_back es)
 order_back : OrderRow → OrderKey × OrderWords
 order_back row = (record { caller = row.caller; number = row.number }, record { book = row.book; day = row.day; codes = codes_in row.codes })
 
-orders_back : (os : List (OrderKey × OrderWords)) → AllByRecursion (λ o. AreCodes o.1) os → map order_back (map order_row os) ≡ os
+orders_back : (os : List (OrderKey × OrderWords)) → AllByRecursion (λ o. AreCodes o.1.codes) os → map order_back (map order_row os) ≡ os
 unfolding order_back
 orders_back [] codes = refl
 orders_back (o ∷ os) codes =
@@ -98,7 +98,7 @@ rows_tell t u same t_is u_is =
     same_books 1 t.books u.books (released_of t t_is) (released_of u u_is) (λ i. (same i).books) (λ i. (same i).withdrawn) in
     λ i. record { drafts = drafts i; books = books i; orders = orders i }
   where
-    codes_of : (v : Tables) → IsValid v → AllByRecursion (λ o. AreCodes o.1) v.orders
+    codes_of : (v : Tables) → IsValid v → AllByRecursion (λ o. AreCodes o.1.codes) v.orders
     codes_of v valid = weaker _ _ (λ o is. is.under.codes) v.orders valid.orders
 
     released_of : (v : Tables) → IsValid v → AllByRecursion (λ b. IsRelease b.released) v.books

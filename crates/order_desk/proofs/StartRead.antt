@@ -14,12 +14,12 @@ use Rattle.order_desk.specs.declared.kept_book.KeptBook.{KeptBook}
 use Rattle.order_desk.specs.declared.start.BadPlace.{BadPlace}
 use Rattle.order_desk.specs.declared.limits.TheConstants.{MOST_BOOKS}
 use Rattle.order_desk.specs.declared.order_key.OrderKey.{OrderKey}
+use Rattle.order_desk.specs.Fits.{AreCodes}
 use Rattle.order_desk.specs.RightRows.{bad_form, first_bad, first_wrong, is_book_row, is_draft_row, is_order_row, is_withdrawn_row}
 use Rattle.order_desk.specs.Rows.{book_rows, draft_row, order_row, rows_of, withdrawn_rows}
-use Rattle.order_desk.specs.Tables.{Tables}
 use Rattle.order_desk.specs.Valid.{IsValid}
 use Rattle.order_desk.proofs.StartRows.{BooksAreRight, DraftsAreRight, OrdersAreRight, book_is_bad, none_is_bad, order_is_bad, rows_are, withdrawn_is_bad}
-use Rattle.order_desk.proofs.StartTables.{AreCodes, books_right, draft_names, drafts_right, tables_right}
+use Rattle.order_desk.proofs.StartTables.{books_right, draft_names, drafts_right, tables_right}
 
 pub record DraftsRead (k : Kept) (es : List (List ℕ × Draft)) : Type 0 where
   pub form : bad_form k.form ≡ None
@@ -36,7 +36,7 @@ pub record OrdersRead (k : Kept) (es : List (List ℕ × Draft)) (bs : List Kept
   pub books : BooksRead k es bs
   pub right : first_wrong (is_order_row (book_rows 1 bs)) [] k.orders ≡ None
   pub rows : map order_row os ≡ k.orders
-  pub codes : AllByRecursion (λ o. AreCodes o.1) os
+  pub codes : AllByRecursion (λ o. AreCodes o.1.codes) os
 
 -- the books as they are once some of them are withdrawn
 pub record AllRead (k : Kept) (es : List (List ℕ × Draft)) (bs : List KeptBook) (os : List (OrderKey × OrderWords)) (new : List KeptBook) : Type 0 where

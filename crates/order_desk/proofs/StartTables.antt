@@ -2,7 +2,7 @@
 use Rattle.std.proofs.Common.{◌≡◌, ℕ, ◌+◌, ◌<◌, ◌==◌, Bool, true, false, not, ◌&&◌, ◌||◌, List, [], ◌∷◌, ◌++◌, Option, None, Some, length, map, refl, sym, ap, subst, ◌∙◌, arith, append_assoc, append-nil}
 use Rattle.std.specs.Prelude.{find, is_some, nat_lt, if◌then◌else◌}
 use Rattle.std.specs.Cmp.Lexicographic.{bytes_decides}
-use Rattle.std.specs.List.{All, AllByRecursion, IsDistinct, list_any}
+use Rattle.std.specs.List.{AllByRecursion, IsDistinct, list_any}
 use Rattle.std.specs.List.Sorted.{IsStrictlySortedBy}
 use Rattle.std.specs.Option.{option_map}
 use Rattle.std.specs.Result.{is_ok}
@@ -13,7 +13,7 @@ use Rattle.desk_words.specs.declared.order_words.OrderWords.{OrderWords}
 use Rattle.keeper.specs.declared.rows.BookRow.{BookRow}
 use Rattle.keeper.specs.declared.rows.DraftRow.{DraftRow}
 use Rattle.keeper.specs.declared.rows.OrderRow.{OrderRow}
-use Rattle.pb_base.specs.Names.{is_name, is_code_name, same_name}
+use Rattle.pb_base.specs.Names.{is_name, same_name}
 use Rattle.pb_base.specs.declared.limits.TheConstants.{MOST_TEXT_BYTES}
 use Rattle.release.specs.Certified.{release_of}
 use Rattle.release.specs.Release.{Release, IsRelease}
@@ -21,13 +21,13 @@ use Rattle.order_desk.specs.declared.draft.Draft.{Draft}
 use Rattle.order_desk.specs.declared.kept_book.KeptBook.{KeptBook}
 use Rattle.order_desk.specs.declared.limits.TheConstants.{MOST_BOOKS, MOST_DRAFTS, MOST_ORDERS, MOST_ORDER_NUMBER, MOST_REVISION}
 use Rattle.order_desk.specs.declared.order_key.OrderKey.{OrderKey}
-use Rattle.order_desk.specs.Fits.{IsReleaseOf, IsOrderUnder, IsPlaced}
+use Rattle.order_desk.specs.Fits.{AreCodes, IsReleaseOf, IsOrderUnder, IsPlaced}
 use Rattle.order_desk.specs.Judging.{accepted_by}
 use Rattle.order_desk.specs.RightRows.{first_wrong, has_reached, have_one_revision, is_book_row, is_draft_row, is_order_row}
 use Rattle.order_desk.specs.Rows.{book_row, book_rows, draft_row, order_row}
 use Rattle.order_desk.specs.Tables.{Tables, by_key, by_name, book_at, draft_at, released_as}
 use Rattle.order_desk.specs.Valid.{IsDraft, IsValid}
-use Rattle.order_desk.proofs.BookRows.{find_draft, length-book_rows, released_before}
+use Rattle.order_desk.proofs.BookRows.{book_rows-append, find_draft, length-book_rows, released_before}
 use Rattle.order_desk.proofs.Conjunction.{left_of, right_of}
 use Rattle.order_desk.proofs.DraftRows.{draft_row_says, draft_rises}
 use Rattle.order_desk.proofs.Keys.{by_name_total, by_name_exact, by_key_total, by_key_exact}
@@ -115,14 +115,6 @@ was_fresh (Some k) h = cc
 abbrev with_books : List (List ℕ × Draft) → List KeptBook → Tables
 with_books es books = record { drafts = es; books = books; orders = [] }
 
-pub book_rows-more : (n : ℕ) (books : List KeptBook) (book : KeptBook)
-    → book_rows n (books ++ book ∷ []) ≡ book_rows n books ++ book_row (length books + n) book ∷ []
-book_rows-more n [] book = ap (λ k. book_row k book ∷ []) (omega arith)
-book_rows-more n (b ∷ bs) book =
-    ap (λ rows. book_row n b ∷ rows)
-    (book_rows-more (n + 1) bs book
-    ∙ ap (λ k. book_rows (n + 1) bs ++ book_row k book ∷ []) (omega arith))
-
 books_more : (es : List (List ℕ × Draft)) (seen books : List KeptBook) → IsValid (with_books es seen)
     → AllByRecursion (λ b. IsRelease b.released) books
     → first_wrong (is_book_row (map draft_row es)) (book_rows 1 seen) (book_rows (length seen + 1) books) ≡ None
@@ -151,7 +143,7 @@ books_more es seen (b ∷ bs) valid all right =
 
     same : Later ≡ first_wrong (is_book_row (map draft_row es)) (book_rows 1 (seen ++ b ∷ [])) (book_rows (length (seen ++ b ∷ []) + 1) bs)
     same =
-        ap (λ before. first_wrong (is_book_row (map draft_row es)) before (book_rows (length seen + 1 + 1) bs)) (sym (book_rows-more 1 seen b))
+        ap (λ before. first_wrong (is_book_row (map draft_row es)) before (book_rows (length seen + 1 + 1) bs)) (sym (book_rows-append 1 seen b))
         ∙ ap (λ n. first_wrong (is_book_row (map draft_row es)) (book_rows 1 (seen ++ b ∷ [])) (book_rows (n + 1) bs)) (sym (length_push seen b))
 
     by : (x : Bool) → is_book_row (map draft_row es) (book_rows 1 seen) row ≡ x
@@ -184,12 +176,9 @@ books_right es books drafts all right = books_more es [] books (no_books es draf
 
 -- ---- orders
 
-abbrev pub AreCodes : OrderWords → Type 0
-AreCodes order = All (λ code. is_code_name code ≡ true) order.codes
-
 -- the order's book is there, and accepts it
 order_under : (books : List KeptBook) (before : List OrderRow) (key : OrderKey) (order : OrderWords)
-    → AllByRecursion (λ b. IsRelease b.released) books → AreCodes order → IsOrderRow (book_rows 1 books) before (order_row (key, order))
+    → AllByRecursion (λ b. IsRelease b.released) books → AreCodes order.codes → IsOrderRow (book_rows 1 books) before (order_row (key, order))
     → IsOrderUnder books key.number order
 order_under books before key order released codes says = by (book_at books order.book) refl accepted
   where
@@ -212,7 +201,7 @@ order_under books before key order released codes says = by (book_at books order
 
 order_next : (books : List KeptBook) → AllByRecursion (λ b. IsRelease b.released) books
     → (os : List (OrderKey × OrderWords)) (o : OrderKey × OrderWords) → is_order_row (book_rows 1 books) (map order_row os) (order_row o) ≡ true
-    → IsNext by_key MOST_ORDERS (λ e. AreCodes e.1 → IsPlaced books e.0.caller e.0.number e.1) os o
+    → IsNext by_key MOST_ORDERS (λ e. AreCodes e.1.codes → IsPlaced books e.0.caller e.0.number e.1) os o
 order_next books released os o is =
     let says = order_row_says (book_rows 1 books) (map order_row os) (order_row o) is in
     record {
@@ -227,18 +216,18 @@ applied P Q (x ∷ xs) so all = (so.0 all.0, applied P Q xs so.1 all.1)
 
 orders_right : (books : List KeptBook) (os : List (OrderKey × OrderWords)) → AllByRecursion (λ b. IsRelease b.released) books
     → first_wrong (is_order_row (book_rows 1 books)) [] (map order_row os) ≡ None
-    → IsTable by_key MOST_ORDERS (λ e. AreCodes e.1 → IsPlaced books e.0.caller e.0.number e.1) os
+    → IsTable by_key MOST_ORDERS (λ e. AreCodes e.1.codes → IsPlaced books e.0.caller e.0.number e.1) os
 orders_right books os released right =
-    table_right by_key_total by_key_exact MOST_ORDERS (λ e. AreCodes e.1 → IsPlaced books e.0.caller e.0.number e.1) order_row
+    table_right by_key_total by_key_exact MOST_ORDERS (λ e. AreCodes e.1.codes → IsPlaced books e.0.caller e.0.number e.1) order_row
     (is_order_row (book_rows 1 books)) (order_next books released) [] os
-    (no_entries by_key MOST_ORDERS (λ e. AreCodes e.1 → IsPlaced books e.0.caller e.0.number e.1)) right
+    (no_entries by_key MOST_ORDERS (λ e. AreCodes e.1.codes → IsPlaced books e.0.caller e.0.number e.1)) right
 
 -- ---- all tables
 
 -- released books, and orders of code names
 pub record AreTables (t : Tables) : Type 0 where
   pub released : AllByRecursion (λ b. IsRelease b.released) t.books
-  pub codes : AllByRecursion (λ e. AreCodes e.1) t.orders
+  pub codes : AllByRecursion (λ e. AreCodes e.1.codes) t.orders
 
 -- the rows of three tables are right
 pub record AreRight (t : Tables) : Type 0 where
@@ -259,5 +248,5 @@ tables_right t are right =
       released_once = books.released_once;
       orders_in_order = orders.in_order;
       few_orders = orders.few;
-      orders = applied (λ e. AreCodes e.1) (λ e. IsPlaced t.books e.0.caller e.0.number e.1) t.orders orders.all are.codes;
+      orders = applied (λ e. AreCodes e.1.codes) (λ e. IsPlaced t.books e.0.caller e.0.number e.1) t.orders orders.all are.codes;
     }

@@ -10,7 +10,7 @@ use Rattle.order_desk.specs.declared.order_key.OrderKey.{OrderKey}
 use Rattle.order_desk.specs.Fits.{IsReleaseOf, IsPlaced}
 use Rattle.order_desk.specs.History.{Stays, IsLaterDraft, IsLaterBook}
 use Rattle.order_desk.specs.Tables.{Tables, draft_at, book_at, order_at, is_of, released_as, with_draft, with_book, with_withdrawn, with_order}
-use Rattle.order_desk.specs.Valid.{IsDraft, IsValid, are_of_one}
+use Rattle.order_desk.specs.Valid.{HasRoom, IsDraft, IsValid, are_of_one}
 use Rattle.order_desk.proofs.Entries.{weaker, sorted-insert, all-insert, length-new, length-over}
 use Rattle.order_desk.proofs.Growth.{grows-with_draft, grows-with_book, grows-with_withdrawn, place_of_number}
 use Rattle.order_desk.proofs.Keys.{by_name_total, by_name_exact, by_key_total, by_key_exact}
@@ -18,7 +18,7 @@ use Rattle.order_desk.proofs.Lasting.{release_stays, placed_stays}
 
 -- ---- a draft
 
-few_after : (t : Tables) (name : List ℕ) (draft : Draft) → IsValid t → (draft_at t.drafts name ≡ None → length t.drafts < MOST_DRAFTS)
+few_after : (t : Tables) (name : List ℕ) (draft : Draft) → IsValid t → HasRoom t.drafts name
     → length (with_draft t name draft).drafts ≤ MOST_DRAFTS
 few_after t name draft valid room = by (draft_at t.drafts name) refl
   where
@@ -28,7 +28,7 @@ few_after t name draft valid room = by (draft_at t.drafts name) refl
         omega (arith, length-over by_name_total by_name_exact name draft t.drafts valid.drafts_in_order (ap is_some is), valid.few_drafts)
 
 pub valid-with_draft : (t : Tables) (name : List ℕ) (draft : Draft) → IsValid t → IsDraft name draft
-    → (draft_at t.drafts name ≡ None → length t.drafts < MOST_DRAFTS) → Stays IsLaterDraft (draft_at t.drafts name) (Some draft)
+    → HasRoom t.drafts name → Stays IsLaterDraft (draft_at t.drafts name) (Some draft)
     → IsValid (with_draft t name draft)
 valid-with_draft t name draft valid form room later = record {
   drafts_in_order = sorted-insert by_name_total by_name_exact name draft t.drafts valid.drafts_in_order;

@@ -1,5 +1,6 @@
 -- Which events the desk takes: names are names, texts keep their limit, and what was judged outside the desk is right by what the
 -- desk keeps. What fits once fits at every later step.
+--     AreCodes codes                        each is the name of a code
 --     IsReleaseOf drafts name revision r    r was released of the draft at that revision, which it has or has had
 --     IsOrderUnder books number order       the order has such a number, and its book accepts it, in force or not
 --     Fits t e                              the event e
@@ -16,6 +17,9 @@ use Rattle.order_desk.specs.declared.limits.TheConstants.{MOST_ORDER_NUMBER}
 use Rattle.order_desk.specs.Judging.{accepts}
 use Rattle.order_desk.specs.Tables.{Tables, draft_at, book_at}
 
+abbrev pub AreCodes : List (List ℕ) → Type 0
+AreCodes codes = All (λ code. is_code_name code ≡ true) codes
+
 pub record IsReleaseOf (drafts : List (List ℕ × Draft)) (name : List ℕ) (revision : ℕ) (r : Release) : Type 0 where
   pub draft : Draft
   pub there : draft_at drafts name ≡ Some draft
@@ -28,7 +32,7 @@ pub record IsOrderUnder (books : List KeptBook) (number : ℕ) (order : OrderWor
   pub most : number ≤ MOST_ORDER_NUMBER
   pub book : KeptBook
   pub there : book_at books order.book ≡ Some book
-  pub codes : All (λ code. is_code_name code ≡ true) order.codes
+  pub codes : AreCodes order.codes
   pub accepted : accepts book.released.book order.day order.codes ≡ true
 
 pub record IsPut (caller draft text : List ℕ) : Type 0 where

@@ -1,11 +1,10 @@
 -- The rows of what the desk keeps.
 --     rows_of t           the tables, each entry as its row; the form is 2
---     IsStateOf rows t    the tables are those of the rows, of form 1 or 2, which are right
 --     IsDesk t told       the tables are valid, and the rows are theirs, where they are told
 use Rattle.std.specs.Prelude.{Option, IfSome, ◌≡◌, ℕ, ◌+◌, List, [], ◌∷◌, map, if◌then◌else◌}
 use Rattle.std.specs.List.{join_by}
 use Rattle.desk_words.specs.declared.order_words.OrderWords.{OrderWords}
-use Rattle.keeper.specs.Rows.{Kept, migrated}
+use Rattle.keeper.specs.Rows.{Kept}
 use Rattle.keeper.specs.declared.rows.BookRow.{BookRow}
 use Rattle.keeper.specs.declared.rows.DraftRow.{DraftRow}
 use Rattle.keeper.specs.declared.rows.OrderRow.{OrderRow}
@@ -59,10 +58,6 @@ rows_of t = record {
   orders = map order_row t.orders;
   withdrawn = withdrawn_rows 1 t.books;
 }
-
-pub record IsStateOf (rows : Kept) (t : Tables) : Type 0 where
-  pub told : rows_of t ≡ migrated rows
-  pub valid : IsValid t
 
 pub record IsDesk (t : Tables) (told : Option Kept) : Type 0 where
   pub valid : IsValid t

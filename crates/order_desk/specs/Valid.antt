@@ -1,6 +1,8 @@
 -- Which tables come up: those whose rows are right.
+--     IsDraft name draft      a draft under its name
+--     HasRoom drafts name     the name is a draft's, or one more draft is within the limit
 --     IsValid t
-use Rattle.std.specs.Prelude.{◌≡◌, ℕ, ◌≤◌, Bool, true, List, length}
+use Rattle.std.specs.Prelude.{◌≡◌, ℕ, ◌<◌, ◌≤◌, Bool, true, List, None, length}
 use Rattle.std.specs.List.{AllByRecursion, IsDistinct}
 use Rattle.std.specs.List.Sorted.{IsStrictlySortedBy}
 use Rattle.std.specs.Map.{keys_of}
@@ -10,7 +12,7 @@ use Rattle.order_desk.specs.declared.draft.Draft.{Draft}
 use Rattle.order_desk.specs.declared.kept_book.KeptBook.{KeptBook}
 use Rattle.order_desk.specs.declared.limits.TheConstants.{MOST_BOOKS, MOST_DRAFTS, MOST_ORDERS, MOST_REVISION}
 use Rattle.order_desk.specs.Fits.{IsReleaseOf, IsPlaced}
-use Rattle.order_desk.specs.Tables.{Tables, by_name, by_key, is_of}
+use Rattle.order_desk.specs.Tables.{Tables, by_name, by_key, draft_at, is_of}
 
 pub record IsDraft (name : List ℕ) (d : Draft) : Type 0 where
   pub draft_name : is_name name ≡ true
@@ -18,6 +20,9 @@ pub record IsDraft (name : List ℕ) (d : Draft) : Type 0 where
   pub least : 1 ≤ d.revision
   pub most : d.revision ≤ MOST_REVISION
   pub size : length d.text ≤ MOST_TEXT_BYTES
+
+abbrev pub HasRoom : List (List ℕ × Draft) → List ℕ → Type 0
+HasRoom drafts name = draft_at drafts name ≡ None → length drafts < MOST_DRAFTS
 
 -- two books were released of one revision of a draft
 abbrev pub are_of_one : KeptBook → KeptBook → Bool

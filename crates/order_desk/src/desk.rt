@@ -6,7 +6,7 @@ ghost use Rattle.desk_words.specs.declared.reply.Reply.TheVariants as Reply;
 ghost use Rattle.order_desk.specs.declared.answer.Answer.TheVariants as Answer;
 ghost use Rattle.order_desk.specs.declared.event.Event.{Event};
 ghost use Rattle.order_desk.specs.declared.kept_book.KeptBook.{KeptBook};
-ghost use Rattle.order_desk.specs.declared.limits.TheConstants.{MOST_BOOKS as most_books, MOST_DRAFTS as most_drafts, MOST_ORDERS as most_orders};
+ghost use Rattle.order_desk.specs.declared.limits.TheConstants.{MOST_BOOKS as most_books, MOST_ORDERS as most_orders};
 ghost use Rattle.order_desk.specs.Effect.{keeps, says, to_take, commit, give_draft, look, place, put_draft, read_book, read_cert, read_draft, read_order, read_owner, take_draft, withdraw, shows_kept, owned, draft_of, book_of, to_place, to_release, next_draft, same_order};
 ghost use Rattle.order_desk.specs.Fits.{Fits, IsPut, IsPlaced, IsReleaseOf};
 ghost use Rattle.order_desk.specs.History.{Stays, IsLaterDraft, IsLaterBook, Grows, Reaches};
@@ -14,7 +14,7 @@ ghost use Rattle.order_desk.specs.Rows.{rows_of, IsDesk};
 ghost use Rattle.order_desk.specs.Start.{tables_in};
 ghost use Rattle.order_desk.specs.Step.{Follows, IsOrMemory, Shows, Step};
 ghost use Rattle.order_desk.specs.Tables.{State, book_at, draft_at, order_at, key_of, released_as, with_book, with_draft, with_order, with_withdrawn};
-ghost use Rattle.order_desk.specs.Valid.{IsDraft, IsValid};
+ghost use Rattle.order_desk.specs.Valid.{HasRoom, IsDraft, IsValid};
 ghost use Rattle.order_desk.specs.Writing.{IsAnswered};
 
 use crate::lookup::{book_at, released_as, same_order};
@@ -55,7 +55,8 @@ impl<P: Keeper> Model for Desk<P> {
     } };
 
     ghost invariant = { λ d. IsDesk
-        (record { drafts = d.drafts.entries; books = d.books.items; orders = d.orders.entries }) (P.told d.keeper) };
+        (record { drafts = d.drafts.entries; books = d.books.items; orders = d.orders.entries })
+        (P.told d.keeper) };
 }
 
 /// How much the desk keeps.
@@ -479,11 +480,13 @@ impl<P: Keeper> Desk<P> {
     fn next_owner(&self, caller: Id, name: Id, to: Id) -> Result<Draft, Reply>
         requires { is_name to ≡ true }
         ensures form { IfOk result (IsDraft name) }
-        ensures room { OnOk result (draft_at self.now.tables.drafts name ≡ None → length self.now.tables.drafts < most_drafts) }
-        ensures later { IfOk result (λ draft. Stays IsLaterDraft (draft_at self.now.tables.drafts name) (Some draft)) }
+        ensures room { OnOk result (HasRoom self.now.tables.drafts name) }
+        ensures later { IfOk result (λ draft.
+            Stays IsLaterDraft (draft_at self.now.tables.drafts name) (Some draft)) }
         ensures gives { IfOk result (λ draft. give_draft self.now.tables caller name to
             ≡ keeps (Answer.Say (Reply.Given name to)) (with_draft self.now.tables name draft)) }
-        ensures said { IfErr result (λ said. Follows (give_draft self.now.tables caller name to) self.now (Answer.Say said) self.now) }
+        ensures said { IfErr result (λ said.
+            Follows (give_draft self.now.tables caller name to) self.now (Answer.Say said) self.now) }
     {
         let _ = &self.keeper;
         match self.owned(caller, name) {
@@ -567,7 +570,7 @@ impl<P: Keeper> Desk<P> {
     // Keeps a draft as it is now to be.
     fn keep_draft(&mut self, name: Id, draft: Draft, due: Answer) -> Answer
         requires form { IsDraft name draft }
-        requires room { draft_at self.old.tables.drafts name ≡ None → length self.old.tables.drafts < most_drafts }
+        requires room { HasRoom self.old.tables.drafts name }
         requires later { Stays IsLaterDraft (draft_at self.old.tables.drafts name) (Some draft) }
         ensures { Follows (keeps due (with_draft self.old.tables name draft)) self.old result self.new }
     {
@@ -600,7 +603,8 @@ impl<P: Keeper> Desk<P> {
     fn keep_withdrawn(&mut self, number: u32) -> Answer
         requires { IsSomeAnd (book_at self.old.tables.books number) (λ book. book.withdrawn ≡ false) }
         ensures { (book : KeptBook) → book_at self.old.tables.books number ≡ Some book
-            → Follows (keeps (Answer.Say (Reply.Withdrawn number)) (with_withdrawn self.old.tables number book))
+            → Follows
+            (keeps (Answer.Say (Reply.Withdrawn number)) (with_withdrawn self.old.tables number book))
             self.old result self.new }
     {
         let before = self.keeper.faults();
@@ -615,7 +619,8 @@ impl<P: Keeper> Desk<P> {
         requires placed { IsPlaced self.old.tables.books key.caller key.number order }
         requires room { length self.old.tables.orders < most_orders }
         requires free { order_at self.old.tables.orders key ≡ None }
-        ensures { Follows (keeps Answer.Placed (with_order self.old.tables key order)) self.old result self.new }
+        ensures { Follows
+            (keeps Answer.Placed (with_order self.old.tables key order)) self.old result self.new }
     {
         let before = self.keeper.faults();
         let alloc = *self.books.allocator();
@@ -628,5 +633,6 @@ impl<P: Keeper> Desk<P> {
 /// have equal texts, and what fits once fits later. The call does nothing.
 pub fn history_laws()
     ensures grows { (old new : State) → Reaches old new → Grows old.tables new.tables }
-    ensures fits { (old new : State) (event : Event) → Reaches old new → Fits old.tables event → Fits new.tables event }
+    ensures fits { (old new : State) (event : Event) → Reaches old new
+        → Fits old.tables event → Fits new.tables event }
 {}

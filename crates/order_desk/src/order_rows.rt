@@ -1,9 +1,10 @@
 //! Orders from their rows.
 ghost use Rattle.std.specs.Prelude.{◌≡◌, ◌≤◌, [], IfOk, None, Some, map, length, true, false};
-ghost use Rattle.std.specs.List.{All, AllByRecursion, list_all};
+ghost use Rattle.std.specs.List.{AllByRecursion, list_all};
 ghost use Rattle.pb_base.specs.Answers.{IfRefused};
 ghost use Rattle.pb_base.specs.Names.{is_code_name};
 ghost use Rattle.release.specs.Release.{IsRelease};
+ghost use Rattle.order_desk.specs.Fits.{AreCodes};
 ghost use Rattle.order_desk.specs.Judging.{accepted_by};
 ghost use Rattle.order_desk.specs.RightRows.{codes_in, first_wrong, is_order_row};
 ghost use Rattle.order_desk.specs.Rows.{book_rows, order_row};
@@ -17,7 +18,7 @@ use desk_words::OrderWords;
 use keeper::OrderRow;
 use pb_base::limits::LAST_DAY;
 use pb_base::{CodeList, CodeName, Fail, Id, Memory};
-use release::{Judged, judge};
+use release::accepts;
 use std::alloc::Global;
 use std::collections::{BTreeMap, VecDeque};
 
@@ -36,10 +37,12 @@ pub(crate) fn orders_of(
 ) -> Result<BTreeMap<OrderKey, OrderWords>, Fail<u32>>
     requires few { length books.now ≤ most_books }
     requires released { AllByRecursion (λ b. IsRelease b.released) books.now }
-    ensures right { IfOk result (λ orders. first_wrong (is_order_row (book_rows 1 books.now)) [] rows.items ≡ None) }
+    ensures right { IfOk result (λ orders.
+        first_wrong (is_order_row (book_rows 1 books.now)) [] rows.items ≡ None) }
     ensures rows { IfOk result (λ orders. map order_row orders.entries ≡ rows.items) }
-    ensures named { IfOk result (λ orders. AllByRecursion (λ e. All (λ code. is_code_name code ≡ true) e.1.codes) orders.entries) }
-    ensures wrong { IfRefused result (λ place. first_wrong (is_order_row (book_rows 1 books.now)) [] rows.items ≡ Some place) }
+    ensures named { IfOk result (λ orders. AllByRecursion (λ e. AreCodes e.1.codes) orders.entries) }
+    ensures wrong { IfRefused result (λ place.
+        first_wrong (is_order_row (book_rows 1 books.now)) [] rows.items ≡ Some place) }
 {
     let mut orders = BTreeMap::new(alloc);
     let mut rest = VecDeque::from_vec(rows);
@@ -64,9 +67,10 @@ fn order_from(
 ) -> Result<KeyedOrder, Fail<()>>
     requires few { length books.now ≤ most_books }
     requires released { AllByRecursion (λ b. IsRelease b.released) books.now }
-    ensures right { IfOk result (λ read. is_order_row (book_rows 1 books.now) (map order_row orders.now.entries) row.now ≡ true) }
+    ensures right { IfOk result (λ read.
+        is_order_row (book_rows 1 books.now) (map order_row orders.now.entries) row.now ≡ true) }
     ensures row { IfOk result (λ read. order_row (read.key, read.order) ≡ row.now) }
-    ensures named { IfOk result (λ read. All (λ code. is_code_name code ≡ true) read.order.codes) }
+    ensures named { IfOk result (λ read. AreCodes read.order.codes) }
     ensures wrong { IfRefused result (λ none.
         is_order_row (book_rows 1 books.now) (map order_row orders.now.entries) row.now ≡ false) }
 {
@@ -100,25 +104,17 @@ fn order_from(
 }
 
 // Whether the book of an order is there and accepts it.
-#[tactic(auto, unfolding(crate::specs::Judging::accepts))]
 fn is_accepted(alloc: Global, books: &[KeptBook], order: &OrderWords) -> Result<bool, Memory>
     ensures { IfOk result (λ accepted. accepted ≡ accepted_by (book_at books.now order.now.book) order.now) }
 {
     match book_at(books, order.book) {
         None => Ok(false),
-        Some(book) => {
-            match judge(
-                alloc,
-                book.released.released(),
-                order.day,
-                order.codes.as_slice(),
-            ) {
-                Ok(Judged::Accepted { .. }) => Ok(true),
-                Ok(Judged::Refused(_)) => Ok(false),
-                Err(Fail::Refused(_)) => Ok(false),
-                Err(Fail::Memory) => Err(Memory),
-            }
-        }
+        Some(book) => accepts(
+            alloc,
+            book.released.released(),
+            order.day,
+            order.codes.as_slice(),
+        ),
     }
 }
 

@@ -60,7 +60,8 @@ impl<P: Keeper> Desk<P> {
     pub fn start(alloc: Global, keeper: P, name: &str) -> Result<Desk<P>, NotStarted<P>>
         ensures rows { IfOk result (λ desk. IfSome (P.told keeper)
             (λ rows. rows_of desk.tables ≡ migrated (begun rows))) }
-        ensures right { IfOk result (λ desk. IfSome (P.told keeper) (λ rows. first_bad (begun rows) ≡ None)) }
+        ensures right { IfOk result (λ desk.
+            IfSome (P.told keeper) (λ rows. first_bad (begun rows) ≡ None)) }
         ensures valid { IfOk result (λ desk. IsValid desk.tables) }
         ensures count { IfOk result (λ desk. desk.faults.count ≡ (P.failures keeper).count) }
         ensures later { IfOk result (λ desk. IsLater (P.failures keeper) desk.faults) }
@@ -85,7 +86,8 @@ fn read_from<P: Keeper>(
 ) -> Result<ReadTables, Fail<StartFault>>
     ensures rows { IfOk result (λ read. IfSome (P.told keeper.old)
         (λ rows. rows_of (tables_in read) ≡ migrated (begun rows))) }
-    ensures right { IfOk result (λ read. IfSome (P.told keeper.old) (λ rows. first_bad (begun rows) ≡ None)) }
+    ensures right { IfOk result (λ read.
+        IfSome (P.told keeper.old) (λ rows. first_bad (begun rows) ≡ None)) }
     ensures valid { IfOk result (λ read. IsValid (tables_in read)) }
     ensures told { OnOk result
         (P.told keeper.new ≡ option_map migrated (option_map begun (P.told keeper.old))) }

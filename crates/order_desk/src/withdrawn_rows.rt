@@ -14,7 +14,8 @@ pub(crate) fn withdraw_all(form: u64, books: &mut Vec<KeptBook>, numbers: &[u64]
     requires few { length books.old.items ≤ most_books }
     requires in_force { withdrawn_rows 1 books.old.items ≡ [] }
     requires released { AllByRecursion (λ b. IsRelease b.released) books.old.items }
-    ensures right { OnOk result (first_wrong (is_withdrawn_row form (book_rows 1 books.old.items)) [] numbers.now ≡ None) }
+    ensures right { OnOk result
+        (first_wrong (is_withdrawn_row form (book_rows 1 books.old.items)) [] numbers.now ≡ None) }
     ensures rows { OnOk result (withdrawn_rows 1 books.new.items ≡ numbers.now) }
     ensures books { OnOk result (book_rows 1 books.new.items ≡ book_rows 1 books.old.items) }
     ensures still { OnOk result (AllByRecursion (λ b. IsRelease b.released) books.new.items) }

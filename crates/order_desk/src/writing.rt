@@ -111,7 +111,8 @@ pub(crate) fn write_withdrawn<P: Keeper>(
     requires { place < length books.old.items }
     ensures done { OnOk result ((book : KeptBook) → slice_get books.old.items place ≡ Some book
         → books.new.items ≡ slice_set books.old.items place (record book { withdrawn = true })) }
-    ensures told { OnOk result (P.told keeper.new ≡ option_map (kept.with_withdrawn (place + 1)) (P.told keeper.old)) }
+    ensures told { OnOk result (P.told keeper.new
+        ≡ option_map (kept.with_withdrawn (place + 1)) (P.told keeper.old)) }
     ensures unchanged { OnErr result (books.new.items ≡ books.old.items) }
     ensures untold { OnErr result (P.told keeper.new ≡ P.told keeper.old) }
     ensures count { HasCause result (P.failures keeper.old) (P.failures keeper.new) }

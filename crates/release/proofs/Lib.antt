@@ -1,1 +1,2 @@
 mod NeverUnfit
+mod Accepted

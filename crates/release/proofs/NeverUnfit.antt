@@ -23,7 +23,6 @@ use Rattle.parts_usage.specs.Fault.{order_fault}
 use Rattle.parts_usage.specs.Outcome.{judged, outcome_of, outcome_of_set}
 use Rattle.parts_usage.specs.Unfit.{first_unfit_from, first_unfit_of}
 use Rattle.parts_usage.specs.declared.fault.OrderFault.{OrderFault}
-use Rattle.parts_usage.specs.declared.judgement.Outcome.{Outcome}
 use Rattle.parts_usage.specs.declared.judgement.Outcome.TheVariants as outcome
 use Rattle.parts_usage.specs.declared.unfit.Unfit.{Unfit}
 
@@ -55,7 +54,7 @@ fits_all i b day x (p ∷ ps) fit =
     let unfit : Option Unfit = Some (record { position = i; count = length (selected b day x i p) }) in
     ap (λ c. cond c (first_unfit_from (suc i) b day x ps) unfit) parts.0 ∙ fits_all (suc i) b day x ps parts.1
 
-abbrev completed : Contents → ℕ → List (List ℕ) → List Bool
+abbrev pub completed : Contents → ℕ → List (List ℕ) → List Bool
 completed b day names = (completion_of b day (named b.codes names)).set
 
 -- completed codes that break no rule are a good set
@@ -70,7 +69,7 @@ good_completed b day names book unbroken =
     (eq-eqb _ _ (whole.same_codes ∙ same))
 
 -- and so each position has a permitted number of variants
-fits_when_unbroken : (b : Contents) (day : ℕ) (names : List (List ℕ)) → IsBook b → IsReleasable b → is_within b.first b.last day ≡ true
+pub fits_when_unbroken : (b : Contents) (day : ℕ) (names : List (List ℕ)) → IsBook b → IsReleasable b → is_within b.first b.last day ≡ true
     → first_broken_of b day (completed b day names) ≡ None → first_unfit_of b day (completed b day names) ≡ None
 fits_when_unbroken b day names book releasable within unbroken =
     let y = completed b day names in
@@ -79,7 +78,7 @@ fits_when_unbroken b day names book releasable within unbroken =
     fits_all 0 b day y b.positions (releasable.sound day (leb-true _ _ days.0) (leb-true _ _ days.1) y good)
 
 -- what is answered behind the test for a fault
-ok_behind : (fault : Option OrderFault) (o o' : Outcome) → unless fault (Ok o) ≡ Ok o' → (fault ≡ None) × (o ≡ o')
+pub ok_behind : {A E : Type 0} (fault : Option E) (o o' : A) → unless fault (Ok o) ≡ Ok o' → (fault ≡ None) × (o ≡ o')
 ok_behind None o o' h = (refl, cc)
 ok_behind (Some fault) o o' h = absurd (cc)
 

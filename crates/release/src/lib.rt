@@ -1,6 +1,7 @@
 //! Released books: a type that holds no book that can't be released.
 #![tactic(auto)]
 
+mod accepting;
 mod answer_text;
 mod certified;
 mod judging;
@@ -8,6 +9,7 @@ mod not_released;
 mod released;
 mod releasing;
 
+pub use accepting::accepts;
 pub use answer_text::judged_text;
 pub use certified::{FromFault, from_cert};
 pub use judging::{Judged, judge};

@@ -58,7 +58,8 @@ fn release_book(
 // Why the report keeps the book from its release.
 fn kept_back(book: Book, report: Report) -> NotReleased
     requires { verdict_of report ≢ Verdict.Releasable }
-    ensures { (text : List ℕ) (budget : ℕ) → IsReportOf text budget book report → IsRefusal text budget result }
+    ensures { (text : List ℕ) (budget : ℕ)
+        → IsReportOf text budget book report → IsRefusal text budget result }
 {
     match verdict_of(&report) {
         Verdict::Blocked => NotReleased::Found { book, report },

@@ -1,7 +1,9 @@
 //! Books that are released and books that aren't, with ample memory.
 ghost use Rattle.std.specs.Prelude.{◌<◌, ◌≤◌};
 
-use crate::{FromFault, NotReleased, Released, from_cert, judge, judged_text, try_release};
+use crate::{
+    FromFault, NotReleased, Released, accepts, from_cert, judge, judged_text, try_release,
+};
 use pb_base::{Body, CodeList, CodeName, Text};
 use std::alloc::Global;
 use std::test::Fail;
@@ -78,7 +80,7 @@ fn cause(alloc: Global, text: Body, budget: u32) -> &'static str
     }
 }
 
-// Whether an order without fault comes to this text.
+// Whether an order without fault comes to this text, and is accepted where the text says so.
 fn comes_to(
     alloc: Global,
     released: &Released,
@@ -87,16 +89,20 @@ fn comes_to(
     wanted: &[u8],
 ) -> Result<bool, Fail> {
     let codes = codes_of(alloc, words)?;
+    let accepted = accepts(alloc, released, day, codes.as_slice())?;
     let Ok(judged) = judge(alloc, released, day, codes.as_slice()) else {
         return Ok(false);
     };
     let text = judged_text(alloc, released.book(), &judged)?;
-    Ok(text.as_slice() == wanted)
+    Ok(text.as_slice() == wanted && accepted == wanted.starts_with(b"accepted"))
 }
 
-// The number of the fault of an order, or 0.
+// The number of the fault of an order that isn't accepted, or 0.
 fn fault_of(alloc: Global, released: &Released, day: u32, words: &[u8]) -> Result<u32, Fail> {
     let codes = codes_of(alloc, words)?;
+    if accepts(alloc, released, day, codes.as_slice())? {
+        return Ok(0);
+    }
     match judge(alloc, released, day, codes.as_slice()) {
         Err(pb_base::Fail::Refused(fault)) => Ok(fault.number()),
         _ => Ok(0),

@@ -1,0 +1,45 @@
+//! Whether a released book accepts an order.
+ghost use Rattle.std.specs.Prelude.{◌≡◌, IfOk, is_none, length};
+ghost use Rattle.parts_usage.specs.Broken.{first_broken_of};
+ghost use Rattle.release.specs.Accepting.{accepts};
+ghost use Rattle.supplement.specs.Completion.{completion_of};
+
+use crate::released::Released;
+use book_model::{Book, active};
+use parts_usage::first_broken;
+use pb_base::{CodeName, CodeSet, Day, Fail, Memory};
+use std::alloc::Global;
+use supplement::Completer;
+
+/// Whether an order of these codes for this day comes to a parts list. The list isn't made and no variant is looked at, since
+/// the parts of an order that breaks no rule always fit.
+pub fn accepts(
+    alloc: Global,
+    released: &Released,
+    day: Day,
+    codes: &[CodeName],
+) -> Result<bool, Memory>
+    ensures { IfOk result (λ accepted. accepted ≡ accepts released.now.book day codes.now) }
+{
+    let book = released.book();
+    let term = book.term();
+    if !active(term.first, term.last, day) {
+        return Ok(false);
+    }
+    match CodeSet::of_names(alloc, book.codes(), codes) {
+        Ok(ordered) => breaks_none(alloc, book, day, ordered),
+        Err(Fail::Refused(_)) => Ok(false),
+        Err(Fail::Memory) => Err(Memory),
+    }
+}
+
+// Whether the codes, once they are completed, break no constructibility rule.
+fn breaks_none(alloc: Global, book: &Book, day: Day, ordered: CodeSet) -> Result<bool, Memory>
+    requires { length ordered ≡ length book.now.codes }
+    ensures { IfOk result (λ none.
+        none ≡ is_none (first_broken_of book.now day (completion_of book.now day ordered).set)) }
+{
+    let completer = Completer::new(alloc, book, day)?;
+    let completed = completer.complete(alloc, ordered)?;
+    Ok(first_broken(book, day, &completed.set).is_none())
+}
