@@ -20,9 +20,9 @@ pub(crate) struct Way {
     pub(crate) touched: Vec<Lit>,
     // By variable.
     places: Vec<usize>,
-    // What comes before this place of the trail is entered for good.
+    // The literals before this place of the trail are entered.
     entered: usize,
-    ahead: BinaryHeap<usize, Global>,
+    pub(crate) ahead: BinaryHeap<usize, Global>,
 }
 
 impl Way {
@@ -36,12 +36,19 @@ impl Way {
         })
     }
 
-    /// Begins with the literals of a clause. The trail is fixed up to this place.
-    pub(crate) fn begin(&mut self, trail: &[Lit], fixed: usize, lits: &[Lit]) -> Result<(), Memory>
+    /// The trail goes back to this place.
+    pub(crate) fn go_back(&mut self, end: usize) {
+        if end < self.entered {
+            self.entered = end;
+        }
+    }
+
+    /// Begins with the literals of a clause.
+    pub(crate) fn begin(&mut self, trail: &[Lit], lits: &[Lit]) -> Result<(), Memory>
         ensures { OnOk result (self.new.touched.items ≡ lits.now) }
     {
         enter_places(&mut self.places, trail, self.entered);
-        self.entered = fixed;
+        self.entered = trail.len();
         self.ahead.clear();
         self.touched.clear();
         self.touch(lits)?;
@@ -49,12 +56,25 @@ impl Way {
     }
 
     /// Goes on with the literals of a clause.
-    fn touch(&mut self, lits: &[Lit]) -> Result<(), Memory>
+    pub(crate) fn touch(&mut self, lits: &[Lit]) -> Result<(), Memory>
         ensures { OnOk result (self.new.touched.items ≡ self.old.touched.items ++ lits.now) }
     {
-        look_ahead(&mut self.ahead, &self.places, lits);
         self.touched.extend_from_slice(lits)?;
         Ok(())
+    }
+
+    /// Puts the places of all literals that are marked ahead.
+    pub(crate) fn look_ahead(&mut self, marks: &[bool])
+        ensures { self.new.touched.items ≡ self.old.touched.items }
+    {
+        put_ahead(&mut self.ahead, &self.places, marks, &self.touched);
+    }
+
+    /// Puts the places of the marked literals of a clause ahead.
+    pub(crate) fn look_at(&mut self, marks: &[bool], lits: &[Lit])
+        ensures { self.new.touched.items ≡ self.old.touched.items }
+    {
+        put_ahead(&mut self.ahead, &self.places, marks, lits);
     }
 }
 
@@ -67,9 +87,17 @@ fn enter_places(places: &mut Vec<usize>, trail: &[Lit], from: usize) {
     }
 }
 
-/// Puts the places of literals ahead. What there is no room for is found by the walk over the trail.
-fn look_ahead(ahead: &mut BinaryHeap<usize, Global>, places: &[usize], lits: &[Lit]) {
+/// Puts the places of marked literals ahead. What there is no room for isn't found by the way.
+fn put_ahead(
+    ahead: &mut BinaryHeap<usize, Global>,
+    places: &[usize],
+    marks: &[bool],
+    lits: &[Lit],
+) {
     for lit in lits {
+        if !has_mark(marks, *lit) {
+            continue;
+        }
         if let Some(place) = places.get(lit.var() as usize)
             && ahead.push(*place).is_err()
         {
@@ -80,9 +108,9 @@ fn look_ahead(ahead: &mut BinaryHeap<usize, Global>, places: &[usize], lits: &[L
 
 /// A false literal that is marked and has a reason, by its place of the trail.
 #[derive(Clone, Copy)]
-struct Needed {
-    place: usize,
-    reason: Ref,
+pub(crate) struct Needed {
+    pub(crate) place: usize,
+    pub(crate) reason: Ref,
 }
 
 /// The latest place ahead that is needed.
@@ -130,12 +158,15 @@ pub(crate) fn resolve_ahead(
     ensures touched { OnOk result (AreTouched resolution.new.marks.items way.new.touched.items) }
 {
     let lits = engine.trail();
+    way.look_ahead(&resolution.marks);
     for _ in 0..lits.len() {
         let Some(needed) = next_needed(engine, &resolution.marks, &mut way.ahead) else {
             return Ok(());
         };
         resolve_at(engine, pool, resolution, needed.place, needed.reason)?;
-        way.touch(pool.lits(needed.reason))?;
+        let clause = pool.lits(needed.reason);
+        way.touch(clause)?;
+        way.look_at(&resolution.marks, clause);
     }
     Ok(())
 }

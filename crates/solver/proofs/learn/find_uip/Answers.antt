@@ -49,8 +49,8 @@ unreachable-requires-in_default-reason_at c =
     let before : c.in-Some-next_below.below < c.loop-below.place = c.in-Some-next_below.ensures.before in
     has_reason t c.loop-below.place c.trail-lits.ensures.trail (omega (arith, start, behind, before)) c.loop-below.invariant.resolving.within (sym c.reason_at.ensures ∙ c.in_default-reason_at.is)
 
-pub lits-requires : goal.lits-requires
-lits-requires c =
+pub lits-clause-requires : goal.lits-clause-requires
+lits-clause-requires c =
     reason_attached c.args.engine.now c.args.pool.now.clauses c.loop-below.place c.in-Some-reason_at.reason c.trail-lits.ensures.trail c.loop-below.invariant.resolving.within (sym c.reason_at.ensures ∙ c.in-Some-reason_at.is) c.requires.attached
 
 pub last_marked-requires-in-Some-next_below-clause-below : goal.last_marked-requires-in-Some-next_below-clause-below
