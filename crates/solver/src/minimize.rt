@@ -65,12 +65,10 @@ fn next_needless(
         slice_index_or engine.now.reasons n.place None ≡ Some n.reason) }
 {
     let lits = engine.trail();
-    let mut seen = lits.len();
     while let Some(place) = ahead.pop() {
-        if place >= end || place >= lits.len() || place == seen || !is_marked(marks, lits, place) {
+        if place >= end || place >= lits.len() || !is_marked(marks, lits, place) {
             continue;
         }
-        seen = place;
         if let Some(reason) = needless(engine, pool, marks, place, fixed) {
             return Some(Needed { place, reason });
         }
@@ -99,7 +97,6 @@ pub(crate) fn minimize(
     engine.trail();
     let fixed = engine.end_of(0);
     let start = engine.end_of(engine.level() - 1);
-    way.look_ahead(&resolution.marks);
     for _ in 0..start {
         let Some(needed) = next_needless(
             engine,
@@ -111,8 +108,8 @@ pub(crate) fn minimize(
         ) else {
             return Ok(());
         };
+        way.look_ahead(&resolution.marks, pool.lits(needed.reason), needed.place);
         resolve_at(engine, pool, resolution, needed.place, needed.reason)?;
-        way.look_at(&resolution.marks, pool.lits(needed.reason));
     }
     Ok(())
 }

@@ -113,7 +113,7 @@ fn derive_closing(
     kernel.given();
     let trail = engine.trail();
     resolution.begin(kernel.pool(), at);
-    way.begin(trail, kernel.pool().lits(at))?;
+    way.begin(trail, kernel.pool().lits(at), trail.len())?;
     resolve_away(engine, kernel.pool(), resolution, way, g)?;
     if resolution.pairs.is_empty() {
         return Ok(resolution.start);

@@ -43,13 +43,14 @@ impl Way {
         }
     }
 
-    /// Begins with the literals of a clause.
-    pub(crate) fn begin(&mut self, trail: &[Lit], lits: &[Lit]) -> Result<(), Memory>
+    /// Begins with the literals of a clause, as far as they come before this place of the trail.
+    pub(crate) fn begin(&mut self, trail: &[Lit], lits: &[Lit], end: usize) -> Result<(), Memory>
         ensures { OnOk result (self.new.touched.items ≡ lits.now) }
     {
         enter_places(&mut self.places, trail, self.entered);
         self.entered = trail.len();
         self.ahead.clear();
+        put_ahead(&mut self.ahead, &self.places, &[], lits, end);
         self.touched.clear();
         self.touch(lits)?;
         Ok(())
@@ -63,18 +64,11 @@ impl Way {
         Ok(())
     }
 
-    /// Puts the places of all literals that are marked ahead.
-    pub(crate) fn look_ahead(&mut self, marks: &[bool])
+    /// Puts the places of literals that are not marked yet ahead, as far as they come before this one.
+    pub(crate) fn look_ahead(&mut self, marks: &[bool], lits: &[Lit], end: usize)
         ensures { self.new.touched.items ≡ self.old.touched.items }
     {
-        put_ahead(&mut self.ahead, &self.places, marks, &self.touched);
-    }
-
-    /// Puts the places of the marked literals of a clause ahead.
-    pub(crate) fn look_at(&mut self, marks: &[bool], lits: &[Lit])
-        ensures { self.new.touched.items ≡ self.old.touched.items }
-    {
-        put_ahead(&mut self.ahead, &self.places, marks, lits);
+        put_ahead(&mut self.ahead, &self.places, marks, lits, end);
     }
 }
 
@@ -87,18 +81,21 @@ fn enter_places(places: &mut Vec<usize>, trail: &[Lit], from: usize) {
     }
 }
 
-/// Puts the places of marked literals ahead. What there is no room for isn't found by the way.
+/// Puts the places of literals that are not marked yet ahead, as far as they come before this one. What there is no
+/// room for isn't found by the way.
 fn put_ahead(
     ahead: &mut BinaryHeap<usize, Global>,
     places: &[usize],
     marks: &[bool],
     lits: &[Lit],
+    end: usize,
 ) {
     for lit in lits {
-        if !has_mark(marks, *lit) {
+        if has_mark(marks, *lit) {
             continue;
         }
         if let Some(place) = places.get(lit.var() as usize)
+            && *place < end
             && ahead.push(*place).is_err()
         {
             return;
@@ -158,15 +155,14 @@ pub(crate) fn resolve_ahead(
     ensures touched { OnOk result (AreTouched resolution.new.marks.items way.new.touched.items) }
 {
     let lits = engine.trail();
-    way.look_ahead(&resolution.marks);
     for _ in 0..lits.len() {
         let Some(needed) = next_needed(engine, &resolution.marks, &mut way.ahead) else {
             return Ok(());
         };
-        resolve_at(engine, pool, resolution, needed.place, needed.reason)?;
         let clause = pool.lits(needed.reason);
+        way.look_ahead(&resolution.marks, clause, needed.place);
         way.touch(clause)?;
-        way.look_at(&resolution.marks, clause);
+        resolve_at(engine, pool, resolution, needed.place, needed.reason)?;
     }
     Ok(())
 }

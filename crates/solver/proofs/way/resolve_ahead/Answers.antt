@@ -13,6 +13,6 @@ loop-preserved c = record {
   table = c.resolve_at.ensures.table;
   others_false = whole_before c.args.engine.now c.in-Some.needed.place c.args.left c.loop.resolution.marks.items c.resolve_at.new.resolution.marks.items c.in-Some.ensures.place c.in_ok-resolve_at.ensures.resolved c.loop.invariant.others_false;
   all_touched =
-      touched_more c.loop.resolution.marks.items c.resolve_at.new.resolution.marks.items c.loop.way.touched.items c.look_at.new.self.touched.items _ c.loop.invariant.all_touched c.in_ok-resolve_at.ensures.origin
-      (c.look_at.ensures ∙ c.in_ok-touch.ensures ∙ ap (λ (xs : List ℕ). c.loop.way.touched.items ++ xs) c.lits-clause.ensures.clause);
+      touched_more c.loop.resolution.marks.items c.resolve_at.new.resolution.marks.items c.loop.way.touched.items c.touch.new.self.touched.items _ c.loop.invariant.all_touched c.in_ok-resolve_at.ensures.origin
+      (c.in_ok-touch.ensures ∙ ap (λ (xs : List ℕ). xs ++ c.lits-clause.result.now) c.look_ahead.ensures ∙ ap (λ (xs : List ℕ). c.loop.way.touched.items ++ xs) c.lits-clause.ensures.clause);
 }
