@@ -14,6 +14,7 @@ use crate::marks::{last_marked, unmark};
 use crate::minimize::minimize;
 use crate::order::Order;
 use crate::resolution::Resolution;
+use crate::way::Way;
 use clause_pool::{Kernel, Lit, Pool, Ref};
 use pb_base::{Fail, Memory};
 use propagate::Engine;
@@ -35,11 +36,11 @@ fn next_below(marks: &[bool], lits: &[Lit], from: usize, end: usize, known: usiz
 }
 
 /// Resolves down the trail until one literal of the current level is left, and gives its complement's place.
-
 pub(crate) fn find_uip(
     engine: &Engine,
     pool: &Pool,
     resolution: &mut Resolution,
+    way: &mut Way,
     order: &mut Order,
 ) -> Result<usize, Memory>
     requires attached { pool.now.clauses ≡ engine.now.clauses }
@@ -63,7 +64,9 @@ pub(crate) fn find_uip(
         let Some(reason) = engine.reason_at(place) else {
             unreachable!();
         };
-        order.bump_all(pool.lits(reason));
+        let clause = pool.lits(reason);
+        order.bump_all(clause);
+        way.look_ahead(&resolution.marks, clause, start);
         resolve_at(engine, pool, resolution, place, reason)?;
         let Some(next) = last_marked(&resolution.marks, lits, below, place) else {
             unreachable!();
@@ -96,6 +99,7 @@ fn resolve_conflict(
     engine: &Engine,
     pool: &Pool,
     resolution: &mut Resolution,
+    way: &mut Way,
     order: &mut Order,
     at: Ref,
 ) -> Result<usize, Memory>
@@ -108,11 +112,12 @@ fn resolve_conflict(
     ensures trail { IsTrail engine.now }
     ensures table { length resolution.new.marks.items ≡ 2 * engine.now.vars }
 {
-    engine.trail();
+    let start = engine.end_of(engine.level() - 1);
+    way.begin(engine.trail(), pool.lits(at), start)?;
     resolution.begin(pool, at);
     order.bump_all(pool.lits(at));
-    let place = find_uip(engine, pool, resolution, order)?;
-    minimize(engine, pool, resolution, place)?;
+    let place = find_uip(engine, pool, resolution, way, order)?;
+    minimize(engine, pool, resolution, way, place)?;
     Ok(place)
 }
 
@@ -121,6 +126,7 @@ pub(crate) fn learn(
     kernel: &mut Kernel,
     engine: &Engine,
     resolution: &mut Resolution,
+    way: &mut Way,
     order: &mut Order,
     at: Ref,
 ) -> Result<usize, Memory>
@@ -133,7 +139,7 @@ pub(crate) fn learn(
     ensures clear { OnOk result (AreClear resolution.new.marks.items) }
 {
     kernel.given();
-    let place = resolve_conflict(engine, kernel.pool(), resolution, order, at)?;
+    let place = resolve_conflict(engine, kernel.pool(), resolution, way, order, at)?;
     let learnt = append(kernel, resolution)?;
     unmark(&mut resolution.marks, kernel.pool().lits(learnt));
     order.decay();

@@ -7,9 +7,12 @@ ghost use Rattle.solver.specs.Marks.{marked, IsChain, IsUip, false_at};
 use crate::conflict::resolve_at;
 use crate::marks::is_marked;
 use crate::resolution::Resolution;
+use crate::way::{Needed, Way};
 use clause_pool::{Lit, Pool, Ref};
 use pb_base::Memory;
 use propagate::Engine;
+use std::alloc::Global;
+use std::collections::BinaryHeap;
 
 /// Whether each literal of a clause but this one is marked.
 #[tactic(auto, using(propagate::proofs::TakeLaws::item_in))]
@@ -42,12 +45,44 @@ fn needless(engine: &Engine, pool: &Pool, marks: &[bool], place: usize, fixed: u
     None
 }
 
-/// Resolves needless literals of the levels before the current one away.
-#[tactic(auto, using(crate::proofs::MarkLaws::uip_resolved, crate::proofs::MarkLaws::false_below))]
+/// The latest place ahead and before this one that is needless.
+#[tactic(auto, using(crate::proofs::MarkLaws::false_below))]
+fn next_needless(
+    engine: &Engine,
+    pool: &Pool,
+    marks: &[bool],
+    ahead: &mut BinaryHeap<usize, Global>,
+    fixed: usize,
+    end: usize,
+) -> Option<Needed>
+    requires attached { pool.now.clauses ≡ engine.now.clauses }
+    requires table { length marks.now ≡ 2 * engine.now.vars }
+    ensures place { IfSome result (λ n. n.place < length engine.now.lits) }
+    ensures before { IfSome result (λ n. n.place < end) }
+    ensures is_marked { IfSome result (λ n.
+        marked marks.now (false_at engine.now.lits n.place) ≡ true) }
+    ensures reason { IfSome result (λ n.
+        slice_index_or engine.now.reasons n.place None ≡ Some n.reason) }
+{
+    let lits = engine.trail();
+    while let Some(place) = ahead.pop() {
+        if place >= end || place >= lits.len() || !is_marked(marks, lits, place) {
+            continue;
+        }
+        if let Some(reason) = needless(engine, pool, marks, place, fixed) {
+            return Some(Needed { place, reason });
+        }
+    }
+    None
+}
+
+/// Resolves needless literals of the levels before the current one away, by the way that led to the clause.
+#[tactic(auto, using(crate::proofs::MarkLaws::uip_resolved))]
 pub(crate) fn minimize(
     engine: &Engine,
     pool: &Pool,
     resolution: &mut Resolution,
+    way: &mut Way,
     uip: usize,
 ) -> Result<(), Memory>
     requires attached { pool.now.clauses ≡ engine.now.clauses }
@@ -59,18 +94,22 @@ pub(crate) fn minimize(
     ensures uip { OnOk result (IsUip engine.now resolution.new.marks.items uip) }
     ensures table { length resolution.new.marks.items ≡ 2 * engine.now.vars }
 {
-    let lits = engine.trail();
+    engine.trail();
     let fixed = engine.end_of(0);
-    let mut place = engine.end_of(engine.level() - 1);
-    while place > 0 {
-        place -= 1;
-        if !is_marked(&resolution.marks, lits, place) {
-            continue;
-        }
-        let Some(reason) = needless(engine, pool, &resolution.marks, place, fixed) else {
-            continue;
+    let start = engine.end_of(engine.level() - 1);
+    for _ in 0..start {
+        let Some(needed) = next_needless(
+            engine,
+            pool,
+            &resolution.marks,
+            &mut way.ahead,
+            fixed,
+            start,
+        ) else {
+            return Ok(());
         };
-        resolve_at(engine, pool, resolution, place, reason)?;
+        way.look_ahead(&resolution.marks, pool.lits(needed.reason), needed.place);
+        resolve_at(engine, pool, resolution, needed.place, needed.reason)?;
     }
     Ok(())
 }

@@ -113,7 +113,7 @@ fn derive_closing(
     kernel.given();
     let trail = engine.trail();
     resolution.begin(kernel.pool(), at);
-    way.begin(trail, engine.end_of(0), kernel.pool().lits(at))?;
+    way.begin(trail, kernel.pool().lits(at), trail.len())?;
     resolve_away(engine, kernel.pool(), resolution, way, g)?;
     if resolution.pairs.is_empty() {
         return Ok(resolution.start);
@@ -151,6 +151,7 @@ fn go_on(
     kernel: &mut Kernel,
     engine: &mut Engine,
     resolution: &mut Resolution,
+    way: &mut Way,
     order: &mut Order,
     at: Ref,
 ) -> Result<(), Memory>
@@ -166,8 +167,8 @@ fn go_on(
         → IsNew kernel.old.clauses g (slice_index_or kernel.new.clauses (length kernel.old.clauses) [])) }
     ensures search { OnOk result ((g : ℕ) → IsSearch g engine.old → IsSearch g engine.new) }
 {
-    let place = learn(kernel, engine, resolution, order, at)?;
-    jump(engine, kernel.pool(), order, place)?;
+    let place = learn(kernel, engine, resolution, way, order, at)?;
+    jump(engine, kernel.pool(), way, order, place)?;
     Ok(())
 }
 
@@ -203,7 +204,7 @@ pub(crate) fn run(
             let closed = close(kernel, engine, resolution, way, g, at)?;
             return Ok(Ending::Closed(closed));
         }
-        go_on(kernel, engine, resolution, order, at)?;
+        go_on(kernel, engine, resolution, way, order, at)?;
         learnt += 1;
     }
     Ok(Ending::Spent)

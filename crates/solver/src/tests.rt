@@ -1,5 +1,5 @@
 //! The questions of a small book, and pigeons in too few holes.
-ghost use Rattle.std.specs.Prelude.{◌≡◌, ◌<◌, IfOk, IfSome};
+ghost use Rattle.std.specs.Prelude.{◌≡◌, ◌*◌, ◌<◌, IfOk, IfSome};
 ghost use Rattle.clause_pool.specs.Clause.{AreBelow};
 
 use crate::{Answer, Solver};
@@ -60,6 +60,15 @@ fn closes(solver: &Solver, answer: &Answer, left: Lit) -> bool {
     pool.lits(*at).iter().all(|lit| *lit == left)
 }
 
+/// Whether a question with a budget of one clause is closed.
+fn is_closed(solver: &mut Solver, assume: Lit) -> Result<bool, Fail>
+    requires { assume < 2 * solver.old.vars }
+    ensures { solver.new.vars ≡ solver.old.vars }
+{
+    let answer = solver.solve(assume, 1)?;
+    Ok(closes(solver, &answer, assume.not()))
+}
+
 /// Whether the answer is one learnt clause, of at least two literals.
 fn is_one_clause(answer: &Answer) -> bool {
     let Answer::Spent(learnt) = answer else {
@@ -82,12 +91,35 @@ const BOOK: &[u8] =
 #[test]
 fn questions_of_a_book(rt: HostRuntime) -> Result<(), Fail> {
     let mut solver = solver_of(rt.alloc(), BOOK)?;
-    let ambiguous = solver.solve(Lit::new(9, true), 1)?;
-    assert!(rt; closes(&solver, &ambiguous, Lit::new(9, false)));
-    let uncovered = solver.solve(Lit::new(10, true), 1)?;
-    assert!(rt; closes(&solver, &uncovered, Lit::new(10, false)));
+    let ambiguous = is_closed(&mut solver, Lit::new(9, true))?;
+    let uncovered = is_closed(&mut solver, Lit::new(10, true))?;
+    assert!(rt; ambiguous);
+    assert!(rt; uncovered);
+    Ok(())
+}
+
+#[test]
+fn a_set_for_the_first_question(rt: HostRuntime) -> Result<(), Fail> {
+    let mut solver = solver_of(rt.alloc(), BOOK)?;
+    is_closed(&mut solver, Lit::new(9, true))?;
     let void = solver.solve(Lit::new(5, true), 50_000)?;
     assert!(rt; is_good(&void));
+    Ok(())
+}
+
+/// Whether the answer is such a set, or one learnt clause.
+fn is_good_or_one_clause(answer: &Answer) -> bool {
+    if is_good(answer) {
+        return true;
+    }
+    is_one_clause(answer)
+}
+
+#[test]
+fn first_question_within_one_clause(rt: HostRuntime) -> Result<(), Fail> {
+    let mut solver = solver_of(rt.alloc(), BOOK)?;
+    let void = solver.solve(Lit::new(5, true), 1)?;
+    assert!(rt; is_good_or_one_clause(&void));
     Ok(())
 }
 

@@ -20,9 +20,9 @@ pub(crate) struct Way {
     pub(crate) touched: Vec<Lit>,
     // By variable.
     places: Vec<usize>,
-    // What comes before this place of the trail is entered for good.
+    // The literals before this place of the trail are entered.
     entered: usize,
-    ahead: BinaryHeap<usize, Global>,
+    pub(crate) ahead: BinaryHeap<usize, Global>,
 }
 
 impl Way {
@@ -36,25 +36,39 @@ impl Way {
         })
     }
 
-    /// Begins with the literals of a clause. The trail is fixed up to this place.
-    pub(crate) fn begin(&mut self, trail: &[Lit], fixed: usize, lits: &[Lit]) -> Result<(), Memory>
+    /// The trail goes back to this place.
+    pub(crate) fn go_back(&mut self, end: usize) {
+        if end < self.entered {
+            self.entered = end;
+        }
+    }
+
+    /// Begins with the literals of a clause, as far as they come before this place of the trail.
+    pub(crate) fn begin(&mut self, trail: &[Lit], lits: &[Lit], end: usize) -> Result<(), Memory>
         ensures { OnOk result (self.new.touched.items ≡ lits.now) }
     {
         enter_places(&mut self.places, trail, self.entered);
-        self.entered = fixed;
+        self.entered = trail.len();
         self.ahead.clear();
+        put_ahead(&mut self.ahead, &self.places, &[], lits, end);
         self.touched.clear();
         self.touch(lits)?;
         Ok(())
     }
 
     /// Goes on with the literals of a clause.
-    fn touch(&mut self, lits: &[Lit]) -> Result<(), Memory>
+    pub(crate) fn touch(&mut self, lits: &[Lit]) -> Result<(), Memory>
         ensures { OnOk result (self.new.touched.items ≡ self.old.touched.items ++ lits.now) }
     {
-        look_ahead(&mut self.ahead, &self.places, lits);
         self.touched.extend_from_slice(lits)?;
         Ok(())
+    }
+
+    /// Puts the places of literals that are not marked yet ahead, as far as they come before this one.
+    pub(crate) fn look_ahead(&mut self, marks: &[bool], lits: &[Lit], end: usize)
+        ensures { self.new.touched.items ≡ self.old.touched.items }
+    {
+        put_ahead(&mut self.ahead, &self.places, marks, lits, end);
     }
 }
 
@@ -67,10 +81,21 @@ fn enter_places(places: &mut Vec<usize>, trail: &[Lit], from: usize) {
     }
 }
 
-/// Puts the places of literals ahead. What there is no room for is found by the walk over the trail.
-fn look_ahead(ahead: &mut BinaryHeap<usize, Global>, places: &[usize], lits: &[Lit]) {
+/// Puts the places of literals that are not marked yet ahead, as far as they come before this one. What there is no
+/// room for isn't found by the way.
+fn put_ahead(
+    ahead: &mut BinaryHeap<usize, Global>,
+    places: &[usize],
+    marks: &[bool],
+    lits: &[Lit],
+    end: usize,
+) {
     for lit in lits {
+        if has_mark(marks, *lit) {
+            continue;
+        }
         if let Some(place) = places.get(lit.var() as usize)
+            && *place < end
             && ahead.push(*place).is_err()
         {
             return;
@@ -80,9 +105,9 @@ fn look_ahead(ahead: &mut BinaryHeap<usize, Global>, places: &[usize], lits: &[L
 
 /// A false literal that is marked and has a reason, by its place of the trail.
 #[derive(Clone, Copy)]
-struct Needed {
-    place: usize,
-    reason: Ref,
+pub(crate) struct Needed {
+    pub(crate) place: usize,
+    pub(crate) reason: Ref,
 }
 
 /// The latest place ahead that is needed.
@@ -134,8 +159,10 @@ pub(crate) fn resolve_ahead(
         let Some(needed) = next_needed(engine, &resolution.marks, &mut way.ahead) else {
             return Ok(());
         };
+        let clause = pool.lits(needed.reason);
+        way.look_ahead(&resolution.marks, clause, needed.place);
+        way.touch(clause)?;
         resolve_at(engine, pool, resolution, needed.place, needed.reason)?;
-        way.touch(pool.lits(needed.reason))?;
     }
     Ok(())
 }

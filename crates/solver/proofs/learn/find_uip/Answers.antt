@@ -49,13 +49,13 @@ unreachable-requires-in_default-reason_at c =
     let before : c.in-Some-next_below.below < c.loop-below.place = c.in-Some-next_below.ensures.before in
     has_reason t c.loop-below.place c.trail-lits.ensures.trail (omega (arith, start, behind, before)) c.loop-below.invariant.resolving.within (sym c.reason_at.ensures ∙ c.in_default-reason_at.is)
 
-pub lits-requires : goal.lits-requires
-lits-requires c =
+pub lits-clause-requires : goal.lits-clause-requires
+lits-clause-requires c =
     reason_attached c.args.engine.now c.args.pool.now.clauses c.loop-below.place c.in-Some-reason_at.reason c.trail-lits.ensures.trail c.loop-below.invariant.resolving.within (sym c.reason_at.ensures ∙ c.in-Some-reason_at.is) c.requires.attached
 
 pub last_marked-requires-in-Some-next_below-clause-below : goal.last_marked-requires-in-Some-next_below-clause-below
 last_marked-requires-in-Some-next_below-clause-below c = λ k low.
-    false_below c.args.engine.now c.trail-lits.result.now (length c.deref-in-Some-next_below.result.now) k c.trail-lits.ensures.trail c.trail-lits.ensures.lits (ap length c.deref-in-Some-next_below.ensures.value ∙ c.resolve_at.ensures.table) low
+    false_below c.args.engine.now c.trail-lits.result.now (length c.deref-in-Some-next_below-2.result.now) k c.trail-lits.ensures.trail c.trail-lits.ensures.lits (ap length c.deref-in-Some-next_below-2.ensures.value ∙ c.resolve_at.ensures.table) low
 
 pub unreachable-requires-in_default-last_marked : goal.unreachable-requires-in_default-last_marked
 unreachable-requires-in_default-last_marked c =
@@ -65,8 +65,8 @@ unreachable-requires-in_default-last_marked c =
     (top_is c.trail-lits.result.now t.lits c.deref-in-loop-below.result.now c.loop-below.resolution.marks.items c.end_of-start.result (start_of t) (c.in-Some-next_below.below + 1) (c.in-Some-next_below.below + 1) c.in-Some-next_below.below
     c.trail-lits.ensures.lits c.deref-in-loop-below.ensures.value start refl c.in-Some-next_below.ensures.found)
     c.in-Some-next_below.ensures.before c.in_ok-resolve_at.ensures.resolved
-    (none_is c.trail-lits.result.now t.lits c.deref-in-Some-next_below.result.now c.resolve_at.new.resolution.marks.items c.in-Some-next_below.below c.in-Some-next_below.below c.loop-below.place c.loop-below.place
-    c.trail-lits.ensures.lits c.deref-in-Some-next_below.ensures.value refl refl c.in_default-last_marked.ensures.none)
+    (none_is c.trail-lits.result.now t.lits c.deref-in-Some-next_below-2.result.now c.resolve_at.new.resolution.marks.items c.in-Some-next_below.below c.in-Some-next_below.below c.loop-below.place c.loop-below.place
+    c.trail-lits.ensures.lits c.deref-in-Some-next_below-2.ensures.value refl refl c.in_default-last_marked.ensures.none)
 
 pub loop-below-preserved : goal.loop-below-preserved
 loop-below-preserved c =
@@ -79,8 +79,8 @@ loop-below-preserved c =
           (top_is c.trail-lits.result.now t.lits c.deref-in-loop-below.result.now c.loop-below.resolution.marks.items c.end_of-start.result (start_of t) (c.in-Some-next_below.below + 1) (c.in-Some-next_below.below + 1) c.in-Some-next_below.below
           c.trail-lits.ensures.lits c.deref-in-loop-below.ensures.value start refl c.in-Some-next_below.ensures.found)
           c.in-Some-next_below.ensures.before c.in_ok-resolve_at.ensures.resolved
-          (top_is c.trail-lits.result.now t.lits c.deref-in-Some-next_below.result.now c.resolve_at.new.resolution.marks.items c.in-Some-next_below.below c.in-Some-next_below.below c.loop-below.place c.loop-below.place c.in-Some-last_marked.next
-          c.trail-lits.ensures.lits c.deref-in-Some-next_below.ensures.value refl refl c.in-Some-last_marked.ensures.top);
+          (top_is c.trail-lits.result.now t.lits c.deref-in-Some-next_below-2.result.now c.resolve_at.new.resolution.marks.items c.in-Some-next_below.below c.in-Some-next_below.below c.loop-below.place c.loop-below.place c.in-Some-last_marked.next
+          c.trail-lits.ensures.lits c.deref-in-Some-next_below-2.ensures.value refl refl c.in-Some-last_marked.ensures.top);
     }
 
 pub returns-clause-uip : goal.returns-clause-uip

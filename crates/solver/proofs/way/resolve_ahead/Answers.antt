@@ -3,8 +3,8 @@ use Rattle.solver.proofs.MarkLaws.{reason_attached}
 use Rattle.solver.proofs.WayLaws.{touched_more, whole_before}
 use Rattle.solver.proofs.way.resolve_ahead.Goals as goal
 
-pub lits-requires : goal.lits-requires
-lits-requires c =
+pub lits-clause-requires : goal.lits-clause-requires
+lits-clause-requires c =
     reason_attached c.args.engine.now c.args.pool.now.clauses c.in-Some.needed.place c.in-Some.needed.reason c.trail-lits.ensures.trail c.in-Some.ensures.place c.in-Some.ensures.reason c.requires.attached
 
 pub loop-preserved : goal.loop-preserved
@@ -14,5 +14,5 @@ loop-preserved c = record {
   others_false = whole_before c.args.engine.now c.in-Some.needed.place c.args.left c.loop.resolution.marks.items c.resolve_at.new.resolution.marks.items c.in-Some.ensures.place c.in_ok-resolve_at.ensures.resolved c.loop.invariant.others_false;
   all_touched =
       touched_more c.loop.resolution.marks.items c.resolve_at.new.resolution.marks.items c.loop.way.touched.items c.touch.new.self.touched.items _ c.loop.invariant.all_touched c.in_ok-resolve_at.ensures.origin
-      (c.in_ok-touch.ensures ∙ ap (λ (xs : List ℕ). c.loop.way.touched.items ++ xs) c.lits.ensures.clause);
+      (c.in_ok-touch.ensures ∙ ap (λ (xs : List ℕ). xs ++ c.lits-clause.result.now) c.look_ahead.ensures ∙ ap (λ (xs : List ℕ). c.loop.way.touched.items ++ xs) c.lits-clause.ensures.clause);
 }
