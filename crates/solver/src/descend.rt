@@ -20,7 +20,7 @@ pub(crate) enum Decision {
     Assumed,
 }
 
-/// Assumes the question's literal at level 0, and above it the next one.
+// Assumes the question's literal at level 0, and above it the next one.
 fn decide(engine: &mut Engine, order: &mut Order, g: Lit) -> Decision
     requires below { g < 2 * engine.old.vars }
     requires quiet { Quiet engine.old.clauses engine.old.lits }
@@ -38,7 +38,7 @@ fn decide(engine: &mut Engine, order: &mut Order, g: Lit) -> Decision
     Decision::Assumed
 }
 
-/// Assumes the question's literal, unless it is false already.
+// Assumes the question's literal, unless it is false already.
 fn begin(engine: &mut Engine, g: Lit) -> Decision
     requires below { g < 2 * engine.old.vars }
     requires level { level engine.old ≡ 0 }

@@ -12,7 +12,7 @@ use clause_pool::{Lit, Pool};
 use pb_base::Memory;
 use propagate::Engine;
 
-/// The first level at which all literals of a clause but one are false.
+// The first level at which all literals of a clause but one are false.
 fn jump_level(engine: &Engine, lits: &[Lit], forced: Lit) -> u32
     requires level { 0 < level engine.now }
     requires below { (l : ℕ) → has lits.now l ≡ true → l < 2 * engine.now.vars }

@@ -19,7 +19,7 @@ use clause_pool::{Kernel, Lit, Pool, Ref};
 use pb_base::{Fail, Memory};
 use propagate::Engine;
 
-/// The latest marked place before `end`, where a marked place from `from` on is known.
+// The latest marked place before `end`, where a marked place from `from` on is known.
 fn next_below(marks: &[bool], lits: &[Lit], from: usize, end: usize, known: usize) -> Option<usize>
     requires known { IsTop lits.now marks.now from (known + 1) known }
     requires within { known ≤ end }
@@ -93,8 +93,8 @@ pub(crate) fn append(kernel: &mut Kernel, resolution: &Resolution) -> Result<Ref
     }
 }
 
-/// Resolves a clause that is false down to one with a single literal of the current level, and gives the place of
-/// the trail that stands against it.
+// Resolves a clause that is false down to one with a single literal of the current level, and gives the place of
+// the trail that stands against it.
 fn resolve_conflict(
     engine: &Engine,
     pool: &Pool,

@@ -14,7 +14,7 @@ use propagate::Engine;
 use std::alloc::Global;
 use std::collections::BinaryHeap;
 
-/// Whether each literal of a clause but this one is marked.
+// Whether each literal of a clause but this one is marked.
 #[tactic(auto, using(propagate::proofs::TakeLaws::item_in))]
 fn others_marked(marks: &[bool], lits: &[Lit], left_out: Lit) -> bool
     requires { (l : ℕ) → has lits.now l ≡ true → l < length marks.now }
@@ -27,8 +27,8 @@ fn others_marked(marks: &[bool], lits: &[Lit], left_out: Lit) -> bool
     true
 }
 
-/// The reason of the literal at a place of the trail, if by it the false literal is needless: at level 0, or where
-/// all others of the reason are marked.
+// The reason of the literal at a place of the trail, if by it the false literal is needless: at level 0, or where
+// all others of the reason are marked.
 fn needless(engine: &Engine, pool: &Pool, marks: &[bool], place: usize, fixed: usize) -> Option<Ref>
     requires attached { pool.now.clauses ≡ engine.now.clauses }
     requires place { place < length engine.now.lits }
@@ -45,7 +45,7 @@ fn needless(engine: &Engine, pool: &Pool, marks: &[bool], place: usize, fixed: u
     None
 }
 
-/// The latest place ahead and before this one that is needless.
+// The latest place ahead and before this one that is needless.
 #[tactic(auto, using(crate::proofs::MarkLaws::false_below))]
 fn next_needless(
     engine: &Engine,

@@ -11,13 +11,13 @@ use std::alloc::Global;
 use std::cmp::Reverse;
 use std::collections::BinaryHeap;
 
-/// Where the step by which activities grow reaches this, all of them are halved 32 times.
+// Where the step by which activities grow reaches this, all of them are halved 32 times.
 const STEP_LIMIT: u64 = 1 << 48;
 
-/// Behind so many conflicts of a question its hints are forgotten.
+// Behind so many conflicts of a question its hints are forgotten.
 const HINTED_CONFLICTS: u32 = 50;
 
-/// What a variable has in the order.
+// What a variable has in the order.
 #[derive(Clone, Copy)]
 struct Standing {
     activity: u64,
@@ -69,7 +69,7 @@ impl Order {
         Ok(order)
     }
 
-    /// Puts a variable into the heap with its activity. Where there is no room, it is found without.
+    // Puts a variable into the heap with its activity. Where there is no room, it is found without.
     fn enter(&mut self, var: u32) {
         let Some(standing) = self.standings.get_mut(var as usize) else {
             return;
@@ -109,7 +109,7 @@ impl Order {
         self.enter_all();
     }
 
-    /// Puts all codes into the heap anew.
+    // Puts all codes into the heap anew.
     fn enter_all(&mut self) {
         self.heap.clear();
         for standing in self.standings.iter_mut() {
@@ -156,7 +156,7 @@ impl Order {
         self.hinted_conflicts = HINTED_CONFLICTS;
     }
 
-    /// The next hint, if one is left.
+    // The next hint, if one is left.
     fn next_hint(&mut self) -> Option<Lit>
         ensures { OnSome result (self.new.hints_left < self.old.hints_left) }
     {
@@ -167,7 +167,7 @@ impl Order {
         self.hints.get(self.hints_left).copied()
     }
 
-    /// Takes the first variable from the heap.
+    // Takes the first variable from the heap.
     fn pop(&mut self) -> Option<u32>
         ensures { OnSome result (heap_len self.new.heap < heap_len self.old.heap) }
     {
@@ -182,7 +182,7 @@ impl Order {
         None
     }
 
-    /// The literal of a variable with the value to try.
+    // The literal of a variable with the value to try.
     fn literal(&self, var: u32) -> Lit
         ensures { result / 2 ≡ var }
     {
@@ -215,7 +215,7 @@ pub(crate) fn pick(order: &mut Order, engine: &Engine) -> Option<Lit>
     first_open(engine)
 }
 
-/// The lowest variable without a value, as its negative literal.
+// The lowest variable without a value, as its negative literal.
 fn first_open(engine: &Engine) -> Option<Lit>
     ensures below { IfSome result (λ l. l < 2 * engine.now.vars) }
     ensures not_true { IfSome result (λ l. has engine.now.lits l ≡ false) }

@@ -67,7 +67,7 @@ impl Resolution {
     }
 }
 
-/// Marks the literals of a clause in place of the literal that it is resolved on.
+// Marks the literals of a clause in place of the literal that it is resolved on.
 fn replace_marks(marks: &mut Vec<bool>, lit: Lit, lits: &[Lit])
     requires is_marked { marked marks.old.items lit ≡ true }
     requires pivot { has lits.now (complement lit) ≡ true }

@@ -30,7 +30,7 @@ pub(crate) enum Ending {
     Spent,
 }
 
-/// Resolves all literals that have a reason away.
+// Resolves all literals that have a reason away.
 #[tactic(auto, using(crate::proofs::MarkLaws::false_below))]
 fn resolve_all(
     engine: &Engine,
@@ -63,8 +63,8 @@ fn resolve_all(
     Ok(())
 }
 
-/// The same by the way that the reasons show, which is short beside the trail. Where this leaves something, the walk over
-/// the trail takes it away.
+// The same by the way that the reasons show, which is short beside the trail. Where this leaves something, the walk over
+// the trail takes it away.
 #[tactic(auto, using(crate::proofs::WayLaws::none_left))]
 fn resolve_away(
     engine: &Engine,
@@ -92,7 +92,7 @@ fn resolve_away(
     Ok(())
 }
 
-/// Derives from a conflict that the assumption alone leads to a clause that refutes it.
+// Derives from a conflict that the assumption alone leads to a clause that refutes it.
 fn derive_closing(
     kernel: &mut Kernel,
     engine: &Engine,
@@ -122,7 +122,7 @@ fn derive_closing(
     Ok(closed)
 }
 
-/// The same, with no mark left.
+// The same, with no mark left.
 fn close(
     kernel: &mut Kernel,
     engine: &Engine,
@@ -146,7 +146,7 @@ fn close(
     Ok(closed)
 }
 
-/// Learns a clause from a conflict, and goes back to where it forces its literal.
+// Learns a clause from a conflict, and goes back to where it forces its literal.
 fn go_on(
     kernel: &mut Kernel,
     engine: &mut Engine,

@@ -141,7 +141,7 @@ impl Solver {
     }
 }
 
-/// Takes all levels back. Each variable keeps its value to try it again.
+// Takes all levels back. Each variable keeps its value to try it again.
 fn take_back(engine: &mut Engine, way: &mut Way, order: &mut Order)
     ensures level { level engine.new ≡ 0 }
     ensures clauses { engine.new.clauses ≡ engine.old.clauses }
@@ -153,7 +153,7 @@ fn take_back(engine: &mut Engine, way: &mut Way, order: &mut Order)
     engine.back_to(0);
 }
 
-/// Takes all levels back, and attaches what is not attached yet.
+// Takes all levels back, and attaches what is not attached yet.
 fn prepare(
     kernel: &Kernel,
     engine: &mut Engine,
@@ -174,7 +174,7 @@ fn prepare(
     Ok(())
 }
 
-/// Attaches the clauses of a pool that are not attached yet.
+// Attaches the clauses of a pool that are not attached yet.
 fn attach_rest(engine: &mut Engine, pool: &Pool) -> Result<(), Memory>
     requires level { level engine.old ≡ 0 }
     requires attached { engine.old.clauses ≡ take (length engine.old.clauses) pool.now.clauses }
@@ -193,7 +193,7 @@ fn attach_rest(engine: &mut Engine, pool: &Pool) -> Result<(), Memory>
     Ok(())
 }
 
-/// Whether a code is true.
+// Whether a code is true.
 fn is_true(engine: &Engine, code: u32) -> bool
     requires { code < engine.now.vars }
     ensures { result ≡ has engine.now.lits (2 * code) }
@@ -201,7 +201,7 @@ fn is_true(engine: &Engine, code: u32) -> bool
     engine.value(Lit::new(code, true)) == Some(true)
 }
 
-/// The codes that are true.
+// The codes that are true.
 fn true_codes(alloc: Global, engine: &Engine, codes: u32) -> Result<CodeSet, Memory>
     requires { codes ≤ engine.now.vars }
     ensures counted { IfOk result (λ x. length x ≡ codes) }
@@ -217,7 +217,7 @@ fn true_codes(alloc: Global, engine: &Engine, codes: u32) -> Result<CodeSet, Mem
     Ok(set)
 }
 
-/// The set that a search ended with.
+// The set that a search ended with.
 fn found_set(
     alloc: Global,
     kernel: &Kernel,
@@ -237,7 +237,7 @@ fn found_set(
     Ok(set)
 }
 
-/// The clauses of a pool from one place on, as a pool of their own.
+// The clauses of a pool from one place on, as a pool of their own.
 fn clauses_from(alloc: Global, pool: &Pool, first: Ref) -> Result<Pool, Memory>
     requires { first ≤ length pool.now.clauses }
     ensures { IfOk result (λ learnt. learnt.clauses ≡ drop first pool.now.clauses) }
@@ -249,7 +249,7 @@ fn clauses_from(alloc: Global, pool: &Pool, first: Ref) -> Result<Pool, Memory>
     Ok(learnt)
 }
 
-/// The clauses that a search learnt, which are those from one place on.
+// The clauses that a search learnt, which are those from one place on.
 fn learnt_from(
     alloc: Global,
     kernel: &Kernel,

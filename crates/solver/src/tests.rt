@@ -7,7 +7,7 @@ use clause_pool::{Kernel, Lit, Pool};
 use std::alloc::Global;
 use std::test::Fail;
 
-/// The variable of a digit, or of a letter from `a` for 10 on.
+// The variable of a digit, or of a letter from `a` for 10 on.
 fn var_of(byte: u8) -> Option<u32>
     ensures { IfSome result (λ var. var < 36) }
 {
@@ -18,7 +18,7 @@ fn var_of(byte: u8) -> Option<u32>
     }
 }
 
-/// The clauses of a text: literals as a sign and a variable, and a `;` behind each clause.
+// The clauses of a text: literals as a sign and a variable, and a `;` behind each clause.
 fn clauses_of(alloc: Global, text: &[u8]) -> Result<Pool, Fail>
     ensures { IfOk result (λ pool. AreBelow 72 pool.clauses) }
 {
@@ -40,7 +40,7 @@ fn clauses_of(alloc: Global, text: &[u8]) -> Result<Pool, Fail>
     Ok(pool)
 }
 
-/// A solver of 36 variables, of which five are codes.
+// A solver of 36 variables, of which five are codes.
 fn solver_of(alloc: Global, text: &[u8]) -> Result<Solver, Fail>
     ensures { IfOk result (λ solver. solver.vars ≡ 36) }
 {
@@ -48,7 +48,7 @@ fn solver_of(alloc: Global, text: &[u8]) -> Result<Solver, Fail>
     Ok(Solver::new(alloc, kernel, 36, 5)?)
 }
 
-/// Whether the answer is a clause without a literal but this one.
+// Whether the answer is a clause without a literal but this one.
 fn closes(solver: &Solver, answer: &Answer, left: Lit) -> bool {
     let Answer::Closed(at) = answer else {
         return false;
@@ -60,7 +60,7 @@ fn closes(solver: &Solver, answer: &Answer, left: Lit) -> bool {
     pool.lits(*at).iter().all(|lit| *lit == left)
 }
 
-/// Whether a question with a budget of one clause is closed.
+// Whether a question with a budget of one clause is closed.
 fn is_closed(solver: &mut Solver, assume: Lit) -> Result<bool, Fail>
     requires { assume < 2 * solver.old.vars }
     ensures { solver.new.vars ≡ solver.old.vars }
@@ -69,7 +69,7 @@ fn is_closed(solver: &mut Solver, assume: Lit) -> Result<bool, Fail>
     Ok(closes(solver, &answer, assume.not()))
 }
 
-/// Whether the answer is one learnt clause, of at least two literals.
+// Whether the answer is one learnt clause, of at least two literals.
 fn is_one_clause(answer: &Answer) -> bool {
     let Answer::Spent(learnt) = answer else {
         return false;
@@ -77,7 +77,7 @@ fn is_one_clause(answer: &Answer) -> bool {
     learnt.len() == 1 && learnt.lits(0).len() >= 2
 }
 
-/// Whether the answer is a set with just one of the first two codes, and just one of the next two.
+// Whether the answer is a set with just one of the first two codes, and just one of the next two.
 fn is_good(answer: &Answer) -> bool {
     let Answer::Set(set) = answer else {
         return false;
@@ -107,7 +107,7 @@ fn a_set_for_the_first_question(rt: HostRuntime) -> Result<(), Fail> {
     Ok(())
 }
 
-/// Whether the answer is such a set, or one learnt clause.
+// Whether the answer is such a set, or one learnt clause.
 fn is_good_or_one_clause(answer: &Answer) -> bool {
     if is_good(answer) {
         return true;
@@ -123,7 +123,7 @@ fn first_question_within_one_clause(rt: HostRuntime) -> Result<(), Fail> {
     Ok(())
 }
 
-/// Four pigeons in three holes; `c` is true.
+// Four pigeons in three holes; `c` is true.
 const PIGEONS: &[u8] =
     b"+c;+0+1+2;+3+4+5;+6+7+8;+9+a+b;-0-3;-0-6;-0-9;-3-6;-3-9;-6-9;-1-4;-1-7;-1-a;-4-7;-4-a;-7-a;-2-5;-2-8;-2-b;-5-8;-5-b;-8-b;";
 

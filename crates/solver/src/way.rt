@@ -72,7 +72,7 @@ impl Way {
     }
 }
 
-/// Enters the places of a trail from this one on.
+// Enters the places of a trail from this one on.
 fn enter_places(places: &mut Vec<usize>, trail: &[Lit], from: usize) {
     for place in from..trail.len() {
         if let Some(entry) = places.get_mut(trail[place].var() as usize) {
@@ -81,8 +81,8 @@ fn enter_places(places: &mut Vec<usize>, trail: &[Lit], from: usize) {
     }
 }
 
-/// Puts the places of literals that are not marked yet ahead, as far as they come before this one. What there is no
-/// room for isn't found by the way.
+// Puts the places of literals that are not marked yet ahead, as far as they come before this one. What there is no
+// room for isn't found by the way.
 fn put_ahead(
     ahead: &mut BinaryHeap<usize, Global>,
     places: &[usize],
@@ -110,7 +110,7 @@ pub(crate) struct Needed {
     pub(crate) reason: Ref,
 }
 
-/// The latest place ahead that is needed.
+// The latest place ahead that is needed.
 #[tactic(auto, using(crate::proofs::MarkLaws::false_below))]
 fn next_needed(
     engine: &Engine,
@@ -167,7 +167,7 @@ pub(crate) fn resolve_ahead(
     Ok(())
 }
 
-/// Whether a literal is the one that is left, or isn't marked.
+// Whether a literal is the one that is left, or isn't marked.
 fn is_unmarked_but(marks: &[bool], lit: Lit, left: Lit) -> bool
     ensures { result ≡ true → marked marks.now lit ≡ true → lit ≡ left }
 {
