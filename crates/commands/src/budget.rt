@@ -1,5 +1,6 @@
 //! How many clauses may be learnt for one question.
 ghost use Rattle.std.specs.Prelude.{◌≡◌, ◌<◌, ◌≤◌};
+ghost use Rattle.pb_base.specs.declared.limits.TheConstants.{MOST_BUDGET};
 
 use std::marker::Model;
 
