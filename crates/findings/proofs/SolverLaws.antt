@@ -1,5 +1,5 @@
 -- What the solver's answers say of the questions of a slice.
-use Rattle.std.proofs.Common.{◌≡◌, ℕ, Bool, List, Some, Result, Ok, Err, length, sym, ap, subst, ◌∙◌}
+use Rattle.std.proofs.Common.{◌≡◌, ℕ, Bool, true, List, Some, Result, Ok, Err, length, sym, ap, subst, ◌∙◌}
 use Rattle.std.specs.Result.{IfOk}
 use Rattle.std.specs.List.{slice_get}
 use Rattle.book_model.specs.Contents.{Contents}
@@ -17,7 +17,7 @@ use Rattle.findings.specs.Answering.{SliceFacts, IsOver, IsFound, KnowsUsages, C
 use Rattle.findings.specs.declared.found.Found.{Found}
 use Rattle.book_model.specs.Good.{is_good}
 use Rattle.clausify.specs.declared.question.Question.{Question}
-use Rattle.findings.proofs.Lifting.{meets_from_begins, none_from_clause}
+use Rattle.findings.proofs.Lifting.{meets_from_begins, none_from_clause, good_through}
 
 pub over_further : (b : Contents) (s : Slice) (old new : Solving) → IsOver b s old → Extends old.kernel new.kernel → new.codes ≡ old.codes → IsOver b s new
 over_further b s old new h more codes = record { given = more.same_given ∙ h.given; codes = codes ∙ h.codes }
@@ -50,5 +50,13 @@ pub found_of : (b : Contents) (s : Slice) (q : Question) (x : List Bool) (f : Fo
 found_of b s q x f same usages counted met = record {
   counted = ap length same ∙ counted;
   good_then = λ day within. ap (is_good b day) same ∙ met.good_then day within;
+  usages = usages;
+}
+
+pub good_found : (b : Contents) (s : Slice) (x : List Bool) (f : Found) → SliceFacts b s → f.set ≡ x → KnowsUsages b f → length x ≡ length b.codes
+    → is_good b s.first x ≡ true → IsFound b s f
+good_found b s x f facts same usages counted good = record {
+  counted = ap length same ∙ counted;
+  good_then = λ day within. ap (is_good b day) same ∙ good_through b s x facts counted good day within;
   usages = usages;
 }

@@ -2,12 +2,15 @@
 //! it from its release.
 #![tactic(auto)]
 
+mod again;
 mod answer;
 mod check;
+mod earlier;
 mod effort;
 mod found;
 mod guide;
 mod laws;
+mod moves;
 mod outcome;
 mod report;
 mod sets;

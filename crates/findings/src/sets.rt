@@ -4,16 +4,19 @@ ghost use Rattle.pb_base.specs.Rule.{holds};
 ghost use Rattle.book_model.specs.Contents.{Contents};
 ghost use Rattle.book_model.specs.declared.record.Slice.{Slice};
 ghost use Rattle.clausify.specs.Questions.{goal, QuestionFits};
-ghost use Rattle.findings.specs.Answering.{IsFound};
+ghost use Rattle.findings.specs.Answering.{IsFound, SliceFacts};
 
-use crate::found::{Found, meets};
-use book_model::{Book, Slice, active};
+use crate::found::{Found, found_with, meets};
+use book_model::{Book, Slice, active, is_good};
 use clausify::Question;
 use pb_base::{CodeSet, Day, Memory};
 use std::alloc::Global;
 
 /// The most sets that are kept: one for each bit of a table's word.
 const MOST_SETS: usize = 64;
+
+/// The most sets that are handed on to the next slice, so that room for its own is left.
+const MOST_HANDED_ON: usize = 40;
 
 /// Sets that were found. Tables say which of them have a code, and over which the formula of a variant is true, so that
 /// a question finds a set without a search. What a table says is a hint: a set is asked before it answers.
@@ -53,6 +56,54 @@ impl Sets {
             mark_codes(&mut self.with_code, &found.set, bit);
             mark_used(&mut self.using, &found.usages, bit);
             self.found.push(found)?;
+        }
+        Ok(())
+    }
+
+    /// Keeps those sets of the slice before that are good in this one too.
+    pub(crate) fn put_earlier(
+        &mut self,
+        alloc: Global,
+        book: &Book,
+        slice: &Slice,
+        earlier: &[CodeSet],
+    ) -> Result<(), Memory>
+        requires facts { SliceFacts book.now slice.now }
+        requires found { All (IsFound book.now slice.now) self.old.found.items }
+        ensures { All (IsFound book.now slice.now) self.new.found.items }
+    {
+        for set in earlier {
+            self.put_good(alloc, book, slice, set)?;
+        }
+        Ok(())
+    }
+
+    /// Keeps a set of the slice before, if it is good in this one.
+    fn put_good(
+        &mut self,
+        alloc: Global,
+        book: &Book,
+        slice: &Slice,
+        set: &CodeSet,
+    ) -> Result<(), Memory>
+        requires facts { SliceFacts book.now slice.now }
+        requires found { All (IsFound book.now slice.now) self.old.found.items }
+        ensures { All (IsFound book.now slice.now) self.new.found.items }
+    {
+        let good = good_earlier(alloc, book, slice, set)?;
+        match good {
+            Some(found) => self.put(found),
+            None => Ok(()),
+        }
+    }
+
+    /// Hands the sets on to the next slice.
+    pub(crate) fn hand_on(self, earlier: &mut Vec<CodeSet>) -> Result<(), Memory> {
+        earlier.clear();
+        for found in self.found {
+            if earlier.len() < MOST_HANDED_ON {
+                earlier.push(found.set)?;
+            }
         }
         Ok(())
     }
@@ -134,6 +185,24 @@ impl Sets {
         }
         None
     }
+}
+
+/// A set of the slice before, if it is good in this one.
+#[tactic(auto, using(crate::proofs::SolverLaws::good_found))]
+fn good_earlier(
+    alloc: Global,
+    book: &Book,
+    slice: &Slice,
+    set: &CodeSet,
+) -> Result<Option<Found>, Memory>
+    requires facts { SliceFacts book.now slice.now }
+    ensures { IfOk result (λ found. IfSome found (IsFound book.now slice.now)) }
+{
+    if set.len() != book.codes().len() || !is_good(book, slice.first, set) {
+        return Ok(None);
+    }
+    let found = found_with(alloc, book, set.copy(alloc)?)?;
+    Ok(Some(found))
 }
 
 /// Enters a set into the table of codes.
