@@ -1,5 +1,5 @@
 -- A kernel that derived further clauses.
-use Rattle.std.proofs.Common.{◌≡◌, ℕ, ◌≤◌, List, ◌∷◌, [], ◌++◌, length, Result, Ok, Err, sym, ap, subst, ◌∙◌}
+use Rattle.std.proofs.Common.{◌≡◌, ℕ, ◌≤◌, List, length, Result, Ok, Err, sym, ap, subst}
 use Rattle.std.specs.Result.{IfOk}
 use Rattle.clause_pool.specs.Clause.{KeepsBounds, AreBelow}
 use Rattle.clause_pool.specs.Chain.{chain}

@@ -189,6 +189,8 @@ later_shown i s later x told old new proof (Ok c) order met counted are over mor
     subst (ShowsUnlessStopped i.book s c.notes.items) (sym is)
     (cond_both (list_any stops told.notes.items) None (Some proof) (ShowsUnlessStopped i.book s c.notes.items)
     (λ stop. ap (list_any stops) notes ∙ stop)
-    (λ free. (ap (list_any stops) notes ∙ free,
-      slice_shown i s later x told old new proof order met counted are over more h free kernel set closed)))
+    (λ free. (
+      ap (list_any stops) notes ∙ free,
+      slice_shown i s later x told old new proof order met counted are over more h free kernel set closed,
+    )))
 later_shown i s later x told old new proof (Err e) order met counted are over more h kernel set closed notes is = tt

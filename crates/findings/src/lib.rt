@@ -15,6 +15,7 @@ mod outcome;
 mod report;
 mod sets;
 mod slice;
+mod units;
 
 pub use check::{Checked, check_book};
 pub use report::{Ask, Note, Report, Verdict, verdict_of};

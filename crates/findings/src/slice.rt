@@ -20,6 +20,7 @@ use crate::found::found_with;
 use crate::outcome::Told;
 use crate::report::{Note, is_fault, is_left};
 use crate::sets::Sets;
+use crate::units::Units;
 use book_model::{Book, Slice};
 use clause_pool::{Kernel, Lit, Pool};
 use clausify::{Asked, Question, coded_slice};
@@ -252,11 +253,14 @@ fn ask_later(
         closed: Vec::new(alloc),
     };
     let usages = usages_of(alloc, later)?;
+    let units = Units::of(alloc, solver.kernel(), later)?;
     for (place, asked) in later.iter().enumerate() {
         if !is_asked(effort.ask, asked.question) {
             continue;
         }
-        let outcome = answer(alloc, book, slice, effort, asked, solver, sets, &usages)?;
+        let outcome = answer(
+            alloc, book, slice, effort, asked, solver, sets, &usages, &units,
+        )?;
         told.put(place as u32 + 1, outcome)?;
     }
     Ok(told)

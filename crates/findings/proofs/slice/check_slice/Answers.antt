@@ -1,6 +1,5 @@
-use Rattle.std.proofs.Common.{ℕ, List, ◌*◌, None, length, drop, refl, sym, ap, subst, ◌∙◌, arith}
+use Rattle.std.proofs.Common.{ℕ, List, None, length, drop, refl, ap, subst, ◌∙◌, arith}
 use Rattle.std.proofs.lemmas.List.{length-drop}
-use Rattle.clause_pool.specs.Clause.{AreBelow}
 use Rattle.clause_pool.specs.Derivation.{Derivation, AllFollow}
 use Rattle.clausify.specs.Coded.{slice_clauses}
 use Rattle.clausify.specs.Goals.{void_asked}
