@@ -4,4 +4,5 @@ pub mod ToldLaws
 pub mod SliceLaws
 pub mod BookLaws
 pub mod SolverLaws
+pub mod AgainLaws
 mod WorkedReports

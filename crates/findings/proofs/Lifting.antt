@@ -45,6 +45,13 @@ meets_from_begins b s k a x facts is h =
       met_then = λ day within. sym (goal_on_day b s day k a x h.assignment is (then day within)) ∙ h.assumed;
     }
 
+-- a set that is good on the first day of the slice is good on each
+pub good_through : (b : Contents) (s : Slice) (x : List Bool) → SliceFacts b s → length x ≡ length b.codes → is_good b s.first x ≡ true
+    → (day : ℕ) → IsTrue (is_within s.first s.last day) → is_good b day x ≡ true
+good_through b s x facts counted good day within =
+    let lift = (facts.on_each_day s.first (on_first s facts.order)).lifts x good in
+    ((facts.on_each_day day within).begins_good lift.0 x counted lift.1.begins lift.1.satisfies).is_good_then
+
 -- a set that is good on each day of the slice and meets a goal on the first of them meets it on each
 pub meets_from_first : (b : Contents) (s : Slice) (k : ℕ) (a : Asked) (x : List Bool) → SliceFacts b s → slice_get (slice_asked b s.first) k ≡ Some a
     → length x ≡ length b.codes → ((day : ℕ) → IsTrue (is_within s.first s.last day) → is_good b day x ≡ true) → holds (goal b s.first a.question) x ≡ true

@@ -1,7 +1,7 @@
 -- What is known of a slice's clauses and questions, and what its notes are put together of.
-use Rattle.std.proofs.Common.{◌≡◌, ℕ, suc, ◌*◌, ◌<◌, ◌≤◌, Bool, true, false, List, [], ◌∷◌, ◌++◌, Some, None, Result, Ok, Err, IfOk, All, length, drop, get_or, refl, sym, ap, subst, ◌∙◌, arith}
+use Rattle.std.proofs.Common.{◌≡◌, ℕ, suc, ◌*◌, ◌<◌, ◌≤◌, Bool, true, false, cond, List, [], ◌∷◌, ◌++◌, Some, None, Result, Ok, Err, IfOk, All, length, drop, get_or, refl, sym, ap, subst, ◌∙◌, arith}
 use Rattle.std.specs.List.{filter, list_any, slice_get}
-use Rattle.std.proofs.lemmas.Bool.{false≢true, or_left}
+use Rattle.std.proofs.lemmas.Bool.{false≢true, or_left, cond_both}
 use Rattle.std.proofs.lemmas.List.{take_all}
 use Rattle.std.proofs.lemmas.Option.{slice_get-get_or, slice_get_within, get_or_from_slice_get}
 use Rattle.book_model.specs.Contents.{Contents}
@@ -120,12 +120,10 @@ void_below b c ranges = all_found (λ (q : Asked). q.goal < 2 * c.vars) c.questi
 pub some_question : (b : Contents) (c : Coded) → IsInRange b c → 0 < length c.questions.items
 some_question b c ranges = slice_get_within c.questions.items 0 (void_asked (length b.codes)) ranges.void_first
 
--- a fresh solver over the clauses of a slice
-pub over_fresh : (b : Contents) (s : Slice) (c : Coded) (kernel : Derivation) → IsCoded b s.first c → kernel ≡ kernel_of c.pool.clauses → StandsOver (slice_clauses b s.first) kernel
-over_fresh b s c kernel coded is =
-    subst (StandsOver (slice_clauses b s.first)) (sym is)
-    (subst (λ (cs : List (List ℕ)). StandsOver cs (kernel_of c.pool.clauses)) coded.clauses
-    (record { number = refl; given = take_all (length c.pool.clauses) c.pool.clauses (omega arith) }))
+-- a fresh kernel stands over its clauses
+pub over_kernel : (clauses : List (List ℕ)) (kernel : Derivation) → kernel ≡ kernel_of clauses → StandsOver clauses kernel
+over_kernel clauses kernel is =
+    subst (StandsOver clauses) (sym is) (record { number = refl; given = take_all (length clauses) clauses (omega arith) })
 
 pub is_over : (b : Contents) (s : Slice) (solving : Solving) → StandsOver (slice_clauses b s.first) solving.kernel → solving.codes ≡ length b.codes → IsOver b s solving
 is_over b s solving h codes = record { given = h.given; codes = codes }
@@ -136,15 +134,15 @@ pub record IsBegun (b : Contents) (s : Slice) (c : Coded) (solving : Solving) : 
   pub vars : solving.vars ≡ c.vars
   pub codes : solving.codes ≡ length b.codes
 
-pub begun : (b : Contents) (s : Slice) (c : Coded) (kernel : Derivation) (codes : ℕ) (fresh now : Solving) → IsCoded b s.first c → kernel ≡ kernel_of c.pool.clauses
-    → fresh ≡ record { kernel = kernel; vars = c.vars; codes = codes } → codes ≡ length b.codes
+pub begun : (b : Contents) (s : Slice) (c : Coded) (fresh now : Solving) → IsCoded b s.first c → StandsOver c.pool.clauses fresh.kernel
+    → fresh.vars ≡ c.vars → fresh.codes ≡ length b.codes
     → Extends fresh.kernel now.kernel → now.vars ≡ fresh.vars → now.codes ≡ fresh.codes → IsBegun b s c now
-begun b s c kernel codes fresh now coded given is counted more vars same = record {
+begun b s c fresh now coded over counted codes more vars same = record {
   over =
       stands_over (slice_clauses b s.first) fresh.kernel now.kernel
-      (subst (StandsOver (slice_clauses b s.first)) (sym (ap (λ (f : Solving). f.kernel) is)) (over_fresh b s c kernel coded given)) more;
-  vars = vars ∙ ap (λ (f : Solving). f.vars) is;
-  codes = same ∙ ap (λ (f : Solving). f.codes) is ∙ counted;
+      (subst (λ (cs : List (List ℕ)). StandsOver cs fresh.kernel) coded.clauses over) more;
+  vars = vars ∙ counted;
+  codes = same ∙ codes;
 }
 
 pub over_begun : (b : Contents) (s : Slice) (c : Coded) (solving : Solving) → IsBegun b s c solving → IsOver b s solving
@@ -171,3 +169,28 @@ pub void_stops : {E : Type 0} (b : Contents) (s : Slice) (r : Result SliceCheck 
 void_stops b s (Ok c) note stop is none =
     subst (ShowsUnlessStopped b s c.notes.items) (sym none) (ap (list_any stops) is ∙ or_left (stops note) false stop)
 void_stops b s (Err e) note stop is none = tt
+
+-- of a call that answers the notes of a slice with a good set, and a proof unless one of them stops the release
+pub later_told : {E : Type 0} (i : Inquiry) (s : Slice) (later : List Asked) (x : List Bool) (told : Told) (clauses : List (List ℕ)) (r : Result SliceCheck E)
+    → s.first ≤ s.last → MeetsThrough i.book s Void x → later ≡ drop 1 (slice_asked i.book s.first) → AreTold i s later told clauses
+    → IfOk r (λ c. c.notes.items ≡ Days s.first s.last ∷ told.notes.items) → IfOk r (λ c. SliceNotes i s c.notes.items)
+later_told i s later x told clauses (Ok c) order met are h is =
+    slice_told i s later x (Days s.first s.last ∷ []) c.notes.items told clauses order met are h refl is
+later_told i s later x told clauses (Err e) order met are h is = tt
+
+pub later_shown : {E : Type 0} (i : Inquiry) (s : Slice) (later : List Asked) (x : List Bool) (told : Told) (old new : Derivation) (proof : SliceProof) (r : Result SliceCheck E)
+    → s.first ≤ s.last → MeetsThrough i.book s Void x → length x ≡ length i.book.codes → later ≡ drop 1 (slice_asked i.book s.first)
+    → StandsOver (slice_clauses i.book s.first) old → Extends old new → AreTold i s later told new.clauses
+    → proof.kernel ≡ new → proof.set ≡ x → proof.closed.items ≡ told.closed.items
+    → IfOk r (λ c. c.notes.items ≡ Days s.first s.last ∷ told.notes.items)
+    → IfOk r (λ c. c.proof ≡ cond (list_any stops told.notes.items) None (Some proof))
+    → IfOk r (λ c. ShowsUnlessStopped i.book s c.notes.items c.proof)
+later_shown i s later x told old new proof (Ok c) order met counted are over more h kernel set closed notes is =
+    subst (ShowsUnlessStopped i.book s c.notes.items) (sym is)
+    (cond_both (list_any stops told.notes.items) None (Some proof) (ShowsUnlessStopped i.book s c.notes.items)
+    (λ stop. ap (list_any stops) notes ∙ stop)
+    (λ free. (
+      ap (list_any stops) notes ∙ free,
+      slice_shown i s later x told old new proof order met counted are over more h free kernel set closed,
+    )))
+later_shown i s later x told old new proof (Err e) order met counted are over more h kernel set closed notes is = tt

@@ -1,5 +1,5 @@
 //! The answer to a question of a slice.
-ghost use Rattle.std.specs.Prelude.{◌≡◌, ◌<◌, ◌≤◌, All, IfOk};
+ghost use Rattle.std.specs.Prelude.{◌≡◌, ◌<◌, ◌≤◌, All, IfOk, IfSome};
 ghost use Rattle.solver.specs.Solver.{Extends};
 ghost use Rattle.findings.specs.Answering.{SliceFacts, IsAsked, IsOver, IsFound, IsOutcome, inquiry};
 ghost use Rattle.pb_base.specs.declared.limits.TheConstants.{MOST_BUDGET};
@@ -10,6 +10,7 @@ use crate::guide::guide;
 use crate::outcome::{Outcome, from_clause, from_set};
 use crate::report::Note;
 use crate::sets::Sets;
+use crate::units::Units;
 use book_model::{Book, Slice};
 use clausify::Asked;
 use pb_base::Memory;
@@ -17,7 +18,8 @@ use solver::{Answer, Solver};
 use std::alloc::Global;
 
 /// What comes of a question. A set that was found before may answer it; else the solver does, and a set that it finds is
-/// kept for the questions behind it. `usages` are the slice's questions of single variants.
+/// kept for the questions behind it. `usages` are the slice's questions of single variants, `units` the goals that were
+/// refuted before.
 pub(crate) fn answer(
     alloc: Global,
     book: &Book,
@@ -27,6 +29,7 @@ pub(crate) fn answer(
     solver: &mut Solver,
     sets: &mut Sets,
     usages: &[Asked],
+    units: &Units,
 ) -> Result<Outcome, Memory>
     requires facts { SliceFacts book.now slice.now }
     requires asked { IsAsked book.now slice.now solver.old.vars asked.now }
@@ -43,6 +46,10 @@ pub(crate) fn answer(
 {
     match sets.met(book, slice, asked.question) {
         Some(found) => return from_set(alloc, asked.question, found),
+        None => {}
+    }
+    match answer_before(book, slice, effort, asked, solver, units) {
+        Some(outcome) => return Ok(outcome),
         None => {}
     }
     guide(solver, book, slice, sets, usages, asked.question);
@@ -62,5 +69,30 @@ pub(crate) fn answer(
             question: asked.question,
             learnt,
         })),
+    }
+}
+
+/// What comes of a question that was refuted before, if it was.
+fn answer_before(
+    book: &Book,
+    slice: &Slice,
+    effort: Effort,
+    asked: &Asked,
+    solver: &Solver,
+    units: &Units,
+) -> Option<Outcome>
+    requires facts { SliceFacts book.now slice.now }
+    requires asked { IsAsked book.now slice.now solver.now.vars asked.now }
+    requires over { IsOver book.now slice.now solver.now }
+    ensures { IfSome result (IsOutcome (inquiry book.now effort) slice.now
+        solver.now.kernel.clauses asked.now) }
+{
+    let refuting = units.refuting(solver.kernel(), asked.goal);
+    match refuting {
+        Some(at) => {
+            solver.kernel().pool();
+            Some(from_clause(asked.question, at))
+        }
+        None => None,
     }
 }

@@ -12,6 +12,7 @@ ghost use Rattle.findings.specs.Answering.{inquiry, stops};
 ghost use Rattle.findings.specs.Certified.{IsAccepted};
 ghost use Rattle.pb_base.specs.declared.limits.TheConstants.{MOST_BUDGET};
 
+use crate::earlier::Earlier;
 use crate::effort::Effort;
 use crate::laws::book_laws;
 use crate::report::{Ask, Note, Report, Verdict};
@@ -92,8 +93,10 @@ fn check_slices(
         proofs: Vec::new(alloc),
         stopped: false,
     };
+    let mut earlier = Earlier::none(alloc);
     for slice in slices {
-        let checked = check_slice(alloc, book, slice, effort)?;
+        let latest = all.proofs.last();
+        let checked = check_slice(alloc, book, slice, effort, &mut earlier, latest)?;
         all.put(checked)?;
     }
     Ok(all)

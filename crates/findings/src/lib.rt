@@ -2,16 +2,20 @@
 //! it from its release.
 #![tactic(auto)]
 
+mod again;
 mod answer;
 mod check;
+mod earlier;
 mod effort;
 mod found;
 mod guide;
 mod laws;
+mod moves;
 mod outcome;
 mod report;
 mod sets;
 mod slice;
+mod units;
 
 pub use check::{Checked, check_book};
 pub use report::{Ask, Note, Report, Verdict, verdict_of};

@@ -1,7 +1,8 @@
 //! The questions of a slice.
-ghost use Rattle.std.specs.Prelude.{◌≡◌, ◌+◌, ◌<◌, ◌≤◌, ◌^◌, [], ◌∷◌, All, IfOk, None, Some, drop, length, slice_get};
+ghost use Rattle.std.specs.Prelude.{◌≡◌, ◌+◌, ◌*◌, ◌<◌, ◌≤◌, ◌^◌, [], ◌∷◌, All, IfOk, None, Some, drop, length, slice_get, if◌then◌else◌};
 ghost use Rattle.std.specs.List.{list_any};
 ghost use Rattle.book_model.specs.Slices.{IsOrdered, IsSteady};
+ghost use Rattle.clause_pool.specs.Clause.{AreBelow};
 ghost use Rattle.clausify.specs.Coded.{slice_clauses, slice_asked};
 ghost use Rattle.clausify.specs.declared.question.Asked.{Asked};
 ghost use Rattle.derivation.specs.Limits.{asked_of};
@@ -13,13 +14,15 @@ ghost use Rattle.findings.specs.Findings.{MeetsThrough};
 ghost use Rattle.findings.specs.Answering.{SliceFacts, IsAsked, IsOver, IsFound, AreTold, ShowsUnlessStopped, inquiry, stops};
 
 use crate::answer::answer;
+use crate::earlier::{Earlier, derive_earlier};
 use crate::effort::{Effort, is_asked};
 use crate::found::found_with;
 use crate::outcome::Told;
 use crate::report::{Note, is_fault, is_left};
 use crate::sets::Sets;
+use crate::units::Units;
 use book_model::{Book, Slice};
-use clause_pool::{Kernel, Lit};
+use clause_pool::{Kernel, Lit, Pool};
 use clausify::{Asked, Question, coded_slice};
 use derivation::SliceProof;
 use pb_base::{CodeSet, Memory};
@@ -33,12 +36,15 @@ pub(crate) struct SliceCheck {
     pub(crate) proof: Option<SliceProof>,
 }
 
-/// Asks the questions of a slice. Where Void has no set or is left, nothing more is asked.
+/// Asks the questions of a slice. Where Void has no set or is left, nothing more is asked. Sets of the slice before may
+/// answer them; those of this one take their places.
 pub(crate) fn check_slice(
     alloc: Global,
     book: &Book,
     slice: &Slice,
     effort: Effort,
+    earlier: &mut Earlier,
+    latest: Option<&SliceProof>,
 ) -> Result<SliceCheck, Memory>
     requires steady { IsSteady book.now slice.now }
     requires order { IsOrdered slice.now }
@@ -50,13 +56,12 @@ pub(crate) fn check_slice(
 {
     let coded = coded_slice(alloc, book, slice)?;
     let void = first_goal(&coded.questions);
-    let kernel = Kernel::of(alloc, coded.pool);
-    let mut solver = Solver::new(alloc, kernel, coded.vars, book.codes().len())?;
+    let mut solver = begin(alloc, book, slice, coded.pool, coded.vars, earlier, latest)?;
     let searched = solver.solve(void, effort.budget)?;
     match searched {
         Answer::Set(set) => {
             let later = behind_first(&coded.questions);
-            return check_later(alloc, book, slice, effort, later, solver, set);
+            return check_later(alloc, book, slice, effort, later, solver, set, earlier);
         }
         Answer::Closed(_) => {
             solver.kernel().pool();
@@ -74,6 +79,28 @@ pub(crate) fn check_slice(
             return only_void(alloc, slice, note);
         }
     }
+}
+
+/// A solver over the clauses of a slice, with what can be derived again of the slice before.
+#[tactic(auto, using(crate::proofs::AgainLaws::over_grown, crate::proofs::AgainLaws::below_grown))]
+fn begin(
+    alloc: Global,
+    book: &Book,
+    slice: &Slice,
+    clauses: Pool,
+    vars: u32,
+    earlier: &Earlier,
+    latest: Option<&SliceProof>,
+) -> Result<Solver, Memory>
+    requires below { AreBelow (2 * vars) clauses.clauses }
+    requires codes { length book.now.codes ≤ vars }
+    ensures over { IfOk result (λ s. StandsOver clauses.clauses s.kernel) }
+    ensures vars { IfOk result (λ s. s.vars ≡ vars) }
+    ensures codes { IfOk result (λ s. s.codes ≡ length book.now.codes) }
+{
+    let mut kernel = Kernel::of(alloc, clauses);
+    derive_earlier(alloc, book, slice, &mut kernel, earlier, latest)?;
+    Solver::new(alloc, kernel, vars, book.codes().len())
 }
 
 /// The goal of the first question.
@@ -124,6 +151,7 @@ fn check_later(
     later: &[Asked],
     mut solver: Solver,
     set: CodeSet,
+    earlier: &mut Earlier,
 ) -> Result<SliceCheck, Memory>
     requires facts { SliceFacts book.now slice.now }
     requires asked { All (IsAsked book.now slice.now solver.vars) later.now }
@@ -138,22 +166,61 @@ fn check_later(
     ensures notes { IfOk result (λ c. SliceNotes (inquiry book.now effort) slice.now c.notes.items) }
     ensures proof { IfOk result (λ c. ShowsUnlessStopped book.now slice.now c.notes.items c.proof) }
 {
-    let found = found_with(alloc, book, set)?;
-    let set = found.set.copy(alloc)?;
-    let mut sets = Sets::new(alloc, book)?;
-    sets.put(found)?;
-    let mut told = ask_later(alloc, book, slice, effort, later, &mut solver, &mut sets)?;
-    let mut notes = days_note(alloc, slice)?;
-    let stopped = any_stops(&told.notes);
-    notes.append(&mut told.notes)?;
-    if stopped {
-        return Ok(SliceCheck { notes, proof: None });
-    }
+    let mut sets = first_sets(alloc, book, slice, &set, &earlier.sets)?;
+    let told = ask_later(alloc, book, slice, effort, later, &mut solver, &mut sets)?;
+    sets.hand_on(&mut earlier.sets)?;
+    earlier.day = slice.first;
+    let Told { notes, closed } = told;
     let proof = SliceProof {
         set,
         kernel: solver.into_kernel(),
-        closed: told.closed,
+        closed,
     };
+    put_together(alloc, slice, notes, proof, earlier)
+}
+
+/// This set, and those of the slice before that are good in this one too.
+fn first_sets(
+    alloc: Global,
+    book: &Book,
+    slice: &Slice,
+    set: &CodeSet,
+    earlier: &[CodeSet],
+) -> Result<Sets, Memory>
+    requires facts { SliceFacts book.now slice.now }
+    requires counted { length set.now ≡ length book.now.codes }
+    requires void { MeetsThrough book.now slice.now Question.Void set.now }
+    ensures { IfOk result (λ sets. All (IsFound book.now slice.now) sets.found.items) }
+{
+    let found = found_with(alloc, book, set.copy(alloc)?)?;
+    let mut sets = Sets::new(alloc, book)?;
+    sets.put(found)?;
+    sets.put_earlier(alloc, book, slice, earlier)?;
+    Ok(sets)
+}
+
+/// What is told of a slice whose questions behind Void have these notes. A proof that counts for nothing leaves its kernel
+/// to the next slice.
+fn put_together(
+    alloc: Global,
+    slice: &Slice,
+    mut own: Vec<Note>,
+    proof: SliceProof,
+    earlier: &mut Earlier,
+) -> Result<SliceCheck, Memory>
+    ensures notes { IfOk result (λ c. c.notes.items
+        ≡ Note.Days slice.now.first slice.now.last ∷ own.items) }
+    ensures proof { IfOk result (λ c. c.proof
+        ≡ (if list_any stops own.items then None else Some proof)) }
+{
+    let stopped = any_stops(&own);
+    let mut notes = days_note(alloc, slice)?;
+    notes.append(&mut own)?;
+    if stopped {
+        earlier.kernel = Some(proof.kernel);
+        return Ok(SliceCheck { notes, proof: None });
+    }
+    earlier.kernel = None;
     Ok(SliceCheck {
         notes,
         proof: Some(proof),
@@ -186,11 +253,14 @@ fn ask_later(
         closed: Vec::new(alloc),
     };
     let usages = usages_of(alloc, later)?;
+    let units = Units::of(alloc, solver.kernel(), later)?;
     for (place, asked) in later.iter().enumerate() {
         if !is_asked(effort.ask, asked.question) {
             continue;
         }
-        let outcome = answer(alloc, book, slice, effort, asked, solver, sets, &usages)?;
+        let outcome = answer(
+            alloc, book, slice, effort, asked, solver, sets, &usages, &units,
+        )?;
         told.put(place as u32 + 1, outcome)?;
     }
     Ok(told)

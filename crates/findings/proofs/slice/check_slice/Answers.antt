@@ -1,6 +1,5 @@
-use Rattle.std.proofs.Common.{ℕ, List, ◌*◌, None, length, drop, refl, sym, ap, subst, ◌∙◌, arith}
+use Rattle.std.proofs.Common.{ℕ, List, None, length, drop, refl, ap, subst, ◌∙◌, arith}
 use Rattle.std.proofs.lemmas.List.{length-drop}
-use Rattle.clause_pool.specs.Clause.{AreBelow}
 use Rattle.clause_pool.specs.Derivation.{Derivation, AllFollow}
 use Rattle.clausify.specs.Coded.{slice_clauses}
 use Rattle.clausify.specs.Goals.{void_asked}
@@ -22,18 +21,11 @@ first_goal-void-requires c = rw c.deref.ensures.value (some_question c.args.book
 pub behind_first-later-requires : goal.behind_first-later-requires
 behind_first-later-requires c = rw c.deref-in-Set.ensures.value (some_question c.args.book.now c.in_ok-coded.coded c.in_ok-coded.ensures.ranges)
 
-pub new-requires-clause-below : goal.new-requires-clause-below
-new-requires-clause-below c =
-    subst (λ (k : Derivation). AreBelow (2 * c.in_ok-coded.coded.vars) k.clauses) (sym c.of-kernel.ensures) c.in_ok-coded.ensures.ranges.literals_below
-
-pub new-requires-clause-codes : goal.new-requires-clause-codes
-new-requires-clause-codes c = omega (arith, ap length c.codes.ensures.value, c.len.ensures.value, c.in_ok-coded.ensures.ranges.codes_below)
-
 pub solve-requires-clause-below : goal.solve-requires-clause-below
 solve-requires-clause-below c =
     let coded = c.in_ok-coded.coded in
     let is = c.first_goal-void.ensures (void_asked (length c.args.book.now.codes)) (rw c.deref.ensures.value c.in_ok-coded.ensures.ranges.void_first) in
-    let vars = ap (λ s. s.vars) c.in_ok-solver.ensures in
+    let vars = c.in_ok-solver.ensures.vars in
     omega (arith, is, vars, void_below c.args.book.now coded c.in_ok-coded.ensures.ranges)
 
 pub check_later-requires-clause-facts : goal.check_later-requires-clause-facts
@@ -47,8 +39,8 @@ check_later-requires-clause-asked c =
     let s = c.args.slice.now in
     let coded = c.in_ok-coded.coded in
     let now : IsBegun b s coded c.solve.new.self =
-    begun b s coded c.of-kernel.result c.len.result c.in_ok-solver.solver c.solve.new.self c.in_ok-coded.ensures.coded c.of-kernel.ensures c.in_ok-solver.ensures
-    (c.len.ensures.value ∙ ap length c.codes.ensures.value) c.solve.ensures.extends c.solve.ensures.vars c.solve.ensures.codes in
+    begun b s coded c.in_ok-solver.solver c.solve.new.self c.in_ok-coded.ensures.coded c.in_ok-solver.ensures.over c.in_ok-solver.ensures.vars c.in_ok-solver.ensures.codes
+    c.solve.ensures.extends c.solve.ensures.vars c.solve.ensures.codes in
     asked_begun b s coded c.solve.new.self c.behind_first-later.result.now c.in_ok-coded.ensures.coded c.in_ok-coded.ensures.ranges now
     (c.behind_first-later.ensures ∙ ap (λ (qs : List Asked). drop 1 qs) c.deref-in-Set.ensures.value)
 
@@ -62,8 +54,8 @@ check_later-requires-clause-given c =
     let b = c.args.book.now in
     let s = c.args.slice.now in
     let coded = c.in_ok-coded.coded in
-    (begun b s coded c.of-kernel.result c.len.result c.in_ok-solver.solver c.solve.new.self c.in_ok-coded.ensures.coded c.of-kernel.ensures c.in_ok-solver.ensures
-    (c.len.ensures.value ∙ ap length c.codes.ensures.value) c.solve.ensures.extends c.solve.ensures.vars c.solve.ensures.codes).over
+    (begun b s coded c.in_ok-solver.solver c.solve.new.self c.in_ok-coded.ensures.coded c.in_ok-solver.ensures.over c.in_ok-solver.ensures.vars c.in_ok-solver.ensures.codes
+    c.solve.ensures.extends c.solve.ensures.vars c.solve.ensures.codes).over
 
 pub check_later-requires-clause-over : goal.check_later-requires-clause-over
 check_later-requires-clause-over c =
@@ -71,8 +63,8 @@ check_later-requires-clause-over c =
     let s = c.args.slice.now in
     let coded = c.in_ok-coded.coded in
     over_begun b s coded c.solve.new.self
-    (begun b s coded c.of-kernel.result c.len.result c.in_ok-solver.solver c.solve.new.self c.in_ok-coded.ensures.coded c.of-kernel.ensures c.in_ok-solver.ensures
-    (c.len.ensures.value ∙ ap length c.codes.ensures.value) c.solve.ensures.extends c.solve.ensures.vars c.solve.ensures.codes)
+    (begun b s coded c.in_ok-solver.solver c.solve.new.self c.in_ok-coded.ensures.coded c.in_ok-solver.ensures.over c.in_ok-solver.ensures.vars c.in_ok-solver.ensures.codes
+    c.solve.ensures.extends c.solve.ensures.vars c.solve.ensures.codes)
 
 pub check_later-requires-clause-void : goal.check_later-requires-clause-void
 check_later-requires-clause-void c =
@@ -83,8 +75,8 @@ check_later-requires-clause-void c =
     let is = c.first_goal-void.ensures (void_asked (length b.codes)) (rw c.deref.ensures.value c.in_ok-coded.ensures.ranges.void_first) in
     let facts = slice_facts b s coded c.requires.order c.in_ok-coded.ensures.coded (c.in_ok-coded.ensures.sets c.requires.steady) (c.in_ok-coded.ensures.decides c.requires.steady c.requires.order) in
     let state : IsBegun b s coded now =
-    begun b s coded c.of-kernel.result c.len.result c.in_ok-solver.solver now c.in_ok-coded.ensures.coded c.of-kernel.ensures c.in_ok-solver.ensures
-    (c.len.ensures.value ∙ ap length c.codes.ensures.value) c.solve.ensures.extends c.solve.ensures.vars c.solve.ensures.codes in
+    begun b s coded c.in_ok-solver.solver now c.in_ok-coded.ensures.coded c.in_ok-solver.ensures.over c.in_ok-solver.ensures.vars c.in_ok-solver.ensures.codes
+    c.solve.ensures.extends c.solve.ensures.vars c.solve.ensures.codes in
     let begins : Begins (given_of now.kernel) c.first_goal-void.result now.codes c.in-Set.set = rw c.in-Set.is at c.in_ok-searched.ensures.answer in
     meets_by_solver b s 0 (void_asked (length b.codes)) now c.in-Set.set facts refl (over_begun b s coded now state)
     (subst (λ (g : ℕ). Begins (given_of now.kernel) g now.codes c.in-Set.set) is begins)
@@ -98,8 +90,8 @@ returns-in-Closed c =
     let is = c.first_goal-void.ensures (void_asked (length b.codes)) (rw c.deref.ensures.value c.in_ok-coded.ensures.ranges.void_first) in
     let facts = slice_facts b s coded c.requires.order c.in_ok-coded.ensures.coded (c.in_ok-coded.ensures.sets c.requires.steady) (c.in_ok-coded.ensures.decides c.requires.steady c.requires.order) in
     let state : IsBegun b s coded now =
-    begun b s coded c.of-kernel.result c.len.result c.in_ok-solver.solver now c.in_ok-coded.ensures.coded c.of-kernel.ensures c.in_ok-solver.ensures
-    (c.len.ensures.value ∙ ap length c.codes.ensures.value) c.solve.ensures.extends c.solve.ensures.vars c.solve.ensures.codes in
+    begun b s coded c.in_ok-solver.solver now c.in_ok-coded.ensures.coded c.in_ok-solver.ensures.over c.in_ok-solver.ensures.vars c.in_ok-solver.ensures.codes
+    c.solve.ensures.extends c.solve.ensures.vars c.solve.ensures.codes in
     let closed : ClosedBy now.kernel c.first_goal-void.result c.in-Closed.field-0 = rw c.in-Closed.is at c.in_ok-searched.ensures.answer in
     let follow : AllFollow now.kernel = subst (λ (k : Derivation). AllFollow k) c.kernel.ensures c.pool.ensures.follow in
     let none =
@@ -129,8 +121,8 @@ check_later-requires-clause-counted c =
     let coded = c.in_ok-coded.coded in
     let now = c.solve.new.self in
     let state : IsBegun b s coded now =
-    begun b s coded c.of-kernel.result c.len.result c.in_ok-solver.solver now c.in_ok-coded.ensures.coded c.of-kernel.ensures c.in_ok-solver.ensures
-    (c.len.ensures.value ∙ ap length c.codes.ensures.value) c.solve.ensures.extends c.solve.ensures.vars c.solve.ensures.codes in
+    begun b s coded c.in_ok-solver.solver now c.in_ok-coded.ensures.coded c.in_ok-solver.ensures.over c.in_ok-solver.ensures.vars c.in_ok-solver.ensures.codes
+    c.solve.ensures.extends c.solve.ensures.vars c.solve.ensures.codes in
     let begins : Begins (given_of now.kernel) c.first_goal-void.result now.codes c.in-Set.set = rw c.in-Set.is at c.in_ok-searched.ensures.answer in
     begins.counted ∙ state.codes
 
@@ -144,8 +136,8 @@ returns-in-Spent c =
     let learnt = c.in-Spent.learnt in
     let is = c.first_goal-void.ensures (void_asked (length b.codes)) (rw c.deref.ensures.value c.in_ok-coded.ensures.ranges.void_first) in
     let state : IsBegun b s coded now =
-    begun b s coded c.of-kernel.result c.len.result c.in_ok-solver.solver now c.in_ok-coded.ensures.coded c.of-kernel.ensures c.in_ok-solver.ensures
-    (c.len.ensures.value ∙ ap length c.codes.ensures.value) c.solve.ensures.extends c.solve.ensures.vars c.solve.ensures.codes in
+    begun b s coded c.in_ok-solver.solver now c.in_ok-coded.ensures.coded c.in_ok-solver.ensures.over c.in_ok-solver.ensures.vars c.in_ok-solver.ensures.codes
+    c.solve.ensures.extends c.solve.ensures.vars c.solve.ensures.codes in
     let left : IsSpent (given_of now.kernel) c.first_goal-void.result budget learnt.clauses = rw c.in-Spent.is at c.in_ok-searched.ensures.answer in
     let spent : IsSpent (slice_clauses b s.first) (void_asked (length b.codes)).goal budget learnt.clauses =
     subst (λ (cs : List (List ℕ)). IsSpent cs (void_asked (length b.codes)).goal budget learnt.clauses) (over_begun b s coded now state).given
