@@ -25,7 +25,7 @@ pub(crate) fn derive_again(
     Ok(())
 }
 
-/// Derives the clause at this place again, and gives its place.
+// Derives the clause at this place again, and gives its place.
 #[tactic(auto, using(crate::proofs::AgainLaws::grows_same))]
 fn derive_one(
     kernel: &mut Kernel,
@@ -55,7 +55,7 @@ fn moved_start(before: &Kernel, moves: &Moves, at: Ref) -> Option<Ref>
     }
 }
 
-/// Leaves the pairs as they are now, and says whether all of them are there.
+// Leaves the pairs as they are now, and says whether all of them are there.
 fn move_pairs(chain: &[Pair], moves: &Moves, pairs: &mut Vec<Pair>) -> Result<bool, Memory> {
     pairs.clear();
     for pair in chain {
@@ -67,7 +67,7 @@ fn move_pairs(chain: &[Pair], moves: &Moves, pairs: &mut Vec<Pair>) -> Result<bo
     Ok(true)
 }
 
-/// The place of the resolvent of a chain, if it has one.
+// The place of the resolvent of a chain, if it has one.
 #[tactic(auto, using(crate::proofs::AgainLaws::grows_same, crate::proofs::AgainLaws::grows_unchanged, crate::proofs::AgainLaws::grows_resolved))]
 fn resolve(kernel: &mut Kernel, start: Ref, pairs: &[Pair]) -> Result<Option<Ref>, Memory>
     ensures { Grows kernel.old kernel.new }

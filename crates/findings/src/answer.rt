@@ -72,7 +72,7 @@ pub(crate) fn answer(
     }
 }
 
-/// What comes of a question that was refuted before, if it was.
+// What comes of a question that was refuted before, if it was.
 fn answer_before(
     book: &Book,
     slice: &Slice,

@@ -63,7 +63,7 @@ pub fn check_book(
     })
 }
 
-/// What a check of slices tells: their notes, and where none of these keeps the book from its release, a proof for each slice.
+// What a check of slices tells: their notes, and where none of these keeps the book from its release, a proof for each slice.
 #[derive(Drop)]
 struct SliceChecks {
     notes: Vec<Note>,
@@ -103,7 +103,7 @@ fn check_slices(
 }
 
 impl SliceChecks {
-    /// Puts down what the check of a further slice tells.
+    // Puts down what the check of a further slice tells.
     fn put(&mut self, checked: SliceCheck) -> Result<(), Memory>
         ensures notes { OnOk result (self.new.notes.items ≡ self.old.notes.items ++ checked.notes.items) }
         ensures stopped { OnOk result (self.new.stopped ≡ (self.old.stopped || is_none checked.proof)) }

@@ -29,7 +29,7 @@ pub(crate) fn found_with(alloc: Global, book: &Book, set: CodeSet) -> Result<Fou
     Ok(Found { set, usages })
 }
 
-/// For each variant whether its formula is true over the set.
+// For each variant whether its formula is true over the set.
 fn usages_over(alloc: Global, variants: &[Variant], set: &CodeSet) -> Result<Vec<bool>, Memory>
     requires { All (λ v. IsTrue (codes_below (length set.now) v.rule)) variants.now }
     ensures { IfOk result (λ us. us.items ≡ map (λ v. holds v.rule set.now) variants.now) }
@@ -62,7 +62,7 @@ pub(crate) fn meets(book: &Book, day: Day, found: &Found, question: Question) ->
     }
 }
 
-/// Whether the formula of the variant at this place is true over the set.
+// Whether the formula of the variant at this place is true over the set.
 fn is_used(book: &Book, found: &Found, variant: u32) -> bool
     requires usages { KnowsUsages book.now found.now }
     requires place { variant < length book.now.variants }
@@ -72,7 +72,7 @@ fn is_used(book: &Book, found: &Found, variant: u32) -> bool
     found.usages[variant as usize]
 }
 
-/// Whether the variant at this place is active on the day, and its formula is true over the set.
+// Whether the variant at this place is active on the day, and its formula is true over the set.
 fn is_used_on(book: &Book, day: Day, found: &Found, variant: u32) -> bool
     requires usages { KnowsUsages book.now found.now }
     requires place { variant < length book.now.variants }
@@ -83,7 +83,7 @@ fn is_used_on(book: &Book, day: Day, found: &Found, variant: u32) -> bool
     active(record.from, record.until, day) && is_used(book, found, variant)
 }
 
-/// Whether the formula of any active variant of the position is true over the set.
+// Whether the formula of any active variant of the position is true over the set.
 fn any_used(book: &Book, day: Day, found: &Found, position: u32) -> bool
     requires usages { KnowsUsages book.now found.now }
     requires place { position < length book.now.positions }
@@ -93,7 +93,7 @@ fn any_used(book: &Book, day: Day, found: &Found, position: u32) -> bool
     any_used_on(book, day, found, book.variants_of(position))
 }
 
-/// Whether any of the variants at these places is active on the day, and its formula is true over the set.
+// Whether any of the variants at these places is active on the day, and its formula is true over the set.
 fn any_used_on(book: &Book, day: Day, found: &Found, variants: &[u32]) -> bool
     requires usages { KnowsUsages book.now found.now }
     requires places { All (λ v. v < length book.now.variants) variants.now }

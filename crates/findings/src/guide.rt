@@ -39,7 +39,7 @@ pub(crate) fn guide(
     }
 }
 
-/// Prefers each code that every set has or none, with the other value.
+// Prefers each code that every set has or none, with the other value.
 fn prefer_new_codes(solver: &mut Solver, book: &Book, sets: &Sets)
     ensures { solver.new ≡ solver.old }
 {
@@ -51,7 +51,7 @@ fn prefer_new_codes(solver: &mut Solver, book: &Book, sets: &Sets)
     }
 }
 
-/// Prefers each variant's formula that is true over no set.
+// Prefers each variant's formula that is true over no set.
 fn prefer_new_usages(solver: &mut Solver, sets: &Sets, usages: &[Asked])
     ensures { solver.new ≡ solver.old }
 {
@@ -67,7 +67,7 @@ fn prefer_new_usages(solver: &mut Solver, sets: &Sets, usages: &[Asked])
     }
 }
 
-/// Prefers the codes of the formulas of a position's active variants.
+// Prefers the codes of the formulas of a position's active variants.
 fn prefer_codes_at(solver: &mut Solver, book: &Book, slice: &Slice, sets: &Sets, position: u32)
     requires { position < length book.now.positions }
     ensures { solver.new ≡ solver.old }
@@ -80,7 +80,7 @@ fn prefer_codes_at(solver: &mut Solver, book: &Book, slice: &Slice, sets: &Sets,
     }
 }
 
-/// Prefers the codes of a variant's formula, each with the value that the latest set gives it.
+// Prefers the codes of a variant's formula, each with the value that the latest set gives it.
 fn prefer_codes_of(solver: &mut Solver, book: &Book, sets: &Sets, variant: u32)
     requires { variant < length book.now.variants }
     ensures { solver.new ≡ solver.old }

@@ -15,7 +15,7 @@ pub(crate) struct Days {
     pub(crate) now: Day,
 }
 
-/// Whether something is there before, and now.
+// Whether something is there before, and now.
 #[derive(Clone, Copy)]
 struct There {
     before: bool,
@@ -59,7 +59,7 @@ impl Moves {
         Ok(moves)
     }
 
-    /// So many variables and clauses.
+    // So many variables and clauses.
     fn add(&mut self, there: There, vars: u32, clauses: usize) -> Result<(), Memory> {
         if there.before {
             for k in 0..vars {
@@ -78,7 +78,7 @@ impl Moves {
         Ok(())
     }
 
-    /// So many connectives, with so many further clauses.
+    // So many connectives, with so many further clauses.
     fn add_connectives(&mut self, there: There, count: u32, more: usize) -> Result<(), Memory> {
         let clauses = (count as usize).wrapping_mul(3).wrapping_add(more);
         self.add(there, count, clauses)
@@ -97,7 +97,7 @@ impl Moves {
         }
     }
 
-    /// The formulas of the variants.
+    // The formulas of the variants.
     fn add_usages(&mut self, book: &Book, days: Days) -> Result<(), Memory> {
         for (place, position) in book.positions().iter().enumerate() {
             for variant in book.variants_of(place as u32) {
@@ -108,7 +108,7 @@ impl Moves {
         Ok(())
     }
 
-    /// The goals of the questions of each position.
+    // The goals of the questions of each position.
     fn add_goals(&mut self, book: &Book, days: Days) -> Result<(), Memory> {
         for (place, position) in book.positions().iter().enumerate() {
             let variants = book.variants_of(place as u32);
@@ -126,7 +126,7 @@ impl Moves {
         Ok(())
     }
 
-    /// The goal that no variant of the position is used. It moves where the active variants are the same.
+    // The goal that no variant of the position is used. It moves where the active variants are the same.
     fn add_uncovered(
         &mut self,
         book: &Book,
@@ -200,7 +200,7 @@ impl Days {
         }
     }
 
-    /// Whether the variant at a place, of this position, is a choice.
+    // Whether the variant at a place, of this position, is a choice.
     fn there_at(self, book: &Book, position: &Position, variant: u32) -> There
         requires { variant < length book.now.variants }
     {
@@ -219,7 +219,7 @@ impl There {
     }
 }
 
-/// How many variables a formula takes.
+// How many variables a formula takes.
 fn connectives(rule: &Formula) -> u32 {
     let mut count: u32 = 0;
     for node in rule.nodes() {
@@ -230,7 +230,7 @@ fn connectives(rule: &Formula) -> u32 {
     count
 }
 
-/// How many pairs so many codes make.
+// How many pairs so many codes make.
 fn pairs_of(count: usize) -> usize {
     count.wrapping_mul(count.saturating_sub(1)) / 2
 }

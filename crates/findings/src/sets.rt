@@ -12,10 +12,10 @@ use clausify::Question;
 use pb_base::{CodeSet, Day, Memory};
 use std::alloc::Global;
 
-/// The most sets that are kept.
+// The most sets that are kept.
 const MOST_SETS: usize = 512;
 
-/// The bit of a table's word that the sets share for which none is left.
+// The bit of a table's word that the sets share for which none is left.
 const LAST_BIT: usize = 63;
 
 /// Sets that were found. Tables say which of them have a code, and over which the formula of a variant is true, so that
@@ -56,7 +56,7 @@ impl Sets {
         Ok(())
     }
 
-    /// Enters the next set into the tables.
+    // Enters the next set into the tables.
     fn mark(&mut self, found: &Found)
         ensures { self.new.found ≡ self.old.found }
     {
@@ -84,7 +84,7 @@ impl Sets {
         Ok(())
     }
 
-    /// Keeps a set of the slice before, if it is good in this one.
+    // Keeps a set of the slice before, if it is good in this one.
     fn put_good(
         &mut self,
         alloc: Global,
@@ -128,7 +128,7 @@ impl Sets {
         }
     }
 
-    /// Those over which the formula of some active variant of a position is true.
+    // Those over which the formula of some active variant of a position is true.
     fn covering(&self, book: &Book, day: Day, position: u32) -> u64
         requires { position < length book.now.positions }
     {
@@ -142,7 +142,7 @@ impl Sets {
         sets
     }
 
-    /// Those that may meet the goal of a question.
+    // Those that may meet the goal of a question.
     fn hinted(&self, book: &Book, day: Day, question: Question) -> u64
         requires { QuestionFits book.now question }
     {
@@ -190,7 +190,7 @@ impl Sets {
     }
 }
 
-/// The set at this place, if it meets the goal of a question.
+// The set at this place, if it meets the goal of a question.
 fn met_at<'a>(
     book: &Book,
     slice: &Slice,
@@ -213,7 +213,7 @@ fn met_at<'a>(
     Some(found)
 }
 
-/// The first set that meets the goal of a question.
+// The first set that meets the goal of a question.
 fn met_by_any<'a>(
     book: &Book,
     slice: &Slice,
@@ -234,7 +234,7 @@ fn met_by_any<'a>(
     None
 }
 
-/// A set of the slice before, if it is good in this one.
+// A set of the slice before, if it is good in this one.
 #[tactic(auto, using(crate::proofs::SolverLaws::good_found))]
 fn good_earlier(
     alloc: Global,
@@ -252,7 +252,7 @@ fn good_earlier(
     Ok(Some(found))
 }
 
-/// Enters a set into the table of codes.
+// Enters a set into the table of codes.
 fn mark_codes(with_code: &mut [u64], set: &CodeSet, bit: u64) {
     for (code, sets) in with_code.iter_mut().enumerate() {
         if code < set.len() as usize && set.has(code as u32) {
@@ -261,7 +261,7 @@ fn mark_codes(with_code: &mut [u64], set: &CodeSet, bit: u64) {
     }
 }
 
-/// Enters a set into the table of variants.
+// Enters a set into the table of variants.
 fn mark_used(using: &mut [u64], usages: &[bool], bit: u64) {
     for (variant, sets) in using.iter_mut().enumerate() {
         if usages.get(variant) == Some(&true) {

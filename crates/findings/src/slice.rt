@@ -81,7 +81,7 @@ pub(crate) fn check_slice(
     }
 }
 
-/// A solver over the clauses of a slice, with what can be derived again of the slice before.
+// A solver over the clauses of a slice, with what can be derived again of the slice before.
 #[tactic(auto, using(crate::proofs::AgainLaws::over_grown, crate::proofs::AgainLaws::below_grown))]
 fn begin(
     alloc: Global,
@@ -103,7 +103,7 @@ fn begin(
     Solver::new(alloc, kernel, vars, book.codes().len())
 }
 
-/// The goal of the first question.
+// The goal of the first question.
 fn first_goal(questions: &[Asked]) -> Lit
     requires { 0 < length questions.now }
     ensures { (a : Asked) → slice_get questions.now 0 ≡ Some a → result ≡ a.goal }
@@ -111,7 +111,7 @@ fn first_goal(questions: &[Asked]) -> Lit
     questions[0].goal
 }
 
-/// The questions behind the first.
+// The questions behind the first.
 fn behind_first(questions: &[Asked]) -> &[Asked]
     requires { 0 < length questions.now }
     ensures { result.now ≡ drop 1 questions.now }
@@ -119,7 +119,7 @@ fn behind_first(questions: &[Asked]) -> &[Asked]
     &questions[1..]
 }
 
-/// The notes of a slice of which only Void was asked.
+// The notes of a slice of which only Void was asked.
 fn only_void(alloc: Global, slice: &Slice, note: Note) -> Result<SliceCheck, Memory>
     ensures notes { IfOk result (λ c. c.notes.items
         ≡ Note.Days slice.now.first slice.now.last ∷ note ∷ []) }
@@ -130,7 +130,7 @@ fn only_void(alloc: Global, slice: &Slice, note: Note) -> Result<SliceCheck, Mem
     Ok(SliceCheck { notes, proof: None })
 }
 
-/// The note that the notes of a slice begin with.
+// The note that the notes of a slice begin with.
 fn days_note(alloc: Global, slice: &Slice) -> Result<Vec<Note>, Memory>
     ensures { IfOk result (λ notes. notes.items ≡ Note.Days slice.now.first slice.now.last ∷ []) }
 {
@@ -142,7 +142,7 @@ fn days_note(alloc: Global, slice: &Slice) -> Result<Vec<Note>, Memory>
     Ok(notes)
 }
 
-/// Asks the questions behind Void, which this set answers.
+// Asks the questions behind Void, which this set answers.
 fn check_later(
     alloc: Global,
     book: &Book,
@@ -179,7 +179,7 @@ fn check_later(
     put_together(alloc, slice, notes, proof, earlier)
 }
 
-/// This set, and those of the slice before that are good in this one too.
+// This set, and those of the slice before that are good in this one too.
 fn first_sets(
     alloc: Global,
     book: &Book,
@@ -199,8 +199,8 @@ fn first_sets(
     Ok(sets)
 }
 
-/// What is told of a slice whose questions behind Void have these notes. A proof that counts for nothing leaves its kernel
-/// to the next slice.
+// What is told of a slice whose questions behind Void have these notes. A proof that counts for nothing leaves its kernel
+// to the next slice.
 fn put_together(
     alloc: Global,
     slice: &Slice,
@@ -227,7 +227,7 @@ fn put_together(
     })
 }
 
-/// Asks the questions of a slice behind Void, of which the first has the number 1.
+// Asks the questions of a slice behind Void, of which the first has the number 1.
 fn ask_later(
     alloc: Global,
     book: &Book,
@@ -266,7 +266,7 @@ fn ask_later(
     Ok(told)
 }
 
-/// The questions of single variants.
+// The questions of single variants.
 fn usages_of(alloc: Global, asked: &[Asked]) -> Result<Vec<Asked>, Memory> {
     let mut usages = Vec::new(alloc);
     for asked in asked {
@@ -277,7 +277,7 @@ fn usages_of(alloc: Global, asked: &[Asked]) -> Result<Vec<Asked>, Memory> {
     Ok(usages)
 }
 
-/// Whether some note keeps the book from its release.
+// Whether some note keeps the book from its release.
 fn any_stops(notes: &[Note]) -> bool
     ensures { result ≡ list_any stops notes.now }
 {

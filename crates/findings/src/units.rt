@@ -49,7 +49,7 @@ impl Units {
     }
 }
 
-/// How many variables the goals are among.
+// How many variables the goals are among.
 fn vars_of(asked: &[Asked]) -> usize {
     let mut vars = 0;
     for asked in asked {
@@ -58,7 +58,7 @@ fn vars_of(asked: &[Asked]) -> usize {
     vars
 }
 
-/// Enters a clause that has one negative literal alone.
+// Enters a clause that has one negative literal alone.
 fn enter(places: &mut [Option<Ref>], clause: &[Lit], at: Ref) {
     let [lit] = clause else {
         return;
