@@ -40,13 +40,13 @@ pub fn run_given<S: Source, K: Sink, F: Files, P: Keeper, G: Gate>(
         let before = outside (S.input source.old) (F.told files.old) (K.output sink.old) log.old kept in
         let after = outside (S.input source.new) (F.told files.new) (K.output sink.new) log.new kept' in
         IfErr given (λ error.
-            error_kind error ≢ ErrorKind.OutOfMemory → AnswersUsage before after result.status) }
+        error_kind error ≢ ErrorKind.OutOfMemory → AnswersUsage before after result.status) }
     ensures want { let kept = keeps (P.told keeper) (P.failures keeper) in
         let kept' = keeps (P.told result.keeper) (P.failures result.keeper) in
         let before = outside (S.input source.old) (F.told files.old) (K.output sink.old) log.old kept in
         let after = outside (S.input source.new) (F.told files.new) (K.output sink.new) log.new kept' in
         IfErr given (λ error.
-            error_kind error ≡ ErrorKind.OutOfMemory → AnswersMemory before after result.status) }
+        error_kind error ≡ ErrorKind.OutOfMemory → AnswersMemory before after result.status) }
 {
     match given {
         Ok(words) => run(alloc, &words, source, sink, files, keeper, gate, log),

@@ -12,7 +12,6 @@ ghost use Rattle.commands.specs.Sample.{RepliesToSample, undecided_reply};
 ghost use Rattle.commands.specs.Sample.{answer_to, counts_text, size_text, tally_of, released_text, undecided_text};
 ghost use Rattle.pb_base.specs.declared.limits.TheConstants.{DEFAULT_BUDGET};
 
-use pb_base::limits::DEFAULT_BUDGET;
 use crate::logged::logged;
 use crate::run_reply::RunReply;
 use crate::sample_size::SampleSize;
@@ -21,6 +20,7 @@ use book_model::Book;
 use book_sample::{Sampler, sample_book};
 use desk_words::{OrderWords, put_number};
 use findings::Report;
+use pb_base::limits::DEFAULT_BUDGET;
 use pb_base::{Body, Fail, Memory, Text};
 use pb_reports::report_text;
 use release::{Judged, NotReleased, Released, judge, try_release};
