@@ -2,6 +2,7 @@ pub mod TrailLaws
 pub mod MarkLaws
 pub mod SearchLaws
 pub mod PoolLaws
+pub mod GrowthLaws
 pub mod WayLaws
 pub mod LearnLaws
 pub mod EndLaws

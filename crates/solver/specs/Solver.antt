@@ -1,9 +1,11 @@
 -- What a solver is to its callers, and what it answers.
 --     Solving                    its kernel, the number of its variables, and how many of them are codes
 --     Extends old new            further clauses were derived, and nothing else changed
+--     Grows old new              the same, with each bound on the literals kept
 --     IsRight k codes g budget answer
 --                                what an answer says of the clauses of a kernel
 use Rattle.std.specs.Prelude.{◌≡◌, ℕ, List, ◌++◌, Some, take, slice_get}
+use Rattle.clause_pool.specs.Clause.{KeepsBounds}
 use Rattle.clause_pool.specs.Derivation.{Derivation}
 use Rattle.solver.specs.Answer.{Begins, Refutes, IsSpent}
 use Rattle.solver.specs.declared.answer.Answer.{Answer}
@@ -23,6 +25,10 @@ pub record Extends (old new : Derivation) : Type 0 where
   pub same_given : given_of new ≡ given_of old
   pub more : List (List ℕ)
   pub clauses : new.clauses ≡ old.clauses ++ more
+
+pub record Grows (old new : Derivation) : Type 0 where
+  pub extends : Extends old new
+  pub bounds : KeepsBounds old.clauses new.clauses
 
 -- the kernel's clause at this place has no literal but the complement of the assumed one
 pub record ClosedBy (k : Derivation) (g at : ℕ) : Type 0 where

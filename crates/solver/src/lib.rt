@@ -3,6 +3,7 @@
 #![tactic(auto)]
 
 mod answer;
+mod chain;
 mod conflict;
 mod descend;
 mod jump;
@@ -10,6 +11,7 @@ mod learn;
 mod marks;
 mod minimize;
 mod order;
+mod refute;
 mod resolution;
 mod run;
 mod solver;
@@ -18,4 +20,6 @@ mod tests;
 mod way;
 
 pub use answer::Answer;
+pub use chain::{derive, refuting_unit};
+pub use refute::Implied;
 pub use solver::Solver;

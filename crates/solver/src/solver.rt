@@ -1,5 +1,5 @@
 //! A solver: many questions over the same given clauses.
-ghost use Rattle.std.specs.Prelude.{◌≡◌, ℕ, List, ◌+◌, ◌*◌, ◌^◌, ◌<◌, ◌≤◌, [], ◌∷◌, length, take, drop, slice_index_or, IfOk, OnOk, Ok, true};
+ghost use Rattle.std.specs.Prelude.{◌≡◌, ℕ, List, ◌+◌, ◌*◌, ◌^◌, ◌<◌, ◌≤◌, [], ◌∷◌, length, take, drop, slice_index_or, IfOk, IfSome, OnOk, Ok, true};
 ghost use Rattle.clause_pool.specs.Clause.{has, AreBelow};
 ghost use Rattle.clause_pool.specs.PoolContents.{PoolContents};
 ghost use Rattle.pb_base.specs.Sets.{has as has_code};
@@ -8,12 +8,13 @@ ghost use Rattle.propagate.specs.Quiet.{Quiet};
 ghost use Rattle.solver.specs.Answer.{Begins, IsSpent};
 ghost use Rattle.solver.specs.Marks.{AreClear};
 ghost use Rattle.solver.specs.Search.{IsReady, IsSearch, IsKept, IsFull, AllNew};
-ghost use Rattle.solver.specs.Solver.{Extends, IsRight, given_of};
+ghost use Rattle.solver.specs.Solver.{ClosedBy, Extends, IsRight, given_of};
 ghost use Rattle.pb_base.specs.declared.limits.TheConstants.{MOST_BUDGET};
 
 use crate::answer::Answer;
 use crate::marks::clear;
 use crate::order::Order;
+use crate::refute::{Implied, close_false};
 use crate::resolution::Resolution;
 use crate::run::{Ending, run};
 use crate::way::Way;
@@ -139,6 +140,65 @@ impl Solver {
             }
         }
     }
+
+    /// The place of a clause that refutes a goal, where the goal implies a literal whose propagation makes the goal false.
+    /// None says nothing of the goal. While the same literal is implied, it is propagated once.
+    #[tactic(auto, using(crate::proofs::GrowthLaws::kept_grown))]
+    pub fn refute(&mut self, goal: Lit, implied: Implied) -> Result<Option<Ref>, Memory>
+        requires { goal < 2 * self.old.vars }
+        ensures extends { Extends self.old.kernel self.new.kernel }
+        ensures vars { self.new.vars ≡ self.old.vars }
+        ensures codes { self.new.codes ≡ self.old.codes }
+        ensures closed { IfOk result (λ found. IfSome found (ClosedBy self.new.kernel goal)) }
+    {
+        assume_alone(
+            &self.kernel,
+            &mut self.engine,
+            &self.resolution,
+            &mut self.way,
+            &mut self.order,
+            implied.lit,
+        )?;
+        close_false(
+            &mut self.kernel,
+            &self.engine,
+            &mut self.resolution.pairs,
+            &mut self.way.ahead,
+            goal,
+            implied,
+        )
+    }
+}
+
+// Whether a literal is the only one that is assumed.
+fn begins_with(engine: &Engine, lit: Lit) -> bool {
+    engine.level() == 1 && engine.trail().get(engine.end_of(0)) == Some(&lit)
+}
+
+// Assumes a literal alone, unless it has a value without, and propagates it. Where it is assumed already, so it stays.
+fn assume_alone(
+    kernel: &Kernel,
+    engine: &mut Engine,
+    resolution: &Resolution,
+    way: &mut Way,
+    order: &mut Order,
+    lit: Lit,
+) -> Result<(), Memory>
+    requires kept { IsKept kernel.now.clauses engine.old resolution.now.marks.items }
+    requires clear { AreClear resolution.now.marks.items }
+    ensures kept { IsKept kernel.now.clauses engine.new resolution.now.marks.items }
+    ensures vars { engine.new.vars ≡ engine.old.vars }
+{
+    if begins_with(engine, lit) {
+        return Ok(());
+    }
+    prepare(kernel, engine, resolution, way, order)?;
+    if lit.var() >= engine.vars() || engine.value(lit).is_some() {
+        return Ok(());
+    }
+    engine.assume(lit);
+    engine.propagate(kernel.pool())?;
+    Ok(())
 }
 
 // Takes all levels back. Each variable keeps its value to try it again.
@@ -165,6 +225,7 @@ fn prepare(
     requires clear { AreClear resolution.now.marks.items }
     ensures kept { IsKept kernel.now.clauses engine.new resolution.now.marks.items }
     ensures vars { engine.new.vars ≡ engine.old.vars }
+    ensures level { level engine.new ≡ 0 }
     ensures ready { OnOk result (IsReady kernel.now.clauses engine.new resolution.now.marks.items) }
     ensures search { OnOk result ((g : ℕ) → IsSearch g engine.new) }
 {
