@@ -1,8 +1,5 @@
 -- What the solver's answers say of the questions of a slice.
-use Rattle.std.proofs.Common.{◌≡◌, ℕ, suc, ◌<◌, Bool, true, false, eqb, List, [], ◌∷◌, Some, Result, Ok, Err, length, get_or, sym, ap, subst, ◌∙◌, arith, inl, inr}
-use Rattle.std.proofs.lemmas.Bool.{or_cases, eqb-true, false≢true}
-use Rattle.std.proofs.lemmas.Option.{slice_get-get_or}
-use Rattle.clause_pool.specs.Literal.{complement}
+use Rattle.std.proofs.Common.{◌≡◌, ℕ, Bool, true, List, Some, Result, Ok, Err, length, sym, ap, subst, ◌∙◌}
 use Rattle.std.specs.Result.{IfOk}
 use Rattle.std.specs.List.{slice_get}
 use Rattle.book_model.specs.Contents.{Contents}
@@ -13,7 +10,7 @@ use Rattle.clause_pool.proofs.ClauseLaws.{all_found}
 use Rattle.clausify.specs.Coded.{slice_clauses, slice_asked}
 use Rattle.clausify.specs.Questions.{HasSet}
 use Rattle.clausify.specs.declared.question.Asked.{Asked}
-use Rattle.solver.specs.Answer.{Begins, Refutes}
+use Rattle.solver.specs.Answer.{Begins}
 use Rattle.solver.specs.Solver.{Solving, Extends, ClosedBy, given_of}
 use Rattle.findings.specs.Findings.{MeetsThrough}
 use Rattle.findings.specs.Answering.{SliceFacts, IsOver, IsFound, KnowsUsages, ClosedAt}
@@ -62,20 +59,4 @@ good_found b s x f facts same usages counted good = record {
   counted = ap length same ∙ counted;
   good_then = λ day within. ap (is_good b day) same ∙ good_through b s x facts counted good day within;
   usages = usages;
-}
-
-refutes_unit : (g : ℕ) (c : List ℕ) → length c ≡ 1 → get_or c 0 0 ≡ complement g → Refutes g c
-refutes_unit g [] one first = let none : 0 ≡ 1 = one in absurd (omega arith)
-refutes_unit g (x ∷ []) one first = λ l is_in. elim (or_cases (eqb x l) false is_in) [
-  | inl same ↦ sym (eqb-true x l same) ∙ first
-  | inr none ↦ absurd (false≢true none)
-]
-refutes_unit g (x ∷ y ∷ c) one first = let many : suc (suc (length c)) ≡ 1 = one in absurd (omega arith)
-
--- a clause of the complement of a goal alone refutes it
-pub closed_by_unit : (k : Derivation) (g at : ℕ) (c : List ℕ) → at < length k.clauses → c ≡ get_or k.clauses at [] → length c ≡ 1 → get_or c 0 0 ≡ complement g → ClosedBy k g at
-closed_by_unit k g at c within is one first = record {
-  clause = c;
-  there = slice_get-get_or k.clauses at [] within ∙ ap (λ (x : List ℕ). Some x) (sym is);
-  refutes = refutes_unit g c one first;
 }

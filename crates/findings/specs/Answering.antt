@@ -5,7 +5,6 @@
 --     IsFound b s f           a set of the book's codes that is good on each day of the slice
 --     IsOutcome i s clauses a outcome
 --                             what comes of one question: its notes, or the clause that closes it
---     Grows old new           a kernel derived further clauses
 --     AreTold i s asked told clauses
 --                             the same of some questions behind Void, of which the first has the number 1
 --     ShowsUnlessStopped b s notes proof
@@ -17,8 +16,6 @@ use Rattle.book_model.specs.Activity.{is_within}
 use Rattle.book_model.specs.Contents.{Contents}
 use Rattle.book_model.specs.Good.{is_good}
 use Rattle.book_model.specs.declared.record.Slice.{Slice}
-use Rattle.clause_pool.specs.Clause.{KeepsBounds}
-use Rattle.clause_pool.specs.Derivation.{Derivation}
 use Rattle.clausify.specs.Coded.{slice_clauses, slice_variables, slice_asked}
 use Rattle.clausify.specs.Lifting.{CodesGoodSets, IsMet}
 use Rattle.clausify.specs.Questions.{HasSet, QuestionFits, is_to_close}
@@ -27,7 +24,7 @@ use Rattle.derivation.specs.Showing.{AllClosed, ShowsSlice}
 use Rattle.derivation.specs.Stage.{to_close}
 use Rattle.derivation.specs.declared.slice_proof.SliceProof.{SliceProof}
 use Rattle.solver.specs.Answer.{Refutes}
-use Rattle.solver.specs.Solver.{Solving, Extends, given_of}
+use Rattle.solver.specs.Solver.{Solving, given_of}
 use Rattle.findings.specs.Notes.{Inquiry, InParts, OwnNotes, is_asked, is_fault, is_left}
 use Rattle.findings.specs.declared.effort.Effort.{Effort}
 use Rattle.findings.specs.declared.found.Found.{Found}
@@ -72,11 +69,6 @@ pub record ClosedAt (clauses : List (List ℕ)) (goal at : ℕ) : Type 0 where
   pub clause : List ℕ
   pub there : slice_get clauses at ≡ Some clause
   pub refutes : Refutes goal clause
-
--- nothing else changed, and no bound on the literals
-pub record Grows (old new : Derivation) : Type 0 where
-  pub extends : Extends old new
-  pub bounds : KeepsBounds old.clauses new.clauses
 
 abbrev pub inquiry : Contents → Effort → Inquiry
 inquiry b effort = record { book = b; ask = effort.ask; budget = effort.budget }

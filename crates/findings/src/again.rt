@@ -1,14 +1,15 @@
 //! Refutations of an earlier slice, derived again in a later one.
 ghost use Rattle.std.specs.Prelude.{◌<◌, length};
-ghost use Rattle.findings.specs.Answering.{Grows};
+ghost use Rattle.solver.specs.Solver.{Grows};
 
 use crate::moves::Moves;
 use clause_pool::{Kernel, Pair, Ref};
-use pb_base::{Fail, Memory};
+use pb_base::Memory;
+use solver::derive;
 use std::alloc::Global;
 
 /// Derives again what an earlier kernel derived, as far as what it rests on is there.
-#[tactic(auto, using(crate::proofs::AgainLaws::grows_same))]
+#[tactic(auto, using(solver::proofs::GrowthLaws::grows_same))]
 pub(crate) fn derive_again(
     alloc: Global,
     kernel: &mut Kernel,
@@ -26,7 +27,7 @@ pub(crate) fn derive_again(
 }
 
 // Derives the clause at this place again, and gives its place.
-#[tactic(auto, using(crate::proofs::AgainLaws::grows_same))]
+#[tactic(auto, using(solver::proofs::GrowthLaws::grows_same))]
 fn derive_one(
     kernel: &mut Kernel,
     before: &Kernel,
@@ -43,7 +44,7 @@ fn derive_one(
     if !move_pairs(before.pairs_of(at), moves, pairs)? {
         return Ok(None);
     }
-    resolve(kernel, start, pairs)
+    derive(kernel, start, pairs)
 }
 
 fn moved_start(before: &Kernel, moves: &Moves, at: Ref) -> Option<Ref>
@@ -65,20 +66,4 @@ fn move_pairs(chain: &[Pair], moves: &Moves, pairs: &mut Vec<Pair>) -> Result<bo
         }
     }
     Ok(true)
-}
-
-// The place of the resolvent of a chain, if it has one.
-#[tactic(auto, using(crate::proofs::AgainLaws::grows_same, crate::proofs::AgainLaws::grows_unchanged, crate::proofs::AgainLaws::grows_resolved))]
-fn resolve(kernel: &mut Kernel, start: Ref, pairs: &[Pair]) -> Result<Option<Ref>, Memory>
-    ensures { Grows kernel.old kernel.new }
-{
-    if pairs.is_empty() {
-        return Ok(None);
-    }
-    kernel.given();
-    match kernel.resolve(start, pairs) {
-        Ok(at) => Ok(Some(at)),
-        Err(Fail::Refused(_)) => Ok(None),
-        Err(Fail::Memory) => Err(Memory),
-    }
 }

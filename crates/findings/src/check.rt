@@ -12,7 +12,7 @@ ghost use Rattle.findings.specs.Answering.{inquiry, stops};
 ghost use Rattle.findings.specs.Certified.{IsAccepted};
 ghost use Rattle.pb_base.specs.declared.limits.TheConstants.{MOST_BUDGET};
 
-use crate::earlier::Earlier;
+use crate::earlier::{Earlier, Held};
 use crate::effort::Effort;
 use crate::laws::book_laws;
 use crate::report::{Ask, Note, Report, Verdict};
@@ -61,6 +61,54 @@ pub fn check_book(
         report,
         cert: Some(cert),
     })
+}
+
+/// The report alone. No certificate is written, and no more is kept of a slice than the next one may use.
+pub fn report_book(
+    alloc: Global,
+    book: &Book,
+    budget: u32,
+    ask: Ask,
+) -> Result<Report, Fail<LimitFault>>
+    requires some { 0 < budget }
+    requires most { budget ≤ MOST_BUDGET }
+    ensures limits { IfRefused result (λ fault. slices_within book.now ≡ Err fault) }
+    ensures report { IfOk result
+        (IsReport (record { book = book.now; ask = ask; budget = budget })) }
+{
+    book_laws(book);
+    let slices = slices_within(alloc, book)?;
+    let effort = Effort { ask, budget };
+    let notes = report_slices(alloc, book, slices.as_slice(), effort)?;
+    Ok(Report::of(notes))
+}
+
+// The notes of slices.
+fn report_slices(
+    alloc: Global,
+    book: &Book,
+    slices: &[Slice],
+    effort: Effort,
+) -> Result<Vec<Note>, Memory>
+    requires steady { All (IsSteady book.now) slices.now }
+    requires order { All IsOrdered slices.now }
+    requires few { AreWithin book.now slices.now }
+    requires some { 0 < effort.budget }
+    requires budget { effort.budget ≤ MOST_BUDGET }
+    ensures { IfOk result (λ notes.
+        InParts (SliceNotes (inquiry book.now effort)) slices.now notes.items) }
+{
+    let mut all = Vec::new(alloc);
+    let mut earlier = Earlier::none(alloc);
+    for slice in slices.iter() {
+        let checked = check_slice(alloc, book, slice, effort, &mut earlier, None)?;
+        let SliceCheck { mut notes, proof } = checked;
+        all.append(&mut notes)?;
+        if let Some(proof) = proof {
+            earlier.kernel = Held::Here(proof.kernel);
+        }
+    }
+    Ok(all)
 }
 
 // What a check of slices tells: their notes, and where none of these keeps the book from its release, a proof for each slice.

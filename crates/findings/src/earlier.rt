@@ -1,5 +1,5 @@
 //! What a slice hands on to the next one. No answer hangs on it.
-ghost use Rattle.findings.specs.Answering.{Grows};
+ghost use Rattle.solver.specs.Solver.{Grows};
 
 use crate::again::derive_again;
 use crate::moves::{Days, Moves};
@@ -8,6 +8,7 @@ use clause_pool::Kernel;
 use derivation::SliceProof;
 use pb_base::{CodeSet, Day, Memory};
 use std::alloc::Global;
+use std::mem::replace;
 
 /// What the latest slice with a good set hands on.
 #[derive(Drop)]
@@ -16,8 +17,17 @@ pub(crate) struct Earlier {
     pub(crate) day: Day,
     /// Sets that are good in it.
     pub(crate) sets: Vec<CodeSet>,
-    /// Its kernel, where no proof has it.
-    pub(crate) kernel: Option<Kernel>,
+    /// Its kernel.
+    pub(crate) kernel: Held,
+}
+
+/// Where a kernel is that was handed on.
+#[derive(Drop)]
+pub(crate) enum Held {
+    Nowhere,
+    Here(Kernel),
+    /// In the latest proof.
+    InProof,
 }
 
 impl Earlier {
@@ -26,34 +36,41 @@ impl Earlier {
         Earlier {
             day: 0,
             sets: Vec::new(alloc),
-            kernel: None,
+            kernel: Held::Nowhere,
         }
     }
 }
 
-/// Derives again what the slice before derived. The latest proof is that of the same slice, unless its kernel was handed on.
-#[tactic(auto, using(crate::proofs::AgainLaws::grows_same))]
+/// Derives again what the slice before derived. A kernel that was handed on is gone then.
+#[tactic(auto, using(solver::proofs::GrowthLaws::grows_same))]
 pub(crate) fn derive_earlier(
     alloc: Global,
     book: &Book,
     slice: &Slice,
     kernel: &mut Kernel,
-    earlier: &Earlier,
+    earlier: &mut Earlier,
     latest: Option<&SliceProof>,
 ) -> Result<(), Memory>
     ensures { Grows kernel.old kernel.new }
 {
-    let before = match &earlier.kernel {
-        Some(before) => before,
-        None => match latest {
-            Some(proof) => &proof.kernel,
-            None => return Ok(()),
-        },
-    };
     let days = Days {
         before: earlier.day,
         now: slice.first,
     };
-    let moves = Moves::of(alloc, book, days)?;
-    derive_again(alloc, kernel, before, moves)
+    match replace(&mut earlier.kernel, Held::Nowhere) {
+        Held::Nowhere => Ok(()),
+        Held::Here(before) => derive_again(alloc, kernel, &before, Moves::of(alloc, book, days)?),
+        Held::InProof => {
+            earlier.kernel = Held::InProof;
+            match latest {
+                Some(proof) => derive_again(
+                    alloc,
+                    kernel,
+                    &proof.kernel,
+                    Moves::of(alloc, book, days)?,
+                ),
+                None => Ok(()),
+            }
+        }
+    }
 }

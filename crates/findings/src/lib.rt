@@ -17,7 +17,7 @@ mod sets;
 mod slice;
 mod units;
 
-pub use check::{Checked, check_book};
+pub use check::{Checked, check_book, report_book};
 pub use report::{Ask, Note, Report, Verdict, verdict_of};
 
 #[cfg(test)]

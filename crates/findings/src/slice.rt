@@ -14,7 +14,7 @@ ghost use Rattle.findings.specs.Findings.{MeetsThrough};
 ghost use Rattle.findings.specs.Answering.{SliceFacts, IsAsked, IsOver, IsFound, AreTold, ShowsUnlessStopped, inquiry, stops};
 
 use crate::answer::answer;
-use crate::earlier::{Earlier, derive_earlier};
+use crate::earlier::{Earlier, Held, derive_earlier};
 use crate::effort::{Effort, is_asked};
 use crate::found::found_with;
 use crate::outcome::Told;
@@ -89,7 +89,7 @@ fn begin(
     slice: &Slice,
     clauses: Pool,
     vars: u32,
-    earlier: &Earlier,
+    earlier: &mut Earlier,
     latest: Option<&SliceProof>,
 ) -> Result<Solver, Memory>
     requires below { AreBelow (2 * vars) clauses.clauses }
@@ -217,10 +217,10 @@ fn put_together(
     let mut notes = days_note(alloc, slice)?;
     notes.append(&mut own)?;
     if stopped {
-        earlier.kernel = Some(proof.kernel);
+        earlier.kernel = Held::Here(proof.kernel);
         return Ok(SliceCheck { notes, proof: None });
     }
-    earlier.kernel = None;
+    earlier.kernel = Held::InProof;
     Ok(SliceCheck {
         notes,
         proof: Some(proof),

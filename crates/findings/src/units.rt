@@ -1,51 +1,70 @@
-//! Goals that the kernel refutes already, so that no search is begun for them.
+//! What short clauses say of goals, so that no search is begun for them.
 ghost use Rattle.std.specs.Prelude.{IfSome};
 ghost use Rattle.solver.specs.Solver.{ClosedBy};
 
-use clause_pool::{Kernel, Lit, Ref};
+use clause_pool::{Kernel, Lit, Pool, Ref};
 use clausify::Asked;
 use pb_base::Memory;
+use solver::{Implied, refuting_unit};
 use std::alloc::Global;
 
-/// By variable, where its negative literal alone is a derived clause. It is a hint: a clause is looked at before it counts.
+/// By variable, the places of clauses that have its negative literal: a derived one of no other literal, and the first given one
+/// of one more. They are hints: a clause is looked at before it counts.
 #[derive(Drop)]
 pub(crate) struct Units {
-    places: Vec<Option<Ref>>,
+    refuting: Vec<Option<Ref>>,
+    implying: Vec<Option<Ref>>,
 }
 
 impl Units {
     /// Those of a kernel, as far as they matter to these questions.
     pub(crate) fn of(alloc: Global, kernel: &Kernel, asked: &[Asked]) -> Result<Units, Memory> {
-        let mut places = vec![in alloc; None; vars_of(asked)]?;
+        let vars = vars_of(asked);
+        let mut units = Units {
+            refuting: vec![in alloc; None; vars]?,
+            implying: vec![in alloc; None; vars]?,
+        };
         let pool = kernel.pool();
-        for at in kernel.given()..pool.len() {
-            enter(&mut places, pool.lits(at), at);
+        let given = kernel.given().min(pool.len());
+        for at in 0..given {
+            enter_pair(&mut units.implying, pool.lits(at), at);
         }
-        Ok(Units { places })
+        for at in given..pool.len() {
+            enter_unit(&mut units.refuting, pool.lits(at), at);
+        }
+        Ok(units)
     }
 
     /// The place of a clause that refutes a goal.
-    #[tactic(auto, using(crate::proofs::SolverLaws::closed_by_unit))]
     pub(crate) fn refuting(&self, kernel: &Kernel, goal: Lit) -> Option<Ref>
         ensures { IfSome result (ClosedBy kernel.now goal) }
     {
-        let at = self.place(goal)?;
-        let pool = kernel.pool();
-        if at >= pool.len() {
-            return None;
-        }
-        let clause = pool.lits(at);
-        if clause.len() != 1 || clause[0] != goal.not() {
-            return None;
-        }
-        Some(at)
+        let at = place_in(&self.refuting, goal)?;
+        refuting_unit(kernel, goal, at)
     }
 
-    fn place(&self, goal: Lit) -> Option<Ref> {
-        match self.places.get(goal.var() as usize) {
-            Some(place) => *place,
-            None => None,
+    /// A literal that a goal implies by one clause.
+    pub(crate) fn implied(&self, pool: &Pool, goal: Lit) -> Option<Implied> {
+        let by = place_in(&self.implying, goal)?;
+        if by >= pool.len() {
+            return None;
         }
+        let [first, second] = pool.lits(by) else {
+            return None;
+        };
+        let lit = if *first == goal.not() {
+            *second
+        } else {
+            *first
+        };
+        Some(Implied { lit, by })
+    }
+}
+
+fn place_in(places: &[Option<Ref>], goal: Lit) -> Option<Ref> {
+    match places.get(goal.var() as usize) {
+        Some(place) => *place,
+        None => None,
     }
 }
 
@@ -59,7 +78,7 @@ fn vars_of(asked: &[Asked]) -> usize {
 }
 
 // Enters a clause that has one negative literal alone.
-fn enter(places: &mut [Option<Ref>], clause: &[Lit], at: Ref) {
+fn enter_unit(places: &mut [Option<Ref>], clause: &[Lit], at: Ref) {
     let [lit] = clause else {
         return;
     };
@@ -68,6 +87,25 @@ fn enter(places: &mut [Option<Ref>], clause: &[Lit], at: Ref) {
     }
     match places.get_mut(lit.var() as usize) {
         Some(place) => *place = Some(at),
+        None => {}
+    }
+}
+
+// Enters a clause of two literals for those that are negative and have none yet.
+fn enter_pair(places: &mut [Option<Ref>], clause: &[Lit], at: Ref) {
+    let [first, second] = clause else {
+        return;
+    };
+    enter_first(places, *first, at);
+    enter_first(places, *second, at);
+}
+
+fn enter_first(places: &mut [Option<Ref>], lit: Lit, at: Ref) {
+    if lit.positive() {
+        return;
+    }
+    match places.get_mut(lit.var() as usize) {
+        Some(place) => *place = place.or(Some(at)),
         None => {}
     }
 }

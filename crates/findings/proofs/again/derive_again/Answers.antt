@@ -1,4 +1,4 @@
-use Rattle.findings.proofs.AgainLaws.{grows_twice}
+use Rattle.solver.proofs.GrowthLaws.{grows_twice}
 use Rattle.findings.proofs.again.derive_again.Goals as goal
 
 pub returns-in_err-place : goal.returns-in_err-place

@@ -1,5 +1,5 @@
 -- The kernel only grew.
-use Rattle.findings.specs.Answering.{Grows}
+use Rattle.solver.specs.Solver.{Grows}
 use Rattle.findings.proofs.again.derive_again.Given as goal
 
 abbrev pub invariant-loop-at : goal.invariant-loop-at

@@ -1,0 +1,8 @@
+-- The slices so far are told of.
+use Rattle.std.proofs.Common.{take}
+use Rattle.findings.specs.Notes.{InParts, SliceNotes}
+use Rattle.findings.specs.Answering.{inquiry}
+use Rattle.findings.proofs.check.report_slices.Given as goal
+
+abbrev pub invariant-loop-slice : goal.invariant-loop-slice
+invariant-loop-slice l = InParts (SliceNotes (inquiry l.book l.effort)) (take l.slice-index l.slices) l.all.items
