@@ -1,0 +1,18 @@
+use Rattle.std.proofs.Common.{◌≡◌, List, [], ◌∷◌, ◌++◌, ◌+◌, ◌<◌, get_or, length, take, sym, subst, arith}
+use Rattle.std.proofs.lemmas.List.{take_more}
+use Rattle.book_model.specs.declared.record.Slice.{Slice}
+use Rattle.findings.specs.Notes.{InParts, SliceNotes}
+use Rattle.findings.specs.Answering.{inquiry}
+use Rattle.findings.proofs.ToldLaws.{parts_more}
+use Rattle.findings.proofs.check.report_slices.Goals as goal
+
+pub loop-slice-preserved : goal.loop-slice-preserved
+loop-slice-preserved c =
+    let slices = c.args.slices.now in
+    let k = c.loop-slice.slice-index in
+    let i = inquiry c.args.book.now c.args.effort in
+    let none : Slice = record { first = 0; last = 0 } in
+    let s : Slice = get_or slices k none in
+    let below : k < length slices = omega arith in
+    let next : take (k + 1) slices ≡ take k slices ++ s ∷ [] = take_more slices k none below in
+    ?
