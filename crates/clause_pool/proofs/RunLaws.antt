@@ -1,11 +1,11 @@
 -- What a run over a chain shows, pair by pair.
-use Rattle.std.proofs.Common.{◌≡◌, ℕ, ◌+◌, ◌<◌, ◌≤◌, true, false, eqb, List, [], ◌∷◌, length, get_or, drop, Option, Some, Result, Ok, Err, sym, ap, subst, ◌∙◌, arith}
-use Rattle.std.specs.List.{list_any, slice_get}
+use Rattle.std.proofs.Common.{◌≡◌, ℕ, ◌+◌, ◌<◌, ◌≤◌, true, false, List, [], ◌∷◌, length, get_or, drop, Option, Some, Result, Ok, Err, sym, ap, subst, ◌∙◌, arith}
+use Rattle.std.specs.List.{slice_get}
 use Rattle.std.proofs.lemmas.Bool.{false≢true, and_right, and_from, cond-true, cond-false}
 use Rattle.std.proofs.lemmas.List.{drop_more, drop_all}
 use Rattle.std.proofs.lemmas.Option.{slice_get-get_or, slice_get_past}
 use Rattle.clause_pool.specs.Literal.{complement}
-use Rattle.clause_pool.specs.Clause.{has, IsRising}
+use Rattle.clause_pool.specs.Clause.{has}
 use Rattle.clause_pool.specs.Chain.{resolved, step_on, chain_from, started, chain}
 use Rattle.clause_pool.specs.declared.chain.Pair.{Pair}
 use Rattle.clause_pool.specs.declared.chain.StepFault.{StepFault}
@@ -16,21 +16,19 @@ use Rattle.pb_base.specs.Answers.{Leaves}
 use Rattle.pb_base.specs.declared.answer.Fail.{Fail}
 use Rattle.pb_base.specs.declared.answer.Fail.TheVariants.{Refused, Memory}
 
-module _ (running : List ℕ) (clauses : List (List ℕ)) (place lit with' : ℕ) (other : List ℕ) (within : with' < length clauses) (found : other ≡ get_or clauses with' []) (m : ℕ) (is_complement : m ≡ complement lit) where
+module _ (running : List ℕ) (clauses : List (List ℕ)) (place lit with' : ℕ) (other : List ℕ) (within : with' < length clauses) (found : other ≡ get_or clauses with' []) where
   there : slice_get clauses with' ≡ Some other
   there = slice_get-get_or clauses with' [] within ∙ ap Some (sym found)
 
   -- the other clause lacks the complement
-  pub step_lacks : list_any (λ x. eqb x m) other ≡ false → step_on running place lit (slice_get clauses with') ≡ Err (NoPivot place)
+  pub step_lacks : has other (complement lit) ≡ false → step_on running place lit (slice_get clauses with') ≡ Err (NoPivot place)
   step_lacks lacks =
-      ap (step_on running place lit) there
-      ∙ cond-false _ _ _ (and_right (has running lit) (has other (complement lit)) (ap (has other) (sym is_complement) ∙ lacks))
+      ap (step_on running place lit) there ∙ cond-false _ _ _ (and_right (has running lit) (has other (complement lit)) lacks)
 
   -- both have their half of the pivot
-  pub step_makes : has running lit ≡ true → list_any (λ x. eqb x m) other ≡ true → step_on running place lit (slice_get clauses with') ≡ Ok (resolved running lit other)
+  pub step_makes : has running lit ≡ true → has other (complement lit) ≡ true → step_on running place lit (slice_get clauses with') ≡ Ok (resolved running lit other)
   step_makes here its =
-      ap (step_on running place lit) there
-      ∙ cond-true _ _ _ (and_from (has running lit) (has other (complement lit)) here (ap (has other) (sym is_complement) ∙ its))
+      ap (step_on running place lit) there ∙ cond-true _ _ _ (and_from (has running lit) (has other (complement lit)) here its)
 
 pub chain_unstarted : (clauses : List (List ℕ)) (start : ℕ) (pairs : List Pair) → length clauses ≤ start → chain clauses start pairs ≡ Err (NoSuchStep 0)
 chain_unstarted clauses start pairs h =
@@ -39,12 +37,10 @@ chain_unstarted clauses start pairs h =
 
 -- the running clause after the first pairs, with the pairs to come, gives the answer of the chain
 pub record IsRunning (clauses : List (List ℕ)) (start : ℕ) (pairs : List Pair) (done : ℕ) (running : List ℕ) : Type 0 where
-  pub rising : IsRising running
   pub so_far : chain_from clauses (done + 1) (drop done pairs) (Ok running) ≡ chain clauses start pairs
 
-pub running_starts : (clauses : List (List ℕ)) (start : ℕ) (pairs : List Pair) (running : List ℕ) → start < length clauses → running ≡ get_or clauses start [] → IsRising running → IsRunning clauses start pairs 0 running
-running_starts clauses start pairs running h is rises = record {
-  rising = rises;
+pub running_starts : (clauses : List (List ℕ)) (start : ℕ) (pairs : List Pair) (running : List ℕ) → start < length clauses → running ≡ get_or clauses start [] → IsRunning clauses start pairs 0 running
+running_starts clauses start pairs running h is = record {
   so_far =
       let one : 0 + 1 ≡ 1 = omega arith in
       ap (λ (n : ℕ). chain_from clauses n pairs (Ok running)) one
@@ -58,9 +54,8 @@ module _ (clauses : List (List ℕ)) (start : ℕ) (pairs : List Pair) (done : �
       (ap (λ (p : Pair). p ∷ drop (done + 1) pairs) is ∙ sym (drop_more pairs done pair within))
       ∙ m.so_far
 
-  pub running_more : (next : List ℕ) → IsRising next → step_on running (done + 1) pair.lit (slice_get clauses pair.with) ≡ Ok next → IsRunning clauses start pairs (done + 1) next
-  running_more next rises made = record {
-    rising = rises;
+  pub running_more : (next : List ℕ) → step_on running (done + 1) pair.lit (slice_get clauses pair.with) ≡ Ok next → IsRunning clauses start pairs (done + 1) next
+  running_more next made = record {
     so_far =
         ap (chain_from clauses (done + 1 + 1) (drop (done + 1) pairs)) (sym made) ∙ at_pair;
   }

@@ -1,5 +1,6 @@
 pub mod Literal
 pub mod Clause
+pub mod Marks
 pub mod Region
 pub mod PoolContents
 pub mod Chain

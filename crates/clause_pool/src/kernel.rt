@@ -9,6 +9,7 @@ use crate::chain::{Pair, StepFault};
 use crate::lit::Lit;
 use crate::pool::{Pool, Ref};
 use crate::run::run_chain;
+use crate::running::Running;
 use crate::steps::StepLog;
 use pb_base::Fail;
 use std::alloc::Global;
@@ -21,9 +22,9 @@ pub struct Kernel {
     pool: Pool,
     given: usize,
     log: StepLog,
-    // The running clause, and the one in the making.
-    running: Vec<Lit>,
-    next: Vec<Lit>,
+    // The running clause of a chain, and its literals in the end.
+    running: Running,
+    literals: Vec<Lit>,
 }
 
 impl Model for Kernel {
@@ -47,8 +48,8 @@ impl Kernel {
             given: given.len(),
             pool: given,
             log: StepLog::new(alloc),
-            running: Vec::new(alloc),
-            next: Vec::new(alloc),
+            running: Running::new(alloc),
+            literals: Vec::new(alloc),
         }
     }
 
@@ -111,9 +112,10 @@ impl Kernel {
         ensures bounds { KeepsBounds self.old.clauses self.new.clauses }
         ensures unchanged { OnErr result (self.new ≡ self.old) }
     {
-        run_chain(&self.pool, start, pairs, &mut self.running, &mut self.next)?;
-        self.pool.reserve(1, self.running.len())?;
+        run_chain(&self.pool, start, pairs, &mut self.running)?;
+        self.running.write(&mut self.literals)?;
+        self.pool.reserve(1, self.literals.len())?;
         self.log.push(start, pairs)?;
-        Ok(self.pool.add_rising(&self.running))
+        Ok(self.pool.add_reserved(&self.literals))
     }
 }

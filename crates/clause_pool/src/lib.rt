@@ -5,10 +5,10 @@
 mod chain;
 mod kernel;
 mod lit;
-mod merge;
 mod pool;
 mod region;
 mod run;
+mod running;
 mod steps;
 
 pub use chain::{Pair, StepFault};

@@ -1,6 +1,7 @@
 //! Literals.
 ghost use Rattle.std.specs.Prelude.{◌≡◌, ◌/◌, ◌%◌, ◌<◌, ◌^◌, ◌==◌};
 ghost use Rattle.clause_pool.specs.Literal.{complement, literal};
+ghost use Rattle.clause_pool.specs.Marks.{marked};
 
 use std::marker::Model;
 
@@ -54,6 +55,16 @@ impl Lit {
         ensures below { result < 2 ^ 33 }
     {
         self.code
+    }
+
+    /// Whether a table by literal has a mark for it. Past its end there is none.
+    pub fn is_marked(self, marks: &[bool]) -> bool
+        ensures { result ≡ marked marks.now self }
+    {
+        match marks.get(self.code as usize) {
+            Some(mark) => *mark,
+            None => false,
+        }
     }
 
     /// The other literal of the same variable.

@@ -120,19 +120,6 @@ impl Pool {
         at
     }
 
-    /// Appends a rising clause in room that was reserved.
-    pub(crate) fn add_rising(&mut self, clause: &[Lit]) -> Ref
-        requires rising { IsRising clause.now }
-        requires room_for_clause { 0 < self.old.spare_clauses }
-        requires room_for_lits { length clause.now ≤ self.old.spare_lits }
-        ensures place { result ≡ length self.old.clauses }
-        ensures clauses { self.new.clauses ≡ self.old.clauses ++ clause.now ∷ [] }
-    {
-        let at = self.starts.len();
-        append(&mut self.lits, &mut self.starts, clause);
-        at
-    }
-
     /// Appends the clause of these literals, in any order and with repeats.
     pub fn add(&mut self, lits: &[Lit]) -> Result<Ref, Memory>
         ensures place { IfOk result (λ at. at ≡ length self.old.clauses) }

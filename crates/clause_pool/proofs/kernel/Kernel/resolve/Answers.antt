@@ -3,4 +3,4 @@ use Rattle.clause_pool.proofs.ChainLaws.{bounds-push}
 use Rattle.clause_pool.proofs.kernel.Kernel.resolve.Goals as goal
 
 pub returns-clause-bounds : goal.returns-clause-bounds
-returns-clause-bounds c = bounds-push c.args.self.now.clauses c.add_rising.new.self.clauses c.args.start c.args.pairs.now c.run_chain.new.running.items (search rules) (search rules)
+returns-clause-bounds c = bounds-push c.args.self.now.clauses c.add_reserved.new.self.clauses c.args.start c.args.pairs.now c.run_chain.new.running (search rules) (search rules)

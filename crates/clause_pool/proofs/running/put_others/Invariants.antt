@@ -1,0 +1,11 @@
+use Rattle.std.proofs.Common.{◌≡◌, take}
+use Rattle.clause_pool.specs.Clause.{has, without}
+use Rattle.clause_pool.specs.Marks.{AreTouched, IsJoined}
+use Rattle.clause_pool.proofs.running.put_others.Given as goal
+
+abbrev pub invariant-loop-lit : goal.invariant-loop-lit
+invariant-loop-lit l = record {
+  touched : AreTouched l.marks.items l.touched.items;
+  joined : IsJoined l.initial.marks.items l.marks.items (without l.left_out (take l.lit-index l.lits));
+  found : l.found ≡ has (take l.lit-index l.lits) l.left_out;
+}
