@@ -2,7 +2,6 @@
 --     IsChain clauses r             the chain has a resolvent, and just its literals are marked
 --     AreFalse lits marks           what is marked is false over these true literals
 --     AreFalseBut lits marks x      the same, but for one literal
---     AreTouched marks lits         every marked literal is among these
 --     IsMarked old new c            the literals of a clause are marked besides
 --     IsResolved old new x c        what a resolution on a literal with a clause does to the marks
 --     IsUip t marks at              one literal of the current level is marked, the others are false before
@@ -10,11 +9,9 @@ use Rattle.std.specs.Prelude.{◌≡◌, ◌⊎◌, ℕ, ◌+◌, ◌-◌, ◌<�
 use Rattle.clause_pool.specs.Literal.{complement}
 use Rattle.clause_pool.specs.Clause.{has}
 use Rattle.clause_pool.specs.Chain.{chain}
+use Rattle.clause_pool.specs.Marks.{marked}
 use Rattle.propagate.specs.Trail.{Trail, level, end_of, IsFalse, IsReason}
 use Rattle.solver.specs.declared.resolution.Resolution.{Resolution}
-
-abbrev pub marked : List Bool → ℕ → Bool
-marked marks l = slice_index_or marks l false
 
 abbrev pub AreClear : List Bool → Type 0
 AreClear marks = (l : ℕ) → marked marks l ≡ false
@@ -29,10 +26,6 @@ AreFalse lits marks = (l : ℕ) → marked marks l ≡ true → IsFalse lits l
 
 abbrev pub AreFalseBut : List ℕ → List Bool → ℕ → Type 0
 AreFalseBut lits marks x = (l : ℕ) → marked marks l ≡ true → (l ≡ x → ⊥) → IsFalse lits l
-
--- every marked literal is among these
-abbrev pub AreTouched : List Bool → List ℕ → Type 0
-AreTouched marks lits = (l : ℕ) → marked marks l ≡ true → has lits l ≡ true
 
 -- what is marked was marked, or is of a clause
 abbrev pub CameFrom : List Bool → List Bool → List ℕ → Type 0

@@ -1,8 +1,9 @@
 //! A learnt clause is made shorter: literals go that the others make needless.
 ghost use Rattle.std.specs.Prelude.{◌≡◌, ℕ, ◌+◌, ◌*◌, ◌-◌, ◌<◌, ◌≤◌, length, take, slice_index_or, Some, None, OnOk, IfSome, true};
 ghost use Rattle.clause_pool.specs.Clause.{has};
+ghost use Rattle.clause_pool.specs.Marks.{marked};
 ghost use Rattle.propagate.specs.Trail.{level};
-ghost use Rattle.solver.specs.Marks.{marked, IsChain, IsUip, false_at};
+ghost use Rattle.solver.specs.Marks.{IsChain, IsUip, false_at};
 
 use crate::conflict::resolve_at;
 use crate::marks::is_marked;

@@ -2,9 +2,10 @@
 ghost use Rattle.std.specs.Prelude.{◌≡◌, ℕ, ◌+◌, ◌*◌, ◌<◌, ◌≤◌, [], length, take, slice_index_or, IfOk, OnOk, Ok, true};
 ghost use Rattle.clause_pool.specs.Literal.{complement};
 ghost use Rattle.clause_pool.specs.Clause.{has, KeepsBounds};
+ghost use Rattle.clause_pool.specs.Marks.{marked, AreTouched};
 ghost use Rattle.propagate.specs.Trail.{level, OthersFalse};
 ghost use Rattle.solver.specs.Answer.{IsNew};
-ghost use Rattle.solver.specs.Marks.{marked, IsChain, AreClear, AreFalseBut, AreTouched, false_at};
+ghost use Rattle.solver.specs.Marks.{IsChain, AreClear, AreFalseBut, false_at};
 ghost use Rattle.solver.specs.Search.{IsReady, IsKept, IsSearch, IsConflict, IsLearning, IsFull, AllNew};
 ghost use Rattle.solver.specs.Solver.{Extends, ClosedBy};
 

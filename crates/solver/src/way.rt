@@ -2,10 +2,11 @@
 ghost use Rattle.std.specs.Prelude.{◌≡◌, ℕ, ◌*◌, ◌<◌, ◌++◌, length, slice_index_or, IfSome, None, OnOk, Some, true};
 ghost use Rattle.clause_pool.specs.Literal.{complement};
 ghost use Rattle.clause_pool.specs.Clause.{has};
-ghost use Rattle.solver.specs.Marks.{marked, IsChain, AreFalseBut, AreTouched, false_at};
+ghost use Rattle.clause_pool.specs.Marks.{marked, AreTouched};
+ghost use Rattle.solver.specs.Marks.{IsChain, AreFalseBut, false_at};
 
 use crate::conflict::resolve_at;
-use crate::marks::{has_mark, is_marked};
+use crate::marks::is_marked;
 use crate::resolution::Resolution;
 use clause_pool::{Lit, Pool, Ref};
 use pb_base::Memory;
@@ -91,7 +92,7 @@ fn put_ahead(
     end: usize,
 ) {
     for lit in lits {
-        if has_mark(marks, *lit) {
+        if lit.is_marked(marks) {
             continue;
         }
         if let Some(place) = places.get(lit.var() as usize)
@@ -171,7 +172,7 @@ pub(crate) fn resolve_ahead(
 fn is_unmarked_but(marks: &[bool], lit: Lit, left: Lit) -> bool
     ensures { result ≡ true → marked marks.now lit ≡ true → lit ≡ left }
 {
-    lit == left || !has_mark(marks, lit)
+    lit == left || !lit.is_marked(marks)
 }
 
 /// Whether none of these literals is marked but one.
