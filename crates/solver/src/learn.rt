@@ -67,7 +67,7 @@ pub(crate) fn find_uip(
         };
         let clause = pool.lits(reason);
         order.bump_all(clause);
-        way.look_ahead(&resolution.marks, clause, start);
+        way.look_ahead(engine, &resolution.marks, clause, start);
         resolve_at(engine, pool, resolution, place, reason)?;
         let Some(next) = last_marked(&resolution.marks, lits, below, place) else {
             unreachable!();
@@ -114,7 +114,7 @@ fn resolve_conflict(
     ensures table { length resolution.new.marks.items ≡ 2 * engine.now.vars }
 {
     let start = engine.end_of(engine.level() - 1);
-    way.begin(engine.trail(), pool.lits(at), start)?;
+    way.begin(engine, pool.lits(at), start)?;
     resolution.begin(pool, at);
     order.bump_all(pool.lits(at));
     let place = find_uip(engine, pool, resolution, way, order)?;

@@ -112,9 +112,9 @@ fn derive_closing(
     ensures none { OnOk result (AreFalseBut [] resolution.new.marks.items (complement g)) }
 {
     kernel.given();
-    let trail = engine.trail();
+    let end = engine.trail().len();
     resolution.begin(kernel.pool(), at);
-    way.begin(trail, kernel.pool().lits(at), trail.len())?;
+    way.begin(engine, kernel.pool().lits(at), end)?;
     resolve_away(engine, kernel.pool(), resolution, way, g)?;
     if resolution.pairs.is_empty() {
         return Ok(resolution.start);
@@ -169,7 +169,7 @@ fn go_on(
     ensures search { OnOk result ((g : ℕ) → IsSearch g engine.old → IsSearch g engine.new) }
 {
     let place = learn(kernel, engine, resolution, way, order, at)?;
-    jump(engine, kernel.pool(), way, order, place)?;
+    jump(engine, kernel.pool(), order, place)?;
     Ok(())
 }
 
