@@ -79,6 +79,16 @@ impl Engine {
         self.assignment.value(lit.code() as u32)
     }
 
+    /// The place of a variable's literal on the trail; none where the variable is open.
+    pub fn place_of(&self, var: u32) -> Option<usize>
+        requires { var < self.now.vars }
+        ensures within { IfSome result (λ place. place < length self.now.lits) }
+        ensures variable { IfSome result (λ place. slice_index self.now.lits place / 2 ≡ var) }
+        ensures open_variable { IfNone result (IsOpen self.now var) }
+    {
+        self.assignment.place_of(var)
+    }
+
     /// The clause that made a variable's literal true; none where the variable is open or its literal was
     /// assumed.
     #[tactic(auto, using(crate::proofs::TakeLaws::one_place))]
@@ -88,13 +98,11 @@ impl Engine {
             → result ≡ slice_index_or self.now.reasons k None }
         ensures open_variable { IsOpen self.now var → result ≡ None }
     {
-        let Some(place) = self.assignment.place_of(var) else {
+        let Some(place) = self.place_of(var) else {
             return None;
         };
-        match self.assignment.reason_at(place) {
-            Some(clause) => Some(clause as usize),
-            None => None,
-        }
+        self.assignment.assigned_law();
+        self.reason_at(place)
     }
 
     /// The level at which a variable came to the trail; none where it is open.
@@ -103,7 +111,7 @@ impl Engine {
         ensures level { IfSome result (λ n. IsLevelOf self.now var n) }
         ensures open_variable { IfNone result (IsOpen self.now var) }
     {
-        let Some(place) = self.assignment.place_of(var) else {
+        let Some(place) = self.place_of(var) else {
             return None;
         };
         self.assignment.level();

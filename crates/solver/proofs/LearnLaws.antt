@@ -12,6 +12,7 @@ use Rattle.clause_pool.specs.Literal.{complement}
 use Rattle.clause_pool.specs.Clause.{has, AreBelow, KeepsBounds}
 use Rattle.clause_pool.specs.Chain.{chain}
 use Rattle.clause_pool.specs.Derivation.{Derivation}
+use Rattle.clause_pool.specs.Marks.{marked}
 use Rattle.clause_pool.proofs.LiteralLaws.{complement-complement, complement-half}
 use Rattle.propagate.specs.Trail.{Trail, IsTrail, level, end_of}
 use Rattle.propagate.specs.Quiet.{Quiet}
@@ -20,7 +21,7 @@ use Rattle.propagate.proofs.AssignmentLaws.{has_place, value_is_false}
 use Rattle.propagate.proofs.KeepLaws.{has_at}
 use Rattle.propagate.proofs.QuietLaws.{has_take}
 use Rattle.solver.specs.Answer.{IsNew}
-use Rattle.solver.specs.Marks.{marked, AreClear, AreFalseBut, IsChain, IsUnmarked, IsUip, start_of, false_at}
+use Rattle.solver.specs.Marks.{AreClear, AreFalseBut, IsChain, IsUnmarked, IsUip, start_of, false_at}
 use Rattle.solver.specs.Solver.{ClosedBy}
 use Rattle.solver.specs.declared.resolution.Resolution.{Resolution}
 use Rattle.solver.specs.Search.{IsReady, IsKept, IsSearch, IsAppended, IsAsserting, IsLesson, IsConflict, IsLearning, IsNext, AllNew, next_of}

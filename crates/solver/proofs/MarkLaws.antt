@@ -8,6 +8,7 @@ use Rattle.std.specs.List.{slice_get}
 use Rattle.clause_pool.specs.Literal.{complement}
 use Rattle.clause_pool.specs.Clause.{has, without}
 use Rattle.clause_pool.specs.Chain.{chain, resolved, step_on, started}
+use Rattle.clause_pool.specs.Marks.{marked}
 use Rattle.clause_pool.specs.declared.chain.Pair.{Pair}
 use Rattle.clause_pool.proofs.LiteralLaws.{complement-complement, complement-other, complement-below}
 use Rattle.clause_pool.proofs.ClauseLaws.{has-without_other, has-without_same, all_found}
@@ -17,7 +18,7 @@ use Rattle.propagate.specs.Quiet.{Quiet, IsQuietFor}
 use Rattle.propagate.proofs.QuietLaws.{has_take}
 use Rattle.propagate.proofs.AssignmentLaws.{has_push, push_has, push_here}
 use Rattle.propagate.proofs.KeepLaws.{same_default, has_at}
-use Rattle.solver.specs.Marks.{marked, AreClear, IsChain, AreFalse, AreFalseBut, IsMarked, IsUnmarked, IsResolved, false_at, IsResolvedAt, IsTop, NoneMarked, start_of, IsUip, IsResolving}
+use Rattle.solver.specs.Marks.{AreClear, IsChain, AreFalse, AreFalseBut, IsMarked, IsUnmarked, IsResolved, false_at, IsResolvedAt, IsTop, NoneMarked, start_of, IsUip, IsResolving}
 use Rattle.solver.specs.declared.resolution.Resolution.{Resolution}
 use Rattle.solver.proofs.TrailLaws.{placed_in, has_placed, has_longer, same_place, consistent}
 

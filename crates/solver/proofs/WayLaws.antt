@@ -4,10 +4,11 @@ use Rattle.std.proofs.Math.ListN.{set, replicate}
 use Rattle.std.proofs.lemmas.Bool.{cases_eq, false≢true, or_left, or_right}
 use Rattle.std.proofs.lemmas.List.{get_or-set_same, get_or-set_other, take_more, take_all}
 use Rattle.clause_pool.specs.Clause.{has}
+use Rattle.clause_pool.specs.Marks.{marked, AreTouched}
 use Rattle.clause_pool.proofs.ClauseLaws.{has-append}
 use Rattle.propagate.specs.Trail.{Trail}
 use Rattle.propagate.proofs.AssignmentLaws.{has_push}
-use Rattle.solver.specs.Marks.{marked, AreClear, AreFalseBut, AreTouched, CameFrom, IsResolved, IsResolvedAt}
+use Rattle.solver.specs.Marks.{AreClear, AreFalseBut, CameFrom, IsResolved, IsResolvedAt}
 use Rattle.solver.proofs.MarkLaws.{is_false, resolved_before}
 
 pub none_left : (touched : List ℕ) (marks : List Bool) (x : ℕ) → AreTouched marks touched → ((l : ℕ) → has touched l ≡ true → marked marks l ≡ true → l ≡ x) → AreFalseBut [] marks x

@@ -2,19 +2,17 @@
 --     IsChain clauses r             the chain has a resolvent, and just its literals are marked
 --     AreFalse lits marks           what is marked is false over these true literals
 --     AreFalseBut lits marks x      the same, but for one literal
---     AreTouched marks lits         every marked literal is among these
 --     IsMarked old new c            the literals of a clause are marked besides
 --     IsResolved old new x c        what a resolution on a literal with a clause does to the marks
 --     IsUip t marks at              one literal of the current level is marked, the others are false before
-use Rattle.std.specs.Prelude.{◌≡◌, ◌⊎◌, ℕ, ◌+◌, ◌-◌, ◌<◌, ◌≤◌, Bool, true, false, List, [], Ok, length, take, slice_index, slice_index_or}
+use Rattle.std.specs.Prelude.{◌≡◌, ◌⊎◌, ℕ, ◌+◌, ◌-◌, ◌<◌, ◌≤◌, Bool, true, false, List, [], None, Some, Ok, length, take, slice_index, slice_index_or}
 use Rattle.clause_pool.specs.Literal.{complement}
 use Rattle.clause_pool.specs.Clause.{has}
 use Rattle.clause_pool.specs.Chain.{chain}
+use Rattle.clause_pool.specs.Marks.{marked}
 use Rattle.propagate.specs.Trail.{Trail, level, end_of, IsFalse, IsReason}
 use Rattle.solver.specs.declared.resolution.Resolution.{Resolution}
-
-abbrev pub marked : List Bool → ℕ → Bool
-marked marks l = slice_index_or marks l false
+use Rattle.solver.specs.declared.way.Needed.{Needed}
 
 abbrev pub AreClear : List Bool → Type 0
 AreClear marks = (l : ℕ) → marked marks l ≡ false
@@ -29,10 +27,6 @@ AreFalse lits marks = (l : ℕ) → marked marks l ≡ true → IsFalse lits l
 
 abbrev pub AreFalseBut : List ℕ → List Bool → ℕ → Type 0
 AreFalseBut lits marks x = (l : ℕ) → marked marks l ≡ true → (l ≡ x → ⊥) → IsFalse lits l
-
--- every marked literal is among these
-abbrev pub AreTouched : List Bool → List ℕ → Type 0
-AreTouched marks lits = (l : ℕ) → marked marks l ≡ true → has lits l ≡ true
 
 -- what is marked was marked, or is of a clause
 abbrev pub CameFrom : List Bool → List Bool → List ℕ → Type 0
@@ -64,6 +58,12 @@ pub record IsResolvedAt (t : Trail) (at : ℕ) (old new : List Bool) : Type 0 wh
   pub reason : ℕ
   pub is_reason : IsReason t.clauses (take at t.lits) (slice_index t.lits at) reason
   pub resolved : IsResolved old new (false_at t.lits at) (slice_index_or t.clauses reason [])
+
+-- a false literal is marked and has a reason
+pub record IsNeeded (t : Trail) (marks : List Bool) (needed : Needed) : Type 0 where
+  pub within : needed.place < length t.lits
+  pub is_in : marked marks (false_at t.lits needed.place) ≡ true
+  pub reason_is : slice_index_or t.reasons needed.place None ≡ Some needed.reason
 
 -- the latest place from one place on and before another whose false literal is marked
 pub record IsTop (lits : List ℕ) (marks : List Bool) (from end k : ℕ) : Type 0 where

@@ -12,10 +12,11 @@ use Rattle.std.specs.Prelude.{◌≡◌, ◌⊎◌, ℕ, ◌+◌, ◌-◌, ◌*�
 use Rattle.clause_pool.specs.Literal.{complement}
 use Rattle.clause_pool.specs.Clause.{has, AreBelow}
 use Rattle.clause_pool.specs.Derivation.{Derivation}
+use Rattle.clause_pool.specs.Marks.{marked}
 use Rattle.propagate.specs.Trail.{Trail, level, end_of, upto, IsFalse, OthersFalse, AllFalse}
 use Rattle.propagate.specs.Quiet.{Quiet}
 use Rattle.solver.specs.Answer.{IsNew}
-use Rattle.solver.specs.Marks.{marked, AreClear, start_of, false_at}
+use Rattle.solver.specs.Marks.{AreClear, start_of, false_at}
 
 pub record IsReady (clauses : List (List ℕ)) (t : Trail) (marks : List Bool) : Type 0 where
   pub attached : t.clauses ≡ clauses

@@ -1,6 +1,7 @@
 //! Steps of a resolution down the trail.
 ghost use Rattle.std.specs.Prelude.{◌≡◌, ℕ, ◌*◌, ◌<◌, ◌≤◌, [], length, slice_index_or, Some, None, OnOk, true};
-ghost use Rattle.solver.specs.Marks.{marked, IsChain, CameFrom, IsResolvedAt, false_at};
+ghost use Rattle.clause_pool.specs.Marks.{marked};
+ghost use Rattle.solver.specs.Marks.{IsChain, CameFrom, IsResolvedAt, false_at};
 
 use crate::resolution::Resolution;
 use clause_pool::{Pool, Ref};

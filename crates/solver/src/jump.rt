@@ -7,7 +7,6 @@ ghost use Rattle.solver.specs.Marks.{false_at, start_of};
 ghost use Rattle.solver.specs.Search.{IsSearch, IsNext, IsAsserting, IsJump, next_of};
 
 use crate::order::Order;
-use crate::way::Way;
 use clause_pool::{Lit, Pool};
 use pb_base::Memory;
 use propagate::Engine;
@@ -40,7 +39,6 @@ fn jump_level(engine: &Engine, lits: &[Lit], forced: Lit) -> u32
 pub(crate) fn jump(
     engine: &mut Engine,
     pool: &Pool,
-    way: &mut Way,
     order: &mut Order,
     place: usize,
 ) -> Result<(), Memory>
@@ -58,7 +56,6 @@ pub(crate) fn jump(
     let level = jump_level(engine, pool.lits(at), forced);
     let end = engine.end_of(level);
     order.put_back(engine.trail(), end);
-    way.go_back(end);
     engine.back_to(level);
     engine.trail();
     engine.attach(pool, at)?;

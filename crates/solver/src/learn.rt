@@ -2,10 +2,11 @@
 ghost use Rattle.std.specs.Prelude.{◌≡◌, ℕ, ◌+◌, ◌*◌, ◌-◌, ◌<◌, ◌≤◌, [], ◌∷◌, ◌++◌, length, take, slice_index, slice_index_or, IfOk, OnOk, OnErr, IfSome, IfNone, true};
 ghost use Rattle.clause_pool.specs.Literal.{complement};
 ghost use Rattle.clause_pool.specs.Clause.{has, KeepsBounds};
+ghost use Rattle.clause_pool.specs.Marks.{marked};
 ghost use Rattle.propagate.specs.Trail.{IsTrail, AllFalse, OthersFalse, level, upto};
 ghost use Rattle.propagate.specs.Quiet.{Quiet};
 ghost use Rattle.solver.specs.Answer.{IsNew, Refutes};
-ghost use Rattle.solver.specs.Marks.{marked, IsChain, IsTop, IsUip, NoneMarked, AreFalse, AreFalseBut, AreClear, false_at, start_of};
+ghost use Rattle.solver.specs.Marks.{IsChain, IsTop, IsUip, NoneMarked, AreFalse, AreFalseBut, AreClear, false_at, start_of};
 ghost use Rattle.solver.specs.Search.{IsReady, IsKept, IsLearning, IsAppended, IsLesson};
 ghost use Rattle.solver.specs.Solver.{Extends};
 
@@ -66,7 +67,7 @@ pub(crate) fn find_uip(
         };
         let clause = pool.lits(reason);
         order.bump_all(clause);
-        way.look_ahead(&resolution.marks, clause, start);
+        way.look_ahead(engine, &resolution.marks, clause, start);
         resolve_at(engine, pool, resolution, place, reason)?;
         let Some(next) = last_marked(&resolution.marks, lits, below, place) else {
             unreachable!();
@@ -113,7 +114,7 @@ fn resolve_conflict(
     ensures table { length resolution.new.marks.items ≡ 2 * engine.now.vars }
 {
     let start = engine.end_of(engine.level() - 1);
-    way.begin(engine.trail(), pool.lits(at), start)?;
+    way.begin(engine, pool.lits(at), start)?;
     resolution.begin(pool, at);
     order.bump_all(pool.lits(at));
     let place = find_uip(engine, pool, resolution, way, order)?;

@@ -1,7 +1,8 @@
 //! Marks of the literals of a clause in the making, by the code of the literal.
 ghost use Rattle.std.specs.Prelude.{◌≡◌, ℕ, ◌*◌, ◌<◌, ◌≤◌, [], length, slice_index, IfSome, IfNone, true};
 ghost use Rattle.clause_pool.specs.Clause.{has};
-ghost use Rattle.solver.specs.Marks.{marked, AreClear, AreFalseBut, IsMarked, IsUnmarked, IsTop, NoneMarked, false_at};
+ghost use Rattle.clause_pool.specs.Marks.{marked};
+ghost use Rattle.solver.specs.Marks.{AreClear, AreFalseBut, IsMarked, IsUnmarked, IsTop, NoneMarked, false_at};
 
 use clause_pool::Lit;
 
@@ -34,16 +35,6 @@ pub(crate) fn unmark_one(marks: &mut Vec<bool>, lit: Lit)
     ensures clear { AreClear marks.new.items }
 {
     marks[lit.code() as usize] = false;
-}
-
-/// Whether a literal is marked.
-pub(crate) fn has_mark(marks: &[bool], lit: Lit) -> bool
-    ensures { result ≡ marked marks.now lit }
-{
-    match marks.get(lit.code() as usize) {
-        Some(mark) => *mark,
-        None => false,
-    }
 }
 
 /// Takes all marks away.

@@ -2,7 +2,8 @@
 ghost use Rattle.std.specs.Prelude.{◌≡◌, ℕ, ◌*◌, ◌<◌, [], ◌∷◌, ◌++◌, length, slice_index_or, IfOk, OnOk, true};
 ghost use Rattle.clause_pool.specs.Literal.{complement};
 ghost use Rattle.clause_pool.specs.Clause.{has};
-ghost use Rattle.solver.specs.Marks.{marked, AreClear, IsChain, IsResolved};
+ghost use Rattle.clause_pool.specs.Marks.{marked};
+ghost use Rattle.solver.specs.Marks.{AreClear, IsChain, IsResolved};
 
 use crate::marks::mark;
 use clause_pool::{Lit, Pair, Pool, Ref};

@@ -2,9 +2,10 @@
 ghost use Rattle.std.specs.Prelude.{◌≡◌, ℕ, ◌+◌, ◌*◌, ◌<◌, ◌≤◌, [], length, take, slice_index_or, IfOk, OnOk, Ok, true};
 ghost use Rattle.clause_pool.specs.Literal.{complement};
 ghost use Rattle.clause_pool.specs.Clause.{has, KeepsBounds};
+ghost use Rattle.clause_pool.specs.Marks.{marked, AreTouched};
 ghost use Rattle.propagate.specs.Trail.{level, OthersFalse};
 ghost use Rattle.solver.specs.Answer.{IsNew};
-ghost use Rattle.solver.specs.Marks.{marked, IsChain, AreClear, AreFalseBut, AreTouched, false_at};
+ghost use Rattle.solver.specs.Marks.{IsChain, AreClear, AreFalseBut, false_at};
 ghost use Rattle.solver.specs.Search.{IsReady, IsKept, IsSearch, IsConflict, IsLearning, IsFull, AllNew};
 ghost use Rattle.solver.specs.Solver.{Extends, ClosedBy};
 
@@ -111,9 +112,9 @@ fn derive_closing(
     ensures none { OnOk result (AreFalseBut [] resolution.new.marks.items (complement g)) }
 {
     kernel.given();
-    let trail = engine.trail();
+    let end = engine.trail().len();
     resolution.begin(kernel.pool(), at);
-    way.begin(trail, kernel.pool().lits(at), trail.len())?;
+    way.begin(engine, kernel.pool().lits(at), end)?;
     resolve_away(engine, kernel.pool(), resolution, way, g)?;
     if resolution.pairs.is_empty() {
         return Ok(resolution.start);
@@ -168,7 +169,7 @@ fn go_on(
     ensures search { OnOk result ((g : ℕ) → IsSearch g engine.old → IsSearch g engine.new) }
 {
     let place = learn(kernel, engine, resolution, way, order, at)?;
-    jump(engine, kernel.pool(), way, order, place)?;
+    jump(engine, kernel.pool(), order, place)?;
     Ok(())
 }
 

@@ -64,7 +64,7 @@ impl Solver {
             kernel,
             engine: Engine::new(alloc, vars)?,
             resolution: Resolution::new(alloc, vars as usize + vars as usize)?,
-            way: Way::new(alloc, vars)?,
+            way: Way::new(alloc),
             order: Order::new(alloc, vars, codes)?,
             codes,
         })
@@ -112,7 +112,6 @@ impl Solver {
             &self.kernel,
             &mut self.engine,
             &self.resolution,
-            &mut self.way,
             &mut self.order,
         )?;
         let searched = run(
@@ -202,14 +201,13 @@ fn assume_alone(
 }
 
 // Takes all levels back. Each variable keeps its value to try it again.
-fn take_back(engine: &mut Engine, way: &mut Way, order: &mut Order)
+fn take_back(engine: &mut Engine, order: &mut Order)
     ensures level { level engine.new ≡ 0 }
     ensures clauses { engine.new.clauses ≡ engine.old.clauses }
     ensures vars { engine.new.vars ≡ engine.old.vars }
 {
     let end = engine.end_of(0);
     order.put_back(engine.trail(), end);
-    way.go_back(end);
     engine.back_to(0);
 }
 
@@ -218,7 +216,6 @@ fn prepare(
     kernel: &Kernel,
     engine: &mut Engine,
     resolution: &Resolution,
-    way: &mut Way,
     order: &mut Order,
 ) -> Result<(), Memory>
     requires kept { IsKept kernel.now.clauses engine.old resolution.now.marks.items }
@@ -229,7 +226,7 @@ fn prepare(
     ensures ready { OnOk result (IsReady kernel.now.clauses engine.new resolution.now.marks.items) }
     ensures search { OnOk result ((g : ℕ) → IsSearch g engine.new) }
 {
-    take_back(engine, way, order);
+    take_back(engine, order);
     order.begin();
     attach_rest(engine, kernel.pool())?;
     Ok(())

@@ -1,11 +1,13 @@
 //! The way of a closing: which marks to resolve away, without a walk over the whole trail.
-ghost use Rattle.std.specs.Prelude.{◌≡◌, ℕ, ◌*◌, ◌<◌, ◌++◌, length, slice_index_or, IfSome, None, OnOk, Some, true};
+ghost use Rattle.std.specs.Prelude.{◌≡◌, ℕ, ◌*◌, ◌<◌, ◌++◌, length, IfSome, OnOk, true};
 ghost use Rattle.clause_pool.specs.Literal.{complement};
 ghost use Rattle.clause_pool.specs.Clause.{has};
-ghost use Rattle.solver.specs.Marks.{marked, IsChain, AreFalseBut, AreTouched, false_at};
+ghost use Rattle.clause_pool.specs.Marks.{marked, AreTouched};
+ghost use Rattle.propagate.specs.Trail.{AreBelow};
+ghost use Rattle.solver.specs.Marks.{IsChain, AreFalseBut, IsNeeded};
 
 use crate::conflict::resolve_at;
-use crate::marks::{has_mark, is_marked};
+use crate::marks::is_marked;
 use crate::resolution::Resolution;
 use clause_pool::{Lit, Pool, Ref};
 use pb_base::Memory;
@@ -13,44 +15,30 @@ use propagate::Engine;
 use std::alloc::Global;
 use std::collections::BinaryHeap;
 
-/// The literals of the clauses that a chain was made of, and where they may stand on the trail, the latest place first. No
-/// contract speaks of the places.
+/// The literals of the clauses that a chain was made of, and the places of the trail where they stand, the latest
+/// first. No contract speaks of the places.
 #[derive(Drop)]
 pub(crate) struct Way {
     pub(crate) touched: Vec<Lit>,
-    // By variable.
-    places: Vec<usize>,
-    // The literals before this place of the trail are entered.
-    entered: usize,
     pub(crate) ahead: BinaryHeap<usize, Global>,
 }
 
 impl Way {
-    /// No literals, with room for so many variables.
-    pub(crate) fn new(alloc: Global, vars: u32) -> Result<Way, Memory> {
-        Ok(Way {
+    /// No literals. It takes no memory.
+    pub(crate) fn new(alloc: Global) -> Way {
+        Way {
             touched: Vec::new(alloc),
-            places: vec![in alloc; 0; vars as usize]?,
-            entered: 0,
             ahead: BinaryHeap::new(alloc),
-        })
-    }
-
-    /// The trail goes back to this place.
-    pub(crate) fn go_back(&mut self, end: usize) {
-        if end < self.entered {
-            self.entered = end;
         }
     }
 
     /// Begins with the literals of a clause, as far as they come before this place of the trail.
-    pub(crate) fn begin(&mut self, trail: &[Lit], lits: &[Lit], end: usize) -> Result<(), Memory>
+    pub(crate) fn begin(&mut self, engine: &Engine, lits: &[Lit], end: usize) -> Result<(), Memory>
+        requires { AreBelow lits.now (2 * engine.now.vars) }
         ensures { OnOk result (self.new.touched.items ≡ lits.now) }
     {
-        enter_places(&mut self.places, trail, self.entered);
-        self.entered = trail.len();
         self.ahead.clear();
-        put_ahead(&mut self.ahead, &self.places, &[], lits, end);
+        self.look_ahead(engine, &[], lits, end);
         self.touched.clear();
         self.touch(lits)?;
         Ok(())
@@ -65,38 +53,33 @@ impl Way {
     }
 
     /// Puts the places of literals that are not marked yet ahead, as far as they come before this one.
-    pub(crate) fn look_ahead(&mut self, marks: &[bool], lits: &[Lit], end: usize)
+    pub(crate) fn look_ahead(&mut self, engine: &Engine, marks: &[bool], lits: &[Lit], end: usize)
+        requires { AreBelow lits.now (2 * engine.now.vars) }
         ensures { self.new.touched.items ≡ self.old.touched.items }
     {
-        put_ahead(&mut self.ahead, &self.places, marks, lits, end);
-    }
-}
-
-// Enters the places of a trail from this one on.
-fn enter_places(places: &mut Vec<usize>, trail: &[Lit], from: usize) {
-    for place in from..trail.len() {
-        if let Some(entry) = places.get_mut(trail[place].var() as usize) {
-            *entry = place;
-        }
+        put_ahead(engine, &mut self.ahead, marks, lits, end);
     }
 }
 
 // Puts the places of literals that are not marked yet ahead, as far as they come before this one. What there is no
 // room for isn't found by the way.
+#[tactic(auto, using(propagate::proofs::TakeLaws::item_in))]
 fn put_ahead(
+    engine: &Engine,
     ahead: &mut BinaryHeap<usize, Global>,
-    places: &[usize],
     marks: &[bool],
     lits: &[Lit],
     end: usize,
-) {
+)
+    requires { AreBelow lits.now (2 * engine.now.vars) }
+{
     for lit in lits {
-        if has_mark(marks, *lit) {
+        if lit.is_marked(marks) {
             continue;
         }
-        if let Some(place) = places.get(lit.var() as usize)
-            && *place < end
-            && ahead.push(*place).is_err()
+        if let Some(place) = engine.place_of(lit.var())
+            && place < end
+            && ahead.push(place).is_err()
         {
             return;
         }
@@ -110,23 +93,21 @@ pub(crate) struct Needed {
     pub(crate) reason: Ref,
 }
 
-// The latest place ahead that is needed.
+/// The latest place ahead and before this one that is marked and has a reason.
 #[tactic(auto, using(crate::proofs::MarkLaws::false_below))]
-fn next_needed(
+pub(crate) fn next_needed(
     engine: &Engine,
     marks: &[bool],
     ahead: &mut BinaryHeap<usize, Global>,
+    end: usize,
 ) -> Option<Needed>
     requires table { length marks.now ≡ 2 * engine.now.vars }
-    ensures place { IfSome result (λ n. n.place < length engine.now.lits) }
-    ensures is_marked { IfSome result (λ n.
-        marked marks.now (false_at engine.now.lits n.place) ≡ true) }
-    ensures reason { IfSome result (λ n.
-        slice_index_or engine.now.reasons n.place None ≡ Some n.reason) }
+    ensures needed { IfSome result (IsNeeded engine.now marks.now) }
+    ensures before { IfSome result (λ n. n.place < end) }
 {
     let lits = engine.trail();
     while let Some(place) = ahead.pop() {
-        if place >= lits.len() || !is_marked(marks, lits, place) {
+        if place >= end || place >= lits.len() || !is_marked(marks, lits, place) {
             continue;
         }
         if let Some(reason) = engine.reason_at(place) {
@@ -156,11 +137,11 @@ pub(crate) fn resolve_ahead(
 {
     let lits = engine.trail();
     for _ in 0..lits.len() {
-        let Some(needed) = next_needed(engine, &resolution.marks, &mut way.ahead) else {
+        let Some(needed) = next_needed(engine, &resolution.marks, &mut way.ahead, lits.len()) else {
             return Ok(());
         };
         let clause = pool.lits(needed.reason);
-        way.look_ahead(&resolution.marks, clause, needed.place);
+        way.look_ahead(engine, &resolution.marks, clause, needed.place);
         way.touch(clause)?;
         resolve_at(engine, pool, resolution, needed.place, needed.reason)?;
     }
@@ -171,7 +152,7 @@ pub(crate) fn resolve_ahead(
 fn is_unmarked_but(marks: &[bool], lit: Lit, left: Lit) -> bool
     ensures { result ≡ true → marked marks.now lit ≡ true → lit ≡ left }
 {
-    lit == left || !has_mark(marks, lit)
+    lit == left || !lit.is_marked(marks)
 }
 
 /// Whether none of these literals is marked but one.

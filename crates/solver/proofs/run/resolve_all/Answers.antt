@@ -1,7 +1,8 @@
 use Rattle.std.proofs.Common.{◌≡◌, ℕ, ◌-◌, ◌<◌, ◌≤◌, Bool, List, length, take, false, sym, ap, subst, ◌∙◌, arith}
 use Rattle.std.proofs.lemmas.List.{take_all}
 use Rattle.clause_pool.specs.Literal.{complement}
-use Rattle.solver.specs.Marks.{AreFalseBut, marked, false_at}
+use Rattle.clause_pool.specs.Marks.{marked}
+use Rattle.solver.specs.Marks.{AreFalseBut, false_at}
 use Rattle.solver.proofs.MarkLaws.{skip_unmarked, skip_opened, step_resolved}
 use Rattle.solver.proofs.LearnLaws.{opened_here}
 use Rattle.solver.proofs.run.resolve_all.Goals as goal

@@ -1,6 +1,6 @@
 use Rattle.std.proofs.Common.{◌≡◌, ℕ, take, true}
 use Rattle.clause_pool.specs.Clause.{has}
-use Rattle.solver.specs.Marks.{marked}
+use Rattle.clause_pool.specs.Marks.{marked}
 use Rattle.solver.proofs.way.are_unmarked_but.Given as goal
 
 abbrev pub invariant-loop-lit : goal.invariant-loop-lit

@@ -1,7 +1,8 @@
 use Rattle.std.proofs.Common.{◌≡◌, ℕ, ◌*◌, List, length}
 use Rattle.propagate.specs.Trail.{Trail}
 use Rattle.solver.specs.declared.resolution.Resolution.{Resolution}
-use Rattle.solver.specs.Marks.{IsChain, AreFalseBut, AreTouched}
+use Rattle.clause_pool.specs.Marks.{AreTouched}
+use Rattle.solver.specs.Marks.{IsChain, AreFalseBut}
 use Rattle.solver.proofs.way.resolve_ahead.Given as goal
 
 pub record Kept (clauses : List (List ℕ)) (t : Trail) (r : Resolution) (touched : List ℕ) (left : ℕ) : Type 0 where
