@@ -16,7 +16,7 @@ use crate::turns::Turns;
 use book_model::Book;
 use book_text::read_book;
 use desk_words::Reply;
-use findings::{Ask, check_book};
+use findings::{Ask, report_book};
 use order_desk::{Answer, Event, SharedBook};
 use pb_base::{Body, Fail, Id, Memory};
 use pb_gate::Gate;
@@ -83,11 +83,11 @@ fn check_read(alloc: Global, book: &Book, budget: u32) -> Said
     requires most { budget ≤ MOST_BUDGET }
     ensures { (result ≡ plain Reply.Memory) ⊎ by_limits (slices_within book.now) book.now budget result }
 {
-    match check_book(alloc, book, budget, Ask::All) {
-        Ok(checked) => match report_text(alloc, book, &checked.report) {
+    match report_book(alloc, book, budget, Ask::All) {
+        Ok(report) => match report_text(alloc, book, &report) {
             Ok(text) => Said {
                 reply: Reply::Report(text),
-                notes: checked.report,
+                notes: report,
             },
             Err(Memory) => Said::plain(alloc, Reply::Memory),
         },

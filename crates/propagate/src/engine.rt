@@ -118,16 +118,6 @@ impl Engine {
         Some(self.assignment.level_at(place) as u32)
     }
 
-    /// The place of a variable's literal on the trail; none where it is open.
-    pub fn place_of(&self, var: u32) -> Option<usize>
-        requires { var < self.now.vars }
-        ensures within { IfSome result (λ place. place < length self.now.lits) }
-        ensures variable { IfSome result (λ place. slice_index self.now.lits place / 2 ≡ var) }
-        ensures open_variable { IfNone result (IsOpen self.now var) }
-    {
-        self.assignment.place_of(var)
-    }
-
     /// The clause that made the literal at this place of the trail true.
     pub fn reason_at(&self, place: usize) -> Option<Ref>
         requires { place < length self.now.lits }

@@ -154,7 +154,6 @@ impl Solver {
             &self.kernel,
             &mut self.engine,
             &self.resolution,
-            &mut self.way,
             &mut self.order,
             implied.lit,
         )?;
@@ -179,7 +178,6 @@ fn assume_alone(
     kernel: &Kernel,
     engine: &mut Engine,
     resolution: &Resolution,
-    way: &mut Way,
     order: &mut Order,
     lit: Lit,
 ) -> Result<(), Memory>
@@ -191,7 +189,7 @@ fn assume_alone(
     if begins_with(engine, lit) {
         return Ok(());
     }
-    prepare(kernel, engine, resolution, way, order)?;
+    prepare(kernel, engine, resolution, order)?;
     if lit.var() >= engine.vars() || engine.value(lit).is_some() {
         return Ok(());
     }
