@@ -13,14 +13,14 @@ use crate::sets::Sets;
 use crate::units::Units;
 use book_model::{Book, Slice};
 use clause_pool::Ref;
-use clausify::{Asked, Question};
+use clausify::Asked;
 use pb_base::Memory;
 use solver::{Answer, Solver};
 use std::alloc::Global;
 
-/// What comes of a question. A set that was found before may answer it, or a refutation by propagation alone; else the solver
-/// searches, and a set that it finds is kept for the questions behind it. `usages` are the slice's questions of single
-/// variants, `units` what short clauses say of the goals.
+/// What comes of a question. A set that was found before may answer it; else the solver does, and a set that it finds is
+/// kept for the questions behind it. `usages` are the slice's questions of single variants, `units` what short clauses say of
+/// the goals.
 pub(crate) fn answer(
     alloc: Global,
     book: &Book,
@@ -50,10 +50,6 @@ pub(crate) fn answer(
         None => {}
     }
     match answer_before(book, slice, effort, asked, solver, units) {
-        Some(outcome) => return Ok(outcome),
-        None => {}
-    }
-    match answer_implied(book, slice, effort, asked, solver, units)? {
         Some(outcome) => return Ok(outcome),
         None => {}
     }
@@ -99,36 +95,6 @@ fn answer_by_search(
             learnt,
         })),
     }
-}
-
-// What comes of a question for two variants whose formulas exclude each other by the propagation of the first.
-fn answer_implied(
-    book: &Book,
-    slice: &Slice,
-    effort: Effort,
-    asked: &Asked,
-    solver: &mut Solver,
-    units: &Units,
-) -> Result<Option<Outcome>, Memory>
-    requires facts { SliceFacts book.now slice.now }
-    requires asked { IsAsked book.now slice.now solver.old.vars asked.now }
-    requires over { IsOver book.now slice.now solver.old }
-    ensures extends { Extends solver.old.kernel solver.new.kernel }
-    ensures vars { solver.new.vars ≡ solver.old.vars }
-    ensures over { IsOver book.now slice.now solver.new }
-    ensures outcome { IfOk result (λ found. IfSome found (IsOutcome (inquiry book.now effort) slice.now
-        solver.new.kernel.clauses asked.now)) }
-{
-    if !matches!(asked.question, Question::Ambiguous { .. }) {
-        return Ok(None);
-    }
-    let Some(implied) = units.implied(solver.kernel().pool(), asked.goal) else {
-        return Ok(None);
-    };
-    let Some(at) = solver.refute(asked.goal, implied)? else {
-        return Ok(None);
-    };
-    Ok(Some(closed_outcome(book, slice, effort, asked, solver, at)))
 }
 
 // What comes of a question that was refuted before, if it was.

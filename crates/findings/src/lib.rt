@@ -12,6 +12,7 @@ mod guide;
 mod laws;
 mod moves;
 mod outcome;
+mod pairs;
 mod report;
 mod sets;
 mod slice;

@@ -43,6 +43,19 @@ impl Units {
         refuting_unit(kernel, goal, at)
     }
 
+    /// Whether none is known that refutes a goal.
+    pub(crate) fn is_open(&self, goal: Lit) -> bool {
+        place_in(&self.refuting, goal).is_none()
+    }
+
+    /// A clause at this place refutes a goal.
+    pub(crate) fn put(&mut self, goal: Lit, at: Ref) {
+        match self.refuting.get_mut(goal.var() as usize) {
+            Some(place) => *place = Some(at),
+            None => {}
+        }
+    }
+
     /// A literal that a goal implies by one clause.
     pub(crate) fn implied(&self, pool: &Pool, goal: Lit) -> Option<Implied> {
         let by = place_in(&self.implying, goal)?;

@@ -77,6 +77,13 @@ impl Solver {
         &self.kernel
     }
 
+    /// The number of variables.
+    pub fn vars(&self) -> u32
+        ensures { result ≡ self.now.vars }
+    {
+        self.engine.vars()
+    }
+
     /// Gives the kernel back.
     pub fn into_kernel(self) -> Kernel
         ensures { result ≡ self.kernel }
