@@ -94,6 +94,7 @@ pub(crate) struct Needed {
 }
 
 /// The latest place ahead and before this one that is marked and has a reason.
+#[inline(always)]
 #[tactic(auto, using(crate::proofs::MarkLaws::false_below))]
 pub(crate) fn next_needed(
     engine: &Engine,
