@@ -4,6 +4,7 @@
 --     AreFalseBut lits marks x      the same, but for one literal
 --     IsMarked old new c            the literals of a clause are marked besides
 --     IsResolved old new x c        what a resolution on a literal with a clause does to the marks
+--     IsNeeded t marks needed       a false literal is marked and has a reason
 --     IsUip t marks at              one literal of the current level is marked, the others are false before
 use Rattle.std.specs.Prelude.{◌≡◌, ◌⊎◌, ℕ, ◌+◌, ◌-◌, ◌<◌, ◌≤◌, Bool, true, false, List, [], None, Some, Ok, length, take, slice_index, slice_index_or}
 use Rattle.clause_pool.specs.Literal.{complement}
@@ -12,7 +13,7 @@ use Rattle.clause_pool.specs.Chain.{chain}
 use Rattle.clause_pool.specs.Marks.{marked}
 use Rattle.propagate.specs.Trail.{Trail, level, end_of, IsFalse, IsReason}
 use Rattle.solver.specs.declared.resolution.Resolution.{Resolution}
-use Rattle.solver.specs.declared.way.Needed.{Needed}
+use Rattle.solver.specs.declared.conflict.Needed.{Needed}
 
 abbrev pub AreClear : List Bool → Type 0
 AreClear marks = (l : ℕ) → marked marks l ≡ false

@@ -5,9 +5,9 @@ ghost use Rattle.clause_pool.specs.Marks.{marked};
 ghost use Rattle.propagate.specs.Trail.{level};
 ghost use Rattle.solver.specs.Marks.{IsChain, IsUip, IsNeeded};
 
-use crate::conflict::resolve_at;
+use crate::conflict::{Needed, resolve_at};
 use crate::resolution::Resolution;
-use crate::way::{Needed, Way, next_needed};
+use crate::way::{Way, next_needed};
 use clause_pool::{Lit, Pool};
 use pb_base::Memory;
 use propagate::Engine;
@@ -69,7 +69,7 @@ pub(crate) fn minimize(
             pool.lits(needed.reason),
             needed.place,
         );
-        resolve_at(engine, pool, resolution, needed.place, needed.reason)?;
+        resolve_at(engine, pool, resolution, needed)?;
     }
     Ok(())
 }

@@ -6,10 +6,10 @@ ghost use Rattle.clause_pool.specs.Marks.{marked, AreTouched};
 ghost use Rattle.propagate.specs.Trail.{AreBelow};
 ghost use Rattle.solver.specs.Marks.{IsChain, AreFalseBut, IsNeeded};
 
-use crate::conflict::resolve_at;
+use crate::conflict::{Needed, resolve_at};
 use crate::marks::is_marked;
 use crate::resolution::Resolution;
-use clause_pool::{Lit, Pool, Ref};
+use clause_pool::{Lit, Pool};
 use pb_base::Memory;
 use propagate::Engine;
 use std::alloc::Global;
@@ -86,13 +86,6 @@ fn put_ahead(
     }
 }
 
-/// A false literal that is marked and has a reason, by its place of the trail.
-#[derive(Clone, Copy)]
-pub(crate) struct Needed {
-    pub(crate) place: usize,
-    pub(crate) reason: Ref,
-}
-
 /// The latest place ahead and before this one that is marked and has a reason.
 #[inline(always)]
 #[tactic(auto, using(crate::proofs::MarkLaws::false_below))]
@@ -144,7 +137,7 @@ pub(crate) fn resolve_ahead(
         let clause = pool.lits(needed.reason);
         way.look_ahead(engine, &resolution.marks, clause, needed.place);
         way.touch(clause)?;
-        resolve_at(engine, pool, resolution, needed.place, needed.reason)?;
+        resolve_at(engine, pool, resolution, needed)?;
     }
     Ok(())
 }
