@@ -99,7 +99,7 @@ fn others_marked(marks: &[bool], lits: &[Lit], left_out: Lit) -> bool
     true
 }
 
-// Whether a false literal is needless: before this place of the trail, or where all others of its reason are marked.
+// Whether a false literal is needless: before `fixed`, or where all others of its reason are marked.
 fn is_needless(engine: &Engine, pool: &Pool, marks: &[bool], at: Resolvable, fixed: usize) -> bool
     requires attached { pool.now.clauses ≡ engine.now.clauses }
     requires resolvable { IsResolvable engine.now marks.now at }
@@ -109,7 +109,7 @@ fn is_needless(engine: &Engine, pool: &Pool, marks: &[bool], at: Resolvable, fix
     at.place < fixed || others_marked(marks, pool.lits(at.reason), lit)
 }
 
-/// The latest place ahead and before `end` that is needless; what comes before `fixed` is.
+/// The latest place ahead and before `end` that is marked, has a reason and is needless.
 #[tactic(auto, using(crate::proofs::MarkLaws::false_below))]
 pub(crate) fn next_needless(
     engine: &Engine,
@@ -159,8 +159,10 @@ pub(crate) fn resolve_ahead(
     ensures touched { OnOk result (AreTouched resolution.new.marks.items way.new.touched.items) }
 {
     let end = engine.trail().len();
+    // Each literal that has a reason goes, whatever else is marked.
+    let fixed = end;
     for _ in 0..end {
-        let Some(at) = next_needless(engine, pool, &resolution.marks, &mut way.ahead, end, end)
+        let Some(at) = next_needless(engine, pool, &resolution.marks, &mut way.ahead, fixed, end)
         else {
             return Ok(());
         };
