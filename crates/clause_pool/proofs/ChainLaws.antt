@@ -1,12 +1,12 @@
 -- What holds of resolution: a resolvent is a clause, and it follows.
-use Rattle.std.proofs.Common.{◌≡◌, ℕ, zero, suc, ◌+◌, ◌≤◌, Bool, true, false, not, ◌||◌, cond, List, [], ◌∷◌, ◌++◌, length, get_or, take, Option, Some, None, Result, Ok, Err, refl, sym, ap, subst, ◌∙◌, arith, inl, inr}
+use Rattle.std.proofs.Common.{◌≡◌, ℕ, zero, suc, ◌+◌, ◌<◌, ◌≤◌, Bool, true, false, not, ◌||◌, cond, List, [], ◌∷◌, ◌++◌, length, get_or, take, Option, Some, None, Result, Ok, Err, refl, sym, ap, subst, ◌∙◌, arith, inl, inr}
 use Rattle.std.specs.List.{AllByRecursion, slice_get}
-use Rattle.std.proofs.lemmas.Bool.{cases_Bool, false≢true, or_left, or_right, and_from, cond-true}
-use Rattle.std.proofs.lemmas.List.{take_more, take_all}
+use Rattle.std.proofs.lemmas.Bool.{cases_Bool, cases_eq, false≢true, or_left, or_right, and_from, cond-true}
+use Rattle.std.proofs.lemmas.List.{take_more, take_all, take-append-le, length_push, get_or_push, get_or_append_left}
 use Rattle.clause_pool.specs.Literal.{complement, is_true}
 use Rattle.clause_pool.specs.Clause.{has, without, IsRising, clause_true, Sat, Follows, IsBelow, AreBelow, KeepsBounds}
 use Rattle.clause_pool.specs.Chain.{resolved, step_on, chain_from, started, chain}
-use Rattle.clause_pool.specs.Derivation.{Derivation, IsDerived, AllFollow}
+use Rattle.clause_pool.specs.Derivation.{Derivation, IsDerived, AllFollow, grown}
 use Rattle.clause_pool.specs.declared.chain.Pair.{Pair}
 use Rattle.clause_pool.specs.declared.chain.StepFault.{StepFault}
 use Rattle.clause_pool.proofs.LiteralLaws.{is_true-complement}
@@ -121,6 +121,49 @@ derived_follow k d =
     let counted = d.clauses_counted in
     subst (λ (cs : List (List ℕ)). AllByRecursion (Follows (take k.given k.clauses)) cs)
     (take_all (k.given + length k.starts) k.clauses (omega arith)) (first_follow k d (length k.starts) (omega arith))
+
+same_chain : (cs ds : List (List ℕ)) (s t : ℕ) (ps qs : List Pair) (x y : List ℕ) → cs ≡ ds → s ≡ t → ps ≡ qs → x ≡ y → chain ds t qs ≡ Ok y → chain cs s ps ≡ Ok x
+same_chain cs ds s t ps qs x y same_clauses same_start same_pairs same made =
+    ap (λ (clauses : List (List ℕ)). chain clauses s ps) same_clauses ∙ ap (λ (start : ℕ). chain ds start ps) same_start
+    ∙ ap (chain ds t) same_pairs ∙ made ∙ ap Ok (sym same)
+
+-- one more clause, the resolvent of a chain over those before it
+derived_more : (k : Derivation) (start : ℕ) (pairs : List Pair) (c : List ℕ) → IsDerived k → 0 < length pairs → chain k.clauses start pairs ≡ Ok c → IsDerived (grown k start pairs c)
+derived_more k start pairs c d some made =
+    let counted = d.clauses_counted in
+    let same = d.pairs_counted in
+    record {
+      clauses_counted = omega (arith, length_push k.clauses c, length_push k.starts start);
+      pairs_counted = omega (arith, length_push k.pairs pairs, length_push k.starts start);
+      pairs_there = λ n low. elim (cases_eq n (length k.starts)) [
+        | inl e ↦ subst (λ (ps : List Pair). 0 < length ps) (sym (get_or_push k.pairs pairs [] n (omega arith))) some
+        | inr other ↦
+            let before : n < length k.starts = omega (arith, low, other, length_push k.starts start) in
+            subst (λ (ps : List Pair). 0 < length ps) (sym (get_or_append_left k.pairs (pairs ∷ []) [] n (omega arith))) (d.pairs_there n before)
+      ];
+      resolvents = λ n low. elim (cases_eq n (length k.starts)) [
+        | inl e ↦
+            same_chain _ _ _ _ _ _ _ _
+            (take-append-le (k.given + n) k.clauses (c ∷ []) (omega arith) ∙ take_all (k.given + n) k.clauses (omega arith))
+            (get_or_push k.starts start 0 n (omega arith)) (get_or_push k.pairs pairs [] n (omega arith))
+            (get_or_push k.clauses c [] (k.given + n) (omega arith)) made
+        | inr other ↦
+            let before : n < length k.starts = omega (arith, low, other, length_push k.starts start) in
+            same_chain _ _ _ _ _ _ _ _
+            (take-append-le (k.given + n) k.clauses (c ∷ []) (omega arith))
+            (get_or_append_left k.starts (start ∷ []) 0 n before) (get_or_append_left k.pairs (pairs ∷ []) [] n (omega arith))
+            (get_or_append_left k.clauses (c ∷ []) [] (k.given + n) (omega arith)) (d.resolvents n before)
+      ];
+    }
+
+-- the same of lists that are known by equations
+pub derived_grown : (k : Derivation) (start : ℕ) (pairs : List Pair) (c : List ℕ) (clauses : List (List ℕ)) (starts : List ℕ) (all : List (List Pair)) → IsDerived k → 0 < length pairs → chain k.clauses start pairs ≡ Ok c
+    → clauses ≡ k.clauses ++ c ∷ [] → starts ≡ k.starts ++ start ∷ [] → all ≡ k.pairs ++ pairs ∷ [] → IsDerived (record { given = k.given; clauses = clauses; starts = starts; pairs = all })
+derived_grown k start pairs c clauses starts all d some made same_clauses same_starts same_pairs =
+    subst (λ (cs : List (List ℕ)). IsDerived (record { given = k.given; clauses = cs; starts = starts; pairs = all })) (sym same_clauses)
+    (subst (λ (ss : List ℕ). IsDerived (record { given = k.given; clauses = k.clauses ++ c ∷ []; starts = ss; pairs = all })) (sym same_starts)
+    (subst (λ (ps : List (List Pair)). IsDerived (record { given = k.given; clauses = k.clauses ++ c ∷ []; starts = k.starts ++ start ∷ []; pairs = ps })) (sym same_pairs)
+    (derived_more k start pairs c d some made)))
 
 -- the pairs of a chain are applied one part after another
 pub chain_from-append : (clauses : List (List ℕ)) (place : ℕ) (first second : List Pair) (before : Result (List ℕ) StepFault) → chain_from clauses place (first ++ second) before ≡ chain_from clauses (place + length first) second (chain_from clauses place first before)

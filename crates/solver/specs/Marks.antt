@@ -4,6 +4,7 @@
 --     AreFalseBut lits marks x      the same, but for one literal
 --     IsMarked old new c            the literals of a clause are marked besides
 --     IsResolved old new x c        what a resolution on a literal with a clause does to the marks
+--     IsResolvable t marks at       a false literal is marked and has a reason
 --     IsUip t marks at              one literal of the current level is marked, the others are false before
 use Rattle.std.specs.Prelude.{◌≡◌, ◌⊎◌, ℕ, ◌+◌, ◌-◌, ◌<◌, ◌≤◌, Bool, true, false, List, [], None, Some, Ok, length, take, slice_index, slice_index_or}
 use Rattle.clause_pool.specs.Literal.{complement}
@@ -12,7 +13,7 @@ use Rattle.clause_pool.specs.Chain.{chain}
 use Rattle.clause_pool.specs.Marks.{marked}
 use Rattle.propagate.specs.Trail.{Trail, level, end_of, IsFalse, IsReason}
 use Rattle.solver.specs.declared.resolution.Resolution.{Resolution}
-use Rattle.solver.specs.declared.way.Needed.{Needed}
+use Rattle.solver.specs.declared.conflict.Resolvable.{Resolvable}
 
 abbrev pub AreClear : List Bool → Type 0
 AreClear marks = (l : ℕ) → marked marks l ≡ false
@@ -60,10 +61,10 @@ pub record IsResolvedAt (t : Trail) (at : ℕ) (old new : List Bool) : Type 0 wh
   pub resolved : IsResolved old new (false_at t.lits at) (slice_index_or t.clauses reason [])
 
 -- a false literal is marked and has a reason
-pub record IsNeeded (t : Trail) (marks : List Bool) (needed : Needed) : Type 0 where
-  pub within : needed.place < length t.lits
-  pub is_in : marked marks (false_at t.lits needed.place) ≡ true
-  pub reason_is : slice_index_or t.reasons needed.place None ≡ Some needed.reason
+pub record IsResolvable (t : Trail) (marks : List Bool) (at : Resolvable) : Type 0 where
+  pub within : at.place < length t.lits
+  pub is_in : marked marks (false_at t.lits at.place) ≡ true
+  pub reason_is : slice_index_or t.reasons at.place None ≡ Some at.reason
 
 -- the latest place from one place on and before another whose false literal is marked
 pub record IsTop (lits : List ℕ) (marks : List Bool) (from end k : ℕ) : Type 0 where

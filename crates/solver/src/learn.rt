@@ -10,7 +10,7 @@ ghost use Rattle.solver.specs.Marks.{IsChain, IsTop, IsUip, NoneMarked, AreFalse
 ghost use Rattle.solver.specs.Search.{IsReady, IsKept, IsLearning, IsAppended, IsLesson};
 ghost use Rattle.solver.specs.Solver.{Extends};
 
-use crate::conflict::resolve_at;
+use crate::conflict::{Resolvable, resolve_at};
 use crate::marks::{last_marked, unmark};
 use crate::minimize::minimize;
 use crate::order::Order;
@@ -68,7 +68,7 @@ pub(crate) fn find_uip(
         let clause = pool.lits(reason);
         order.bump_all(clause);
         way.look_ahead(engine, &resolution.marks, clause, start);
-        resolve_at(engine, pool, resolution, place, reason)?;
+        resolve_at(engine, pool, resolution, Resolvable { place, reason })?;
         let Some(next) = last_marked(&resolution.marks, lits, below, place) else {
             unreachable!();
         };

@@ -1,39 +1,14 @@
 //! A learnt clause is made shorter: literals go that the others make needless.
-ghost use Rattle.std.specs.Prelude.{◌≡◌, ℕ, ◌+◌, ◌*◌, ◌-◌, ◌<◌, ◌≤◌, length, take, slice_index_or, Some, None, OnOk, IfSome, true};
-ghost use Rattle.clause_pool.specs.Clause.{has};
-ghost use Rattle.clause_pool.specs.Marks.{marked};
+ghost use Rattle.std.specs.Prelude.{◌≡◌, ◌*◌, ◌<◌, length, OnOk};
 ghost use Rattle.propagate.specs.Trail.{level};
-ghost use Rattle.solver.specs.Marks.{IsChain, IsUip, IsNeeded};
+ghost use Rattle.solver.specs.Marks.{IsChain, IsUip};
 
 use crate::conflict::resolve_at;
 use crate::resolution::Resolution;
-use crate::way::{Needed, Way, next_needed};
-use clause_pool::{Lit, Pool};
+use crate::way::{Way, next_needless};
+use clause_pool::Pool;
 use pb_base::Memory;
 use propagate::Engine;
-
-// Whether each literal of a clause but this one is marked.
-#[tactic(auto, using(propagate::proofs::TakeLaws::item_in))]
-fn others_marked(marks: &[bool], lits: &[Lit], left_out: Lit) -> bool
-    requires { (l : ℕ) → has lits.now l ≡ true → l < length marks.now }
-{
-    for lit in lits {
-        if *lit != left_out && !marks[lit.code() as usize] {
-            return false;
-        }
-    }
-    true
-}
-
-// Whether a false literal is needless: at level 0, or where all others of its reason are marked.
-fn is_needless(engine: &Engine, pool: &Pool, marks: &[bool], needed: Needed, fixed: usize) -> bool
-    requires attached { pool.now.clauses ≡ engine.now.clauses }
-    requires needed { IsNeeded engine.now marks.now needed }
-    requires table { length marks.now ≡ 2 * engine.now.vars }
-{
-    let lit = engine.trail()[needed.place];
-    needed.place < fixed || others_marked(marks, pool.lits(needed.reason), lit)
-}
 
 /// Resolves needless literals of the levels before the current one away, by the way that led to the clause.
 #[tactic(auto, using(crate::proofs::MarkLaws::uip_resolved))]
@@ -57,19 +32,18 @@ pub(crate) fn minimize(
     let fixed = engine.end_of(0);
     let start = engine.end_of(engine.level() - 1);
     for _ in 0..start {
-        let Some(needed) = next_needed(engine, &resolution.marks, &mut way.ahead, start) else {
+        let Some(at) = next_needless(
+            engine,
+            pool,
+            &resolution.marks,
+            &mut way.ahead,
+            fixed,
+            start,
+        ) else {
             return Ok(());
         };
-        if !is_needless(engine, pool, &resolution.marks, needed, fixed) {
-            continue;
-        }
-        way.look_ahead(
-            engine,
-            &resolution.marks,
-            pool.lits(needed.reason),
-            needed.place,
-        );
-        resolve_at(engine, pool, resolution, needed.place, needed.reason)?;
+        way.look_ahead(engine, &resolution.marks, pool.lits(at.reason), at.place);
+        resolve_at(engine, pool, resolution, at)?;
     }
     Ok(())
 }

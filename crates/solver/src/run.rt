@@ -9,7 +9,7 @@ ghost use Rattle.solver.specs.Marks.{IsChain, AreClear, AreFalseBut, false_at};
 ghost use Rattle.solver.specs.Search.{IsReady, IsKept, IsSearch, IsConflict, IsLearning, IsFull, AllNew};
 ghost use Rattle.solver.specs.Solver.{Extends, ClosedBy};
 
-use crate::conflict::resolve_at;
+use crate::conflict::{Resolvable, resolve_at};
 use crate::descend::descend;
 use crate::jump::jump;
 use crate::learn::{append, learn};
@@ -59,7 +59,7 @@ fn resolve_all(
         let Some(reason) = engine.reason_at(place) else {
             continue;
         };
-        resolve_at(engine, pool, resolution, place, reason)?;
+        resolve_at(engine, pool, resolution, Resolvable { place, reason })?;
     }
     Ok(())
 }

@@ -4,12 +4,12 @@ ghost use Rattle.clause_pool.specs.Literal.{complement};
 ghost use Rattle.clause_pool.specs.Clause.{has};
 ghost use Rattle.clause_pool.specs.Marks.{marked, AreTouched};
 ghost use Rattle.propagate.specs.Trail.{AreBelow};
-ghost use Rattle.solver.specs.Marks.{IsChain, AreFalseBut, IsNeeded};
+ghost use Rattle.solver.specs.Marks.{IsChain, AreFalseBut, IsResolvable};
 
-use crate::conflict::resolve_at;
+use crate::conflict::{Resolvable, resolve_at};
 use crate::marks::is_marked;
 use crate::resolution::Resolution;
-use clause_pool::{Lit, Pool, Ref};
+use clause_pool::{Lit, Pool};
 use pb_base::Memory;
 use propagate::Engine;
 use std::alloc::Global;
@@ -86,32 +86,55 @@ fn put_ahead(
     }
 }
 
-/// A false literal that is marked and has a reason, by its place of the trail.
-#[derive(Clone, Copy)]
-pub(crate) struct Needed {
-    pub(crate) place: usize,
-    pub(crate) reason: Ref,
+// Whether each literal of a clause but this one is marked.
+#[tactic(auto, using(propagate::proofs::TakeLaws::item_in))]
+fn others_marked(marks: &[bool], lits: &[Lit], left_out: Lit) -> bool
+    requires { (l : ℕ) → has lits.now l ≡ true → l < length marks.now }
+{
+    for lit in lits {
+        if *lit != left_out && !marks[lit.code() as usize] {
+            return false;
+        }
+    }
+    true
 }
 
-/// The latest place ahead and before this one that is marked and has a reason.
+// Whether a false literal is needless: before `fixed`, or where all others of its reason are marked.
+fn is_needless(engine: &Engine, pool: &Pool, marks: &[bool], at: Resolvable, fixed: usize) -> bool
+    requires attached { pool.now.clauses ≡ engine.now.clauses }
+    requires resolvable { IsResolvable engine.now marks.now at }
+    requires table { length marks.now ≡ 2 * engine.now.vars }
+{
+    let lit = engine.trail()[at.place];
+    at.place < fixed || others_marked(marks, pool.lits(at.reason), lit)
+}
+
+/// The latest place ahead and before `end` that is marked, has a reason and is needless.
 #[tactic(auto, using(crate::proofs::MarkLaws::false_below))]
-pub(crate) fn next_needed(
+pub(crate) fn next_needless(
     engine: &Engine,
+    pool: &Pool,
     marks: &[bool],
     ahead: &mut BinaryHeap<usize, Global>,
+    fixed: usize,
     end: usize,
-) -> Option<Needed>
+) -> Option<Resolvable>
+    requires attached { pool.now.clauses ≡ engine.now.clauses }
     requires table { length marks.now ≡ 2 * engine.now.vars }
-    ensures needed { IfSome result (IsNeeded engine.now marks.now) }
-    ensures before { IfSome result (λ n. n.place < end) }
+    ensures resolvable { IfSome result (IsResolvable engine.now marks.now) }
+    ensures before { IfSome result (λ at. at.place < end) }
 {
     let lits = engine.trail();
     while let Some(place) = ahead.pop() {
         if place >= end || place >= lits.len() || !is_marked(marks, lits, place) {
             continue;
         }
-        if let Some(reason) = engine.reason_at(place) {
-            return Some(Needed { place, reason });
+        let Some(reason) = engine.reason_at(place) else {
+            continue;
+        };
+        let at = Resolvable { place, reason };
+        if is_needless(engine, pool, marks, at, fixed) {
+            return Some(at);
         }
     }
     None
@@ -135,15 +158,18 @@ pub(crate) fn resolve_ahead(
     ensures others_false { OnOk result (AreFalseBut engine.now.lits resolution.new.marks.items left) }
     ensures touched { OnOk result (AreTouched resolution.new.marks.items way.new.touched.items) }
 {
-    let lits = engine.trail();
-    for _ in 0..lits.len() {
-        let Some(needed) = next_needed(engine, &resolution.marks, &mut way.ahead, lits.len()) else {
+    let end = engine.trail().len();
+    // Each literal that has a reason goes, whatever else is marked.
+    let fixed = end;
+    for _ in 0..end {
+        let Some(at) = next_needless(engine, pool, &resolution.marks, &mut way.ahead, fixed, end)
+        else {
             return Ok(());
         };
-        let clause = pool.lits(needed.reason);
-        way.look_ahead(engine, &resolution.marks, clause, needed.place);
+        let clause = pool.lits(at.reason);
+        way.look_ahead(engine, &resolution.marks, clause, at.place);
         way.touch(clause)?;
-        resolve_at(engine, pool, resolution, needed.place, needed.reason)?;
+        resolve_at(engine, pool, resolution, at)?;
     }
     Ok(())
 }

@@ -3,4 +3,4 @@ use Rattle.solver.proofs.minimize.minimize.Goals as goal
 
 pub lits-requires : goal.lits-requires
 lits-requires c =
-    reason_attached c.args.engine.now c.args.pool.now.clauses c.in-Some.needed.place c.in-Some.needed.reason c.trail.ensures.trail c.in-Some.ensures.needed.within c.in-Some.ensures.needed.reason_is c.requires.attached
+    reason_attached c.args.engine.now c.args.pool.now.clauses c.in-Some.at.place c.in-Some.at.reason c.trail.ensures.trail c.in-Some.ensures.resolvable.within c.in-Some.ensures.resolvable.reason_is c.requires.attached
