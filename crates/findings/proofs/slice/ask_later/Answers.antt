@@ -37,16 +37,16 @@ loop-place-preserved c =
     let own : Extends c.loop-place.solver.kernel c.answer.new.solver.kernel =
     extends_further c.loop-place.solver.kernel c.refute_pairs.new.solver.kernel c.answer.new.solver.kernel c.refute_pairs.ensures.extends c.answer.ensures.extends in
     record {
-  extends = extends_further c.args.solver.now.kernel c.loop-place.solver.kernel c.answer.new.solver.kernel c.loop-place.invariant.extends own;
-  over = c.answer.ensures.over;
-  vars = c.answer.ensures.vars ∙ c.refute_pairs.ensures.vars ∙ c.loop-place.invariant.vars;
-  sets = c.answer.ensures.sets;
-  told =
-      told_next (inquiry c.args.book.now c.args.effort) c.args.slice.now c.args.later.now c.loop-place.place c.index-later-place.result c.loop-place.told c.put.new.self
-      c.loop-place.solver.kernel c.answer.new.solver.kernel c.in_ok-outcome.outcome
-      (omega arith) c.index-later-place.is (sym c.is_asked.ensures ∙ c.if-not-is_asked.false) c.loop-place.invariant.told own
-      c.in_ok-outcome.ensures.outcome c.in_ok-put.ensures.notes c.in_ok-put.ensures.closed;
-}
+      extends = extends_further c.args.solver.now.kernel c.loop-place.solver.kernel c.answer.new.solver.kernel c.loop-place.invariant.extends own;
+      over = c.answer.ensures.over;
+      vars = c.answer.ensures.vars ∙ c.refute_pairs.ensures.vars ∙ c.loop-place.invariant.vars;
+      sets = c.answer.ensures.sets;
+      told =
+          told_next (inquiry c.args.book.now c.args.effort) c.args.slice.now c.args.later.now c.loop-place.place c.index-later-place.result c.loop-place.told c.put.new.self
+          c.loop-place.solver.kernel c.answer.new.solver.kernel c.in_ok-outcome.outcome
+          (omega arith) c.index-later-place.is (sym c.is_asked.ensures ∙ c.if-not-is_asked.false) c.loop-place.invariant.told own
+          c.in_ok-outcome.ensures.outcome c.in_ok-put.ensures.notes c.in_ok-put.ensures.closed;
+    }
 
 pub returns-clause-told : goal.returns-clause-told
 returns-clause-told c =
