@@ -11,7 +11,6 @@ use pb_base::Memory;
 use propagate::Engine;
 
 /// Resolves needless literals of the levels before the current one away, by the way that led to the clause.
-#[tactic(auto, using(crate::proofs::MarkLaws::uip_resolved))]
 pub(crate) fn minimize(
     engine: &Engine,
     pool: &Pool,
