@@ -1,5 +1,5 @@
 //! Chains that may have a resolvent, and clauses that may refute a goal.
-ghost use Rattle.std.specs.Prelude.{◌≡◌, IfSome};
+ghost use Rattle.std.specs.Prelude.{IfSome};
 ghost use Rattle.solver.specs.Solver.{ClosedBy, Grows};
 
 use clause_pool::{Kernel, Lit, Pair, Ref};

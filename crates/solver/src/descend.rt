@@ -1,5 +1,5 @@
 //! Down the levels, until a clause is false or every variable has a value.
-ghost use Rattle.std.specs.Prelude.{◌≡◌, ◌*◌, ◌<◌, length, IfOk, IfSome, OnOk, Ok, None};
+ghost use Rattle.std.specs.Prelude.{◌≡◌, ◌*◌, ◌<◌, IfOk, IfSome, OnOk, Ok, None};
 ghost use Rattle.propagate.specs.Quiet.{Quiet};
 ghost use Rattle.propagate.specs.Trail.{level};
 ghost use Rattle.solver.specs.Search.{IsSearch, IsConflict, IsFull};

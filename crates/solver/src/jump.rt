@@ -1,9 +1,9 @@
 //! Back to the level at which a learnt clause forces its literal.
-ghost use Rattle.std.specs.Prelude.{◌≡◌, ℕ, ◌*◌, ◌-◌, ◌<◌, ◌≤◌, [], length, take, slice_index_or, OnOk, true};
+ghost use Rattle.std.specs.Prelude.{◌≡◌, ℕ, ◌*◌, ◌-◌, ◌<◌, length, take, OnOk, true};
 ghost use Rattle.clause_pool.specs.Literal.{complement};
 ghost use Rattle.clause_pool.specs.Clause.{has, AreBelow};
-ghost use Rattle.propagate.specs.Trail.{IsTrail, level, upto, OthersFalse};
-ghost use Rattle.solver.specs.Marks.{false_at, start_of};
+ghost use Rattle.propagate.specs.Trail.{IsTrail, level, OthersFalse};
+ghost use Rattle.solver.specs.Marks.{start_of};
 ghost use Rattle.solver.specs.Search.{IsSearch, IsNext, IsAsserting, IsJump, next_of};
 
 use crate::order::Order;

@@ -1,12 +1,10 @@
 //! What a conflict teaches: a clause with one literal of the current level.
-ghost use Rattle.std.specs.Prelude.{◌≡◌, ℕ, ◌+◌, ◌*◌, ◌-◌, ◌<◌, ◌≤◌, [], ◌∷◌, ◌++◌, length, take, slice_index, slice_index_or, IfOk, OnOk, OnErr, IfSome, IfNone, true};
+ghost use Rattle.std.specs.Prelude.{◌≡◌, ℕ, ◌+◌, ◌*◌, ◌-◌, ◌<◌, ◌≤◌, length, take, IfOk, OnOk, OnErr, IfSome, IfNone};
 ghost use Rattle.clause_pool.specs.Literal.{complement};
-ghost use Rattle.clause_pool.specs.Clause.{has, KeepsBounds};
+ghost use Rattle.clause_pool.specs.Clause.{KeepsBounds};
 ghost use Rattle.clause_pool.specs.Marks.{marked};
-ghost use Rattle.propagate.specs.Trail.{IsTrail, AllFalse, OthersFalse, level, upto};
-ghost use Rattle.propagate.specs.Quiet.{Quiet};
-ghost use Rattle.solver.specs.Answer.{IsNew, Refutes};
-ghost use Rattle.solver.specs.Marks.{IsChain, IsTop, IsUip, NoneMarked, AreFalse, AreFalseBut, AreClear, false_at, start_of};
+ghost use Rattle.propagate.specs.Trail.{IsTrail, level};
+ghost use Rattle.solver.specs.Marks.{IsChain, IsTop, IsUip, NoneMarked, AreFalse, AreClear, false_at, start_of};
 ghost use Rattle.solver.specs.Search.{IsReady, IsKept, IsLearning, IsAppended, IsLesson};
 ghost use Rattle.solver.specs.Solver.{Extends};
 

@@ -1,5 +1,5 @@
 //! Marks of the literals of a clause in the making, by the code of the literal.
-ghost use Rattle.std.specs.Prelude.{◌≡◌, ℕ, ◌*◌, ◌<◌, ◌≤◌, [], length, slice_index, IfSome, IfNone, true};
+ghost use Rattle.std.specs.Prelude.{◌≡◌, ℕ, ◌*◌, ◌<◌, ◌≤◌, [], length, IfSome, IfNone, true};
 ghost use Rattle.clause_pool.specs.Clause.{has};
 ghost use Rattle.clause_pool.specs.Marks.{marked};
 ghost use Rattle.solver.specs.Marks.{AreClear, AreFalseBut, IsMarked, IsUnmarked, IsTop, NoneMarked, false_at};

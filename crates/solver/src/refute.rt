@@ -1,5 +1,5 @@
 //! Goals that the propagation of one literal refutes, closed without a search.
-ghost use Rattle.std.specs.Prelude.{◌≡◌, ◌*◌, ◌<◌, IfOk, IfSome, length};
+ghost use Rattle.std.specs.Prelude.{◌*◌, ◌<◌, IfOk, IfSome};
 ghost use Rattle.solver.specs.Solver.{ClosedBy, Grows};
 
 use crate::chain::{derive, refuting_unit};

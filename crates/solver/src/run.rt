@@ -1,11 +1,11 @@
 //! The search for an answer to one question.
-ghost use Rattle.std.specs.Prelude.{◌≡◌, ℕ, ◌+◌, ◌*◌, ◌<◌, ◌≤◌, [], length, take, slice_index_or, IfOk, OnOk, Ok, true};
+ghost use Rattle.std.specs.Prelude.{◌≡◌, ℕ, ◌+◌, ◌*◌, ◌<◌, ◌≤◌, [], length, slice_index_or, IfOk, OnOk, Ok};
 ghost use Rattle.clause_pool.specs.Literal.{complement};
-ghost use Rattle.clause_pool.specs.Clause.{has, KeepsBounds};
-ghost use Rattle.clause_pool.specs.Marks.{marked, AreTouched};
-ghost use Rattle.propagate.specs.Trail.{level, OthersFalse};
+ghost use Rattle.clause_pool.specs.Clause.{has};
+ghost use Rattle.clause_pool.specs.Marks.{AreTouched};
+ghost use Rattle.propagate.specs.Trail.{level};
 ghost use Rattle.solver.specs.Answer.{IsNew};
-ghost use Rattle.solver.specs.Marks.{IsChain, AreClear, AreFalseBut, false_at};
+ghost use Rattle.solver.specs.Marks.{IsChain, AreClear, AreFalseBut};
 ghost use Rattle.solver.specs.Search.{IsReady, IsKept, IsSearch, IsConflict, IsLearning, IsFull, AllNew};
 ghost use Rattle.solver.specs.Solver.{Extends, ClosedBy};
 

@@ -1,5 +1,5 @@
 //! A solver: many questions over the same given clauses.
-ghost use Rattle.std.specs.Prelude.{◌≡◌, ℕ, List, ◌+◌, ◌*◌, ◌^◌, ◌<◌, ◌≤◌, [], ◌∷◌, length, take, drop, slice_index_or, IfOk, IfSome, OnOk, Ok, true};
+ghost use Rattle.std.specs.Prelude.{◌≡◌, ℕ, List, ◌+◌, ◌*◌, ◌^◌, ◌<◌, ◌≤◌, length, take, drop, IfOk, IfSome, OnOk, Ok, true};
 ghost use Rattle.clause_pool.specs.Clause.{has, AreBelow};
 ghost use Rattle.clause_pool.specs.PoolContents.{PoolContents};
 ghost use Rattle.pb_base.specs.Sets.{has as has_code};

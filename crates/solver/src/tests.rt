@@ -2,7 +2,7 @@
 ghost use Rattle.std.specs.Prelude.{◌≡◌, ◌*◌, ◌<◌, IfOk, IfSome};
 ghost use Rattle.clause_pool.specs.Clause.{AreBelow};
 
-use crate::{Answer, Solver};
+use crate::{Answer, Implied, Solver};
 use clause_pool::{Kernel, Lit, Pool};
 use std::alloc::Global;
 use std::test::Fail;
@@ -95,6 +95,29 @@ fn questions_of_a_book(rt: HostRuntime) -> Result<(), Fail> {
     let uncovered = is_closed(&mut solver, Lit::new(10, true))?;
     assert!(rt; ambiguous);
     assert!(rt; uncovered);
+    Ok(())
+}
+
+// Whether a goal is refuted by what the propagation of a literal says of it.
+fn is_refuted(solver: &mut Solver, goal: Lit, implied: Implied) -> Result<bool, Fail>
+    requires { goal < 2 * solver.old.vars }
+{
+    let Some(at) = solver.refute(goal, implied)? else {
+        return Ok(false);
+    };
+    Ok(closes(solver, &Answer::Closed(at), goal.not()))
+}
+
+// The goal of two variants implies the first by the clause at place 15.
+#[test]
+fn a_question_without_a_search(rt: HostRuntime) -> Result<(), Fail> {
+    let mut solver = solver_of(rt.alloc(), BOOK)?;
+    let implied = Implied {
+        lit: Lit::new(0, true),
+        by: 15,
+    };
+    let refuted = is_refuted(&mut solver, Lit::new(9, true), implied)?;
+    assert!(rt; refuted);
     Ok(())
 }
 

@@ -1,6 +1,5 @@
 //! The way of a closing: which marks to resolve away, without a walk over the whole trail.
 ghost use Rattle.std.specs.Prelude.{◌≡◌, ℕ, ◌*◌, ◌<◌, ◌++◌, length, IfSome, OnOk, true};
-ghost use Rattle.clause_pool.specs.Literal.{complement};
 ghost use Rattle.clause_pool.specs.Clause.{has};
 ghost use Rattle.clause_pool.specs.Marks.{marked, AreTouched};
 ghost use Rattle.propagate.specs.Trail.{AreBelow};

@@ -1,4 +1,4 @@
-use Rattle.std.proofs.Common.{◌≡◌, ℕ, ◌-◌, ◌<◌, ap, ◌∙◌, arith}
+use Rattle.std.proofs.Common.{◌≡◌, ℕ, ◌-◌, ap, ◌∙◌, arith}
 use Rattle.propagate.specs.Trail.{Trail, end_of}
 use Rattle.solver.specs.Marks.{start_of}
 use Rattle.solver.proofs.MarkLaws.{reason_attached, uip_resolved}
