@@ -12,7 +12,7 @@ ghost use Rattle.findings.specs.Answering.{inquiry, stops};
 ghost use Rattle.findings.specs.Certified.{IsAccepted};
 ghost use Rattle.pb_base.specs.declared.limits.TheConstants.{MOST_BUDGET};
 
-use crate::earlier::{Earlier, Held};
+use crate::earlier::Earlier;
 use crate::effort::Effort;
 use crate::laws::book_laws;
 use crate::report::{Ask, Note, Report, Verdict};
@@ -105,7 +105,7 @@ fn report_slices(
         let SliceCheck { mut notes, proof } = checked;
         all.append(&mut notes)?;
         if let Some(proof) = proof {
-            earlier.kernel = Held::Here(proof.kernel);
+            earlier.hold(slice.first, proof.kernel);
         }
     }
     Ok(all)

@@ -10,12 +10,12 @@ use pb_base::{CodeSet, Day, Memory};
 use std::alloc::Global;
 use std::mem::replace;
 
-/// What the latest slice with a good set hands on.
+/// What the latest slice hands on.
 #[derive(Drop)]
 pub(crate) struct Earlier {
     /// Its first day.
     pub(crate) day: Day,
-    /// Sets that are good in it.
+    /// Sets that are good in it, or in the latest one that has any.
     pub(crate) sets: Vec<CodeSet>,
     /// Its kernel.
     pub(crate) kernel: Held,
@@ -38,6 +38,12 @@ impl Earlier {
             sets: Vec::new(alloc),
             kernel: Held::Nowhere,
         }
+    }
+
+    /// Hands the kernel of a slice with this first day on.
+    pub(crate) fn hold(&mut self, day: Day, kernel: Kernel) {
+        self.day = day;
+        self.kernel = Held::Here(kernel);
     }
 }
 

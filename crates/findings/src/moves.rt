@@ -126,7 +126,8 @@ impl Moves {
         Ok(())
     }
 
-    // The goal that no variant of the position is used. It moves where the active variants are the same.
+    // The goal that no variant of the position is used. It is made step by step, and the steps move up to the first variant that
+    // is active in one of the slices alone.
     fn add_uncovered(
         &mut self,
         book: &Book,
@@ -138,20 +139,19 @@ impl Moves {
     {
         let mut before: u32 = 0;
         let mut now: u32 = 0;
-        let mut same = true;
+        let mut same: u32 = 0;
         for variant in variants {
             let there = days.there_at(book, position, *variant);
-            same = same && there.before == there.now;
+            if there.before && there.now && same == before && same == now {
+                same = same.wrapping_add(1);
+            }
             before = before.wrapping_add(u32::from(there.before));
             now = now.wrapping_add(u32::from(there.now));
         }
-        if same {
-            let always = There {
-                before: true,
-                now: true,
-            };
-            return self.add_connectives(always, now.saturating_sub(1), 0);
-        }
+        let always = There {
+            before: true,
+            now: true,
+        };
         let gone = There {
             before: true,
             now: false,
@@ -160,8 +160,10 @@ impl Moves {
             before: false,
             now: true,
         };
-        self.add_connectives(gone, before.saturating_sub(1), 0)?;
-        self.add_connectives(further, now.saturating_sub(1), 0)
+        let steps = same.saturating_sub(1);
+        self.add_connectives(always, steps, 0)?;
+        self.add_connectives(gone, before.saturating_sub(1).saturating_sub(steps), 0)?;
+        self.add_connectives(further, now.saturating_sub(1).saturating_sub(steps), 0)
     }
 
     /// Where a clause stands now.

@@ -70,6 +70,7 @@ pub(crate) fn check_slice(
                 question: Question::Void,
                 set: None,
             };
+            earlier.hold(slice.first, solver.into_kernel());
             return only_void(alloc, slice, note);
         }
         Answer::Spent(learnt) => {
@@ -77,6 +78,7 @@ pub(crate) fn check_slice(
                 question: Question::Void,
                 learnt,
             };
+            earlier.hold(slice.first, solver.into_kernel());
             return only_void(alloc, slice, note);
         }
     }
