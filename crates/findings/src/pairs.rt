@@ -1,18 +1,70 @@
-//! Pairs of variants that exclude each other by the propagation of the first, refuted together. No answer hangs on it.
-ghost use Rattle.std.specs.Prelude.{◌≡◌, ◌<◌, length};
+//! The pairs of variants, asked before the other questions of the positions. A refutation then rests on no answer of those,
+//! so it stands in a later slice too where only they change. No answer hangs on it.
+ghost use Rattle.std.specs.Prelude.{◌≡◌, ◌<◌, ◌≤◌, All, length};
 ghost use Rattle.solver.specs.Solver.{Extends};
+ghost use Rattle.findings.specs.Answering.{SliceFacts, IsAsked, IsOver, IsFound};
+ghost use Rattle.pb_base.specs.declared.limits.TheConstants.{MOST_BUDGET};
 
+use crate::answer::answer;
+use crate::effort::Effort;
+use crate::outcome::Outcome;
+use crate::sets::Sets;
 use crate::units::Units;
+use book_model::{Book, Slice};
 use clausify::{Asked, Question};
 use pb_base::Memory;
 use solver::Solver;
+use std::alloc::Global;
 
 // A pair alone is left to a search.
 const FEWEST_PAIRS: usize = 2;
 
-/// Refutes what one propagation can of the pairs that begin at a place of the questions. Where none begin, it does nothing.
+// Behind so many learnt clauses a pair is left until its turn comes.
+const PAIR_BUDGET: u32 = 1_000;
+
+/// Looks for what answers the questions for pairs.
+pub(crate) fn answer_pairs(
+    alloc: Global,
+    book: &Book,
+    slice: &Slice,
+    effort: Effort,
+    asked: &[Asked],
+    solver: &mut Solver,
+    sets: &mut Sets,
+    usages: &[Asked],
+    units: &mut Units,
+) -> Result<(), Memory>
+    requires facts { SliceFacts book.now slice.now }
+    requires asked { All (IsAsked book.now slice.now solver.old.vars) asked.now }
+    requires over { IsOver book.now slice.now solver.old }
+    requires sets { All (IsFound book.now slice.now) sets.old.found.items }
+    requires some { 0 < effort.budget }
+    requires budget { effort.budget ≤ MOST_BUDGET }
+    ensures extends { Extends solver.old.kernel solver.new.kernel }
+    ensures vars { solver.new.vars ≡ solver.old.vars }
+    ensures over { IsOver book.now slice.now solver.new }
+    ensures sets { All (IsFound book.now slice.now) sets.new.found.items }
+{
+    let few = Effort {
+        ask: effort.ask,
+        budget: effort.budget.min(PAIR_BUDGET),
+    };
+    for (place, one) in asked.iter().enumerate() {
+        if first_of(one.question).is_none() {
+            continue;
+        }
+        refute_pairs(solver, units, asked, place)?;
+        let outcome = answer(alloc, book, slice, few, one, solver, sets, usages, units)?;
+        if let Outcome::Closed(at) = outcome {
+            units.put(one.goal, at);
+        }
+    }
+    Ok(())
+}
+
+// Refutes what one propagation can of the pairs that begin at a place of the questions. Where none begin, it does nothing.
 #[tactic(auto, using(solver::proofs::PoolLaws::extends_same))]
-pub(crate) fn refute_pairs(
+fn refute_pairs(
     solver: &mut Solver,
     units: &mut Units,
     asked: &[Asked],

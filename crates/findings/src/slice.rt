@@ -18,7 +18,7 @@ use crate::earlier::{Earlier, Held, derive_earlier};
 use crate::effort::{Effort, is_asked};
 use crate::found::found_with;
 use crate::outcome::Told;
-use crate::pairs::refute_pairs;
+use crate::pairs::answer_pairs;
 use crate::report::{Note, is_fault, is_left};
 use crate::sets::Sets;
 use crate::units::Units;
@@ -257,11 +257,13 @@ fn ask_later(
     };
     let usages = usages_of(alloc, later)?;
     let mut units = Units::of(alloc, solver.kernel(), later)?;
+    answer_pairs(
+        alloc, book, slice, effort, later, solver, sets, &usages, &mut units,
+    )?;
     for (place, asked) in later.iter().enumerate() {
         if !is_asked(effort.ask, asked.question) {
             continue;
         }
-        refute_pairs(solver, &mut units, later, place)?;
         let outcome = answer(
             alloc, book, slice, effort, asked, solver, sets, &usages, &units,
         )?;

@@ -3,8 +3,6 @@ use Rattle.std.proofs.lemmas.List.{take_all}
 use Rattle.std.proofs.lemmas.List.Elements.{All-get_or}
 use Rattle.clausify.specs.declared.question.Asked.{Asked}
 use Rattle.findings.specs.Answering.{IsAsked, AreTold, inquiry}
-use Rattle.solver.specs.Solver.{Extends}
-use Rattle.findings.proofs.SolverLaws.{over_further}
 use Rattle.findings.proofs.ToldLaws.{told_next, told_next_same, extends_further}
 use Rattle.findings.proofs.slice.ask_later.Goals as goal
 
@@ -13,7 +11,7 @@ answer-requires-clause-asked c =
     let b = c.args.book.now in
     let s = c.args.slice.now in
     let vars = c.args.solver.now.vars in
-    subst (λ (n : ℕ). IsAsked b s n c.index-later-place.result) (sym (c.refute_pairs.ensures.vars ∙ c.loop-place.invariant.vars))
+    subst (λ (n : ℕ). IsAsked b s n c.index-later-place.result) (sym c.loop-place.invariant.vars)
     (subst (IsAsked b s vars) (sym c.index-later-place.is)
     (All-get_or (IsAsked b s vars) c.args.later.now c.loop-place.place c.index-later-place.result (omega arith) c.requires.asked))
 
@@ -28,25 +26,18 @@ loop-place-preserved-then-not-is_asked c = record {
       (omega arith) c.index-later-place.is (sym c.is_asked.ensures ∙ c.if-not-is_asked.true) c.loop-place.invariant.told;
 }
 
-pub answer-requires-clause-over : goal.answer-requires-clause-over
-answer-requires-clause-over c =
-    over_further c.args.book.now c.args.slice.now c.loop-place.solver c.refute_pairs.new.solver c.loop-place.invariant.over c.refute_pairs.ensures.extends c.refute_pairs.ensures.codes
-
 pub loop-place-preserved : goal.loop-place-preserved
-loop-place-preserved c =
-    let own : Extends c.loop-place.solver.kernel c.answer.new.solver.kernel =
-    extends_further c.loop-place.solver.kernel c.refute_pairs.new.solver.kernel c.answer.new.solver.kernel c.refute_pairs.ensures.extends c.answer.ensures.extends in
-    record {
-      extends = extends_further c.args.solver.now.kernel c.loop-place.solver.kernel c.answer.new.solver.kernel c.loop-place.invariant.extends own;
-      over = c.answer.ensures.over;
-      vars = c.answer.ensures.vars ∙ c.refute_pairs.ensures.vars ∙ c.loop-place.invariant.vars;
-      sets = c.answer.ensures.sets;
-      told =
-          told_next (inquiry c.args.book.now c.args.effort) c.args.slice.now c.args.later.now c.loop-place.place c.index-later-place.result c.loop-place.told c.put.new.self
-          c.loop-place.solver.kernel c.answer.new.solver.kernel c.in_ok-outcome.outcome
-          (omega arith) c.index-later-place.is (sym c.is_asked.ensures ∙ c.if-not-is_asked.false) c.loop-place.invariant.told own
-          c.in_ok-outcome.ensures.outcome c.in_ok-put.ensures.notes c.in_ok-put.ensures.closed;
-    }
+loop-place-preserved c = record {
+  extends = extends_further c.args.solver.now.kernel c.loop-place.solver.kernel c.answer.new.solver.kernel c.loop-place.invariant.extends c.answer.ensures.extends;
+  over = c.answer.ensures.over;
+  vars = c.answer.ensures.vars ∙ c.loop-place.invariant.vars;
+  sets = c.answer.ensures.sets;
+  told =
+      told_next (inquiry c.args.book.now c.args.effort) c.args.slice.now c.args.later.now c.loop-place.place c.index-later-place.result c.loop-place.told c.put.new.self
+      c.loop-place.solver.kernel c.answer.new.solver.kernel c.in_ok-outcome.outcome
+      (omega arith) c.index-later-place.is (sym c.is_asked.ensures ∙ c.if-not-is_asked.false) c.loop-place.invariant.told c.answer.ensures.extends
+      c.in_ok-outcome.ensures.outcome c.in_ok-put.ensures.notes c.in_ok-put.ensures.closed;
+}
 
 pub returns-clause-told : goal.returns-clause-told
 returns-clause-told c =

@@ -6,9 +6,9 @@ use Rattle.findings.proofs.slice.ask_later.Given as goal
 
 abbrev pub invariant-loop-place : goal.invariant-loop-place
 invariant-loop-place l = record {
-  extends : Extends l.initial.solver.kernel l.solver.kernel;
+  extends : Extends l.fn.solver.kernel l.solver.kernel;
   over : IsOver l.book l.slice l.solver;
-  vars : l.solver.vars ≡ l.initial.solver.vars;
+  vars : l.solver.vars ≡ l.fn.solver.vars;
   sets : All (IsFound l.book l.slice) l.sets.found.items;
   told : AreTold (inquiry l.book l.effort) l.slice (take l.place l.later) l.told l.solver.kernel.clauses;
 }
