@@ -10,3 +10,4 @@ pub mod Releasable
 pub mod Sure
 pub mod NeverBlocked
 pub mod SampleLaws
+pub mod ReportLaws
