@@ -10,7 +10,9 @@ use Rattle.clause_pool.specs.Literal.{complement}
 use Rattle.clause_pool.specs.Clause.{has}
 use Rattle.clause_pool.proofs.LiteralLaws.{even_or_odd, complement-even, complement-odd, complement-half}
 use Rattle.clause_pool.proofs.ClauseLaws.{has-append}
-use Rattle.propagate.specs.Assignment.{Assigned, IsAssigned, AreTables, value_over}
+use Rattle.propagate.specs.Assignment.{Assigned, IsAssigned, AreTables, value_over, known}
+use Rattle.propagate.specs.declared.assignment.Truth.{Truth}
+use Rattle.propagate.specs.declared.assignment.Truth.TheVariants.{Holds, Fails}
 
 or_false_first : (a b : Bool) → (a || b) ≡ false → a ≡ false
 or_false_first true b h = absurd (true≢false h)
@@ -136,7 +138,7 @@ has_place (x ∷ lits) l h = elim (or_cases (eqb x l) (has lits l) h) [
 ]
 
 -- what the table of places says of a variable that isn't open
-pub place_found : (values : List (Option Bool)) (places : List ℕ) (a : Assigned) (l var : ℕ) → AreTables values places a → has a.lits l ≡ true → l / 2 ≡ var
+pub place_found : (values : List Truth) (places : List ℕ) (a : Assigned) (l var : ℕ) → AreTables values places a → has a.lits l ≡ true → l / 2 ≡ var
     → (get_or places var 0 < length a.lits) × (get_or a.lits (get_or places var 0) 0 / 2 ≡ var)
 place_found values places a l var h is_in half =
     let found = has_place a.lits l is_in in
@@ -144,7 +146,7 @@ place_found values places a l var h is_in half =
     let b : found.0 < length a.lits = found.1 in
     (omega (arith, same, b), ap (λ (k : ℕ). get_or a.lits k 0 / 2) same ∙ ap (λ (n : ℕ). n / 2) found.2 ∙ half)
 
-pub place_of_value : (values : List (Option Bool)) (places : List ℕ) (a : Assigned) (l var : ℕ) (truth : Bool) → AreTables values places a → value_over a.lits l ≡ Some truth → l / 2 ≡ var
+pub place_of_value : (values : List Truth) (places : List ℕ) (a : Assigned) (l var : ℕ) (truth : Bool) → AreTables values places a → value_over a.lits l ≡ Some truth → l / 2 ≡ var
     → (get_or places var 0 < length a.lits) × (get_or a.lits (get_or places var 0) 0 / 2 ≡ var)
 place_of_value values places a l var truth h value half = elim (cases_Bool (has a.lits l)) [
   | inl is_true ↦ place_found values places a l var h is_true half
@@ -164,22 +166,19 @@ open_nowhere lits l var k value half within same =
     let both = value_is_open lits l value in
     half_at lits (l / 2) k (open_variable lits l both.0 both.1) within (same ∙ sym half)
 
-pub place_read : (values : List (Option Bool)) (places : List ℕ) (a : Assigned) (var p : ℕ) (x : Option Bool) (truth : Bool) → AreTables values places a → var < a.vars
-    → x ≡ get_or values (2 * var) x → x ≡ Some truth → p ≡ get_or places var p → (p < length a.lits) × (get_or a.lits p 0 / 2 ≡ var)
-place_read values places a var p x truth h below read is at =
-    let counted = h.values_counted in
+known_some : (t : Truth) → (t ≡ Holds) ⊎ (t ≡ Fails) → (truth : Bool) × (known t ≡ Some truth)
+known_some t (inl e) = (true, ap known e)
+known_some t (inr e) = (false, ap known e)
+
+pub place_read : (values : List Truth) (places : List ℕ) (a : Assigned) (var p : ℕ) (t : Truth) → AreTables values places a → var < a.vars
+    → known t ≡ value_over a.lits (2 * var) → (t ≡ Holds) ⊎ (t ≡ Fails) → p ≡ get_or places var p → (p < length a.lits) × (get_or a.lits p 0 / 2 ≡ var)
+place_read values places a var p t h below value other at =
     let placed = h.places_counted in
-    let same : get_or values (2 * var) None ≡ x = no_default values (2 * var) None x (omega (arith, below, counted)) ∙ sym read in
-    let value : value_over a.lits (2 * var) ≡ Some truth = sym (h.value_is (2 * var) (omega (arith, below))) ∙ same ∙ is in
-    let found = place_of_value values places a (2 * var) var truth h value (omega arith) in
+    let some = known_some t other in
+    let found = place_of_value values places a (2 * var) var some.0 h (sym value ∙ some.1) (omega arith) in
     let here : p ≡ get_or places var 0 = at ∙ no_default_place places var p 0 (omega (arith, below, placed)) in
     subst (λ (k : ℕ). (k < length a.lits) × (get_or a.lits k 0 / 2 ≡ var)) (sym here) found
   where
-    no_default : (xs : List (Option Bool)) (n : ℕ) (d e : Option Bool) → n < length xs → get_or xs n d ≡ get_or xs n e
-    no_default [] n d e b = absurd (omega arith)
-    no_default (y ∷ xs) zero d e b = refl
-    no_default (y ∷ xs) (suc n) d e b = no_default xs n d e (omega (arith, b))
-
     no_default_place : (xs : List ℕ) (n d e : ℕ) → n < length xs → get_or xs n d ≡ get_or xs n e
     no_default_place [] n d e b = absurd (omega arith)
     no_default_place (y ∷ xs) zero d e b = refl

@@ -1,5 +1,5 @@
 -- What becomes of an assignment and its tables at each step.
-use Rattle.std.proofs.Common.{◌≡◌, inl, inr, ℕ, zero, suc, ◌+◌, ◌/◌, ◌<◌, ◌≤◌, Bool, true, false, List, [], ◌∷◌, ◌++◌, Option, Some, None, length, map, take, get_or, eqb, refl, sym, subst, ◌∙◌, ap, arith, length-append}
+use Rattle.std.proofs.Common.{◌≡◌, inl, inr, ℕ, zero, suc, ◌+◌, ◌/◌, ◌<◌, ◌≤◌, true, false, List, [], ◌∷◌, ◌++◌, Option, Some, None, length, map, take, get_or, eqb, refl, sym, subst, ◌∙◌, ap, arith, length-append}
 use Rattle.std.specs.List.{IsDistinct, list_any, slice_set, AllByRecursion}
 use Rattle.std.specs.Option.{option_to_list}
 use Rattle.std.proofs.lemmas.Bool.{cases_eq, false≢true, true≢false, cond-true, cond-false, eqb-false, ne_eqb}
@@ -12,7 +12,9 @@ use Rattle.std.proofs.lemmas.Map.Keys.{IsDistinct-push}
 use Rattle.clause_pool.specs.Literal.{complement}
 use Rattle.clause_pool.specs.Clause.{has}
 use Rattle.clause_pool.proofs.LiteralLaws.{complement-half, complement-complement, complement-other}
-use Rattle.propagate.specs.Assignment.{Assigned, IsAssigned, AreTables, with_literal, with_level, first_literals, value_over}
+use Rattle.propagate.specs.Assignment.{Assigned, IsAssigned, AreTables, with_literal, with_level, first_literals, value_over, known}
+use Rattle.propagate.specs.declared.assignment.Truth.{Truth}
+use Rattle.propagate.specs.declared.assignment.Truth.TheVariants.{Open, Holds, Fails}
 use Rattle.propagate.proofs.AssignmentLaws.{few_literals, complement-within, open_variable, variable_open, half_at, has_push, push_has, push_here, push_other}
 
 pub put_is_assigned : (a : Assigned) (l : ℕ) (r : Option ℕ) → IsAssigned a → l < a.vars + a.vars → has a.lits l ≡ false → has a.lits (complement l) ≡ false → IsAssigned (with_literal a l r)
@@ -56,32 +58,32 @@ value_other lits l x other apart =
 value_open : (lits : List ℕ) (x : ℕ) → has lits x ≡ false → has lits (complement x) ≡ false → value_over lits x ≡ None
 value_open lits x not_true not_false = cond-false _ _ _ not_true ∙ cond-false _ _ _ not_false
 
-set_two_same : (values : List (Option Bool)) (i j : ℕ) (x y : Option Bool) → (i ≡ j → ⊥) → i < length values → get_or (slice_set (slice_set values i x) j y) i None ≡ x
-set_two_same values i j x y apart within = get_or-set_other (slice_set values i x) j i y None apart ∙ get_or-set_same values i x None within
+set_two_same : (values : List Truth) (i j : ℕ) (x y : Truth) → (i ≡ j → ⊥) → i < length values → get_or (slice_set (slice_set values i x) j y) i Open ≡ x
+set_two_same values i j x y apart within = get_or-set_other (slice_set values i x) j i y Open apart ∙ get_or-set_same values i x Open within
 
-set_two_last : (values : List (Option Bool)) (i j : ℕ) (x y : Option Bool) → j < length values → get_or (slice_set (slice_set values i x) j y) j None ≡ y
-set_two_last values i j x y within = get_or-set_same (slice_set values i x) j y None (omega (arith, within, length-set values i x))
+set_two_last : (values : List Truth) (i j : ℕ) (x y : Truth) → j < length values → get_or (slice_set (slice_set values i x) j y) j Open ≡ y
+set_two_last values i j x y within = get_or-set_same (slice_set values i x) j y Open (omega (arith, within, length-set values i x))
 
-set_two_other : (values : List (Option Bool)) (i j k : ℕ) (x y : Option Bool) → (k ≡ i → ⊥) → (k ≡ j → ⊥) → get_or (slice_set (slice_set values i x) j y) k None ≡ get_or values k None
-set_two_other values i j k x y first second = get_or-set_other (slice_set values i x) j k y None second ∙ get_or-set_other values i k x None first
+set_two_other : (values : List Truth) (i j k : ℕ) (x y : Truth) → (k ≡ i → ⊥) → (k ≡ j → ⊥) → get_or (slice_set (slice_set values i x) j y) k Open ≡ get_or values k Open
+set_two_other values i j k x y first second = get_or-set_other (slice_set values i x) j k y Open second ∙ get_or-set_other values i k x Open first
 
-pub put_tables : (values : List (Option Bool)) (places : List ℕ) (a : Assigned) (l : ℕ) (r : Option ℕ) → AreTables values places a → l < a.vars + a.vars → has a.lits l ≡ false → has a.lits (complement l) ≡ false
-    → AreTables (slice_set (slice_set values l (Some true)) (complement l) (Some false)) (slice_set places (l / 2) (length a.lits)) (with_literal a l r)
+pub put_tables : (values : List Truth) (places : List ℕ) (a : Assigned) (l : ℕ) (r : Option ℕ) → AreTables values places a → l < a.vars + a.vars → has a.lits l ≡ false → has a.lits (complement l) ≡ false
+    → AreTables (slice_set (slice_set values l Holds) (complement l) Fails) (slice_set places (l / 2) (length a.lits)) (with_literal a l r)
 put_tables values places a l r h below not_true not_false =
     let counted = h.values_counted in
     let placed = h.places_counted in
     let within : l < length values = omega (arith, counted, below) in
     let also : complement l < length values = omega (arith, counted, complement-within l a.vars below) in
     record {
-      values_counted = length-set (slice_set values l (Some true)) (complement l) (Some false) ∙ length-set values l (Some true) ∙ counted;
+      values_counted = length-set (slice_set values l Holds) (complement l) Fails ∙ length-set values l Holds ∙ counted;
       places_counted = length-set places (l / 2) (length a.lits) ∙ placed;
       value_is = λ x b. elim (cases_eq x l) [
-        | inl e ↦ subst (λ (n : ℕ). get_or (slice_set (slice_set values l (Some true)) (complement l) (Some false)) n None ≡ value_over (a.lits ++ l ∷ []) n) (sym e)
-            (set_two_same values l (complement l) (Some true) (Some false) (λ e. complement-other l (sym e)) within ∙ sym (value_here a.lits l))
+        | inl e ↦ subst (λ (n : ℕ). known (get_or (slice_set (slice_set values l Holds) (complement l) Fails) n Open) ≡ value_over (a.lits ++ l ∷ []) n) (sym e)
+            (ap known (set_two_same values l (complement l) Holds Fails (λ e. complement-other l (sym e)) within) ∙ sym (value_here a.lits l))
         | inr other ↦ elim (cases_eq x (complement l)) [
-          | inl e ↦ subst (λ (n : ℕ). get_or (slice_set (slice_set values l (Some true)) (complement l) (Some false)) n None ≡ value_over (a.lits ++ l ∷ []) n) (sym e)
-              (set_two_last values l (complement l) (Some true) (Some false) also ∙ sym (value_complement a.lits l not_false))
-          | inr apart ↦ set_two_other values l (complement l) x (Some true) (Some false) other apart ∙ h.value_is x b ∙ sym (value_other a.lits l x other apart)
+          | inl e ↦ subst (λ (n : ℕ). known (get_or (slice_set (slice_set values l Holds) (complement l) Fails) n Open) ≡ value_over (a.lits ++ l ∷ []) n) (sym e)
+              (ap known (set_two_last values l (complement l) Holds Fails also) ∙ sym (value_complement a.lits l not_false))
+          | inr apart ↦ ap known (set_two_other values l (complement l) x Holds Fails other apart) ∙ h.value_is x b ∙ sym (value_other a.lits l x other apart)
         ]
       ];
       place_is = λ k b. elim (cases_eq k (length a.lits)) [
@@ -135,9 +137,9 @@ popped_assigned vars lits all reasons more starts l is counted h within =
       reasons_counted = counted;
     }
 
-pub popped_tables : (values : List (Option Bool)) (places : List ℕ) (vars : ℕ) (lits all : List ℕ) (reasons more : List (Option ℕ)) (starts : List ℕ) (l : ℕ) → all ≡ lits ++ l ∷ []
+pub popped_tables : (values : List Truth) (places : List ℕ) (vars : ℕ) (lits all : List ℕ) (reasons more : List (Option ℕ)) (starts : List ℕ) (l : ℕ) → all ≡ lits ++ l ∷ []
     → IsAssigned (record { vars = vars; lits = all; reasons = more; starts = starts }) → AreTables values places (record { vars = vars; lits = all; reasons = more; starts = starts })
-    → AreTables (slice_set (slice_set values l None) (complement l) None) places (record { vars = vars; lits = lits; reasons = reasons; starts = starts })
+    → AreTables (slice_set (slice_set values l Open) (complement l) Open) places (record { vars = vars; lits = lits; reasons = reasons; starts = starts })
 popped_tables values places vars lits all reasons more starts l is a h =
     let none = (last_variable vars lits all more starts l is a).1 in
     let last : has all l ≡ true = subst (λ (xs : List ℕ). has xs l ≡ true) (sym is) (push_here lits l) in
@@ -146,18 +148,18 @@ popped_tables values places vars lits all reasons more starts l is a h =
     let within : l < length values = omega (arith, counted, below) in
     let also : complement l < length values = omega (arith, counted, complement-within l vars below) in
     record {
-      values_counted = length-set (slice_set values l None) (complement l) None ∙ length-set values l None ∙ counted;
+      values_counted = length-set (slice_set values l Open) (complement l) Open ∙ length-set values l Open ∙ counted;
       places_counted = h.places_counted;
       value_is = λ x b. elim (cases_eq x l) [
-        | inl e ↦ subst (λ (n : ℕ). get_or (slice_set (slice_set values l None) (complement l) None) n None ≡ value_over lits n) (sym e)
-            (set_two_same values l (complement l) None None (λ e. complement-other l (sym e)) within
+        | inl e ↦ subst (λ (n : ℕ). known (get_or (slice_set (slice_set values l Open) (complement l) Open) n Open) ≡ value_over lits n) (sym e)
+            (ap known (set_two_same values l (complement l) Open Open (λ e. complement-other l (sym e)) within)
             ∙ sym (value_open lits l (variable_open lits l l none refl) (variable_open lits l (complement l) none (complement-half l))))
         | inr other ↦ elim (cases_eq x (complement l)) [
-          | inl e ↦ subst (λ (n : ℕ). get_or (slice_set (slice_set values l None) (complement l) None) n None ≡ value_over lits n) (sym e)
-              (set_two_last values l (complement l) None None also
+          | inl e ↦ subst (λ (n : ℕ). known (get_or (slice_set (slice_set values l Open) (complement l) Open) n Open) ≡ value_over lits n) (sym e)
+              (ap known (set_two_last values l (complement l) Open Open also)
               ∙ sym (value_open lits (complement l) (variable_open lits l (complement l) none (complement-half l))
               (variable_open lits l (complement (complement l)) none (complement-half (complement l) ∙ complement-half l))))
-          | inr apart ↦ set_two_other values l (complement l) x None None other apart ∙ h.value_is x b ∙ ap (λ (xs : List ℕ). value_over xs x) is ∙ value_other lits l x other apart
+          | inr apart ↦ ap known (set_two_other values l (complement l) x Open Open other apart) ∙ h.value_is x b ∙ ap (λ (xs : List ℕ). value_over xs x) is ∙ value_other lits l x other apart
         ]
       ];
       place_is = λ k b.
@@ -194,7 +196,7 @@ level_is_assigned a h room = record {
         omega (arith, w, get_or-append a.starts (length a.lits ∷ []) 0 i before)
   ]
 
-pub other_levels_tables : (values : List (Option Bool)) (places : List ℕ) (a : Assigned) (starts : List ℕ) → AreTables values places a → AreTables values places (record { vars = a.vars; lits = a.lits; reasons = a.reasons; starts = starts })
+pub other_levels_tables : (values : List Truth) (places : List ℕ) (a : Assigned) (starts : List ℕ) → AreTables values places a → AreTables values places (record { vars = a.vars; lits = a.lits; reasons = a.reasons; starts = starts })
 other_levels_tables values places a starts h = record { values_counted = h.values_counted; places_counted = h.places_counted; value_is = h.value_is; place_is = h.place_is }
 
 pub fewer_levels_assigned : (a : Assigned) (n : ℕ) → IsAssigned a → n ≤ length a.starts → IsAssigned (record { vars = a.vars; lits = a.lits; reasons = a.reasons; starts = take n a.starts })
@@ -244,16 +246,16 @@ pub put_assigned_by : (a : Assigned) (vars : ℕ) (lits : List ℕ) (reasons : L
     → IsAssigned a → l < a.vars + a.vars → has a.lits l ≡ false → has a.lits (complement l) ≡ false → IsAssigned (record { vars = vars; lits = lits; reasons = reasons; starts = a.starts })
 put_assigned_by a vars lits reasons l r ev el er h below not_true not_false = rw (ev, el, er) (put_is_assigned a l r h below not_true not_false)
 
-pub put_tables_by : (values : List (Option Bool)) (places : List ℕ) (a : Assigned) (i j q n vars : ℕ) (lits : List ℕ) (reasons : List (Option ℕ)) (l : ℕ) (r : Option ℕ) → i ≡ l → j ≡ complement l → q ≡ l / 2 → n ≡ length a.lits
+pub put_tables_by : (values : List Truth) (places : List ℕ) (a : Assigned) (i j q n vars : ℕ) (lits : List ℕ) (reasons : List (Option ℕ)) (l : ℕ) (r : Option ℕ) → i ≡ l → j ≡ complement l → q ≡ l / 2 → n ≡ length a.lits
     → vars ≡ a.vars → lits ≡ a.lits ++ l ∷ [] → reasons ≡ a.reasons ++ r ∷ []
     → AreTables values places a → l < a.vars + a.vars → has a.lits l ≡ false → has a.lits (complement l) ≡ false
-    → AreTables (slice_set (slice_set values i (Some true)) j (Some false)) (slice_set places q n) (record { vars = vars; lits = lits; reasons = reasons; starts = a.starts })
+    → AreTables (slice_set (slice_set values i Holds) j Fails) (slice_set places q n) (record { vars = vars; lits = lits; reasons = reasons; starts = a.starts })
 put_tables_by values places a i j q n vars lits reasons l r ei ej eq en ev el er h below not_true not_false =
     rw (ei, ej, eq, en, ev, el, er) (put_tables values places a l r h below not_true not_false)
 
-pub popped_tables_by : (values : List (Option Bool)) (places : List ℕ) (vars : ℕ) (lits all : List ℕ) (reasons more : List (Option ℕ)) (starts : List ℕ) (l i j : ℕ) → i ≡ l → j ≡ complement l → all ≡ lits ++ l ∷ []
+pub popped_tables_by : (values : List Truth) (places : List ℕ) (vars : ℕ) (lits all : List ℕ) (reasons more : List (Option ℕ)) (starts : List ℕ) (l i j : ℕ) → i ≡ l → j ≡ complement l → all ≡ lits ++ l ∷ []
     → IsAssigned (record { vars = vars; lits = all; reasons = more; starts = starts }) → AreTables values places (record { vars = vars; lits = all; reasons = more; starts = starts })
-    → AreTables (slice_set (slice_set values i None) j None) places (record { vars = vars; lits = lits; reasons = reasons; starts = starts })
+    → AreTables (slice_set (slice_set values i Open) j Open) places (record { vars = vars; lits = lits; reasons = reasons; starts = starts })
 popped_tables_by values places vars lits all reasons more starts l i j ei ej is a h =
     rw (ei, ej) (popped_tables values places vars lits all reasons more starts l is a h)
 
@@ -270,11 +272,11 @@ none_is_assigned vars = record {
   reasons_counted = refl;
 }
 
-pub none_tables : (values : List (Option Bool)) (places : List ℕ) (vars : ℕ) → length values ≡ vars + vars → length places ≡ vars → ((k : ℕ) (d : Option Bool) → k < length values → get_or values k d ≡ None) → AreTables values places (record { vars = vars; lits = []; reasons = []; starts = [] })
+pub none_tables : (values : List Truth) (places : List ℕ) (vars : ℕ) → length values ≡ vars + vars → length places ≡ vars → ((k : ℕ) (d : Truth) → k < length values → get_or values k d ≡ Open) → AreTables values places (record { vars = vars; lits = []; reasons = []; starts = [] })
 none_tables values places vars counted placed each = record {
   values_counted = counted;
   places_counted = placed;
-  value_is = λ l b. each l None (omega (arith, b, counted));
+  value_is = λ l b. ap known (each l Open (omega (arith, b, counted)));
   place_is = λ k h. absurd (omega (arith, h));
 }
 
@@ -288,9 +290,9 @@ taken_below a rest l h is =
     let b = h.below l last in
     omega (arith, b)
 
-pub read_of_replicate : (values : List (Option Bool)) (n k : ℕ) (d : Option Bool) → values ≡ replicate n None → k < length values → get_or values k d ≡ None
-read_of_replicate values n k d is within = rw is (go n k (omega (arith, within, ap length is, length-replicate {A = Option Bool} n None))) where
-  go : (n k : ℕ) → k < n → get_or (replicate n None) k d ≡ None
+pub read_of_replicate : (values : List Truth) (n k : ℕ) (d : Truth) → values ≡ replicate n Open → k < length values → get_or values k d ≡ Open
+read_of_replicate values n k d is within = rw is (go n k (omega (arith, within, ap length is, length-replicate {A = Truth} n Open))) where
+  go : (n k : ℕ) → k < n → get_or (replicate n Open) k d ≡ Open
   go zero k h = absurd (omega arith)
   go (suc n) zero h = refl
   go (suc n) (suc k) h = go n k (omega (arith, h))

@@ -117,3 +117,7 @@ next_entry first s t code at next h k g within low high = record {
 
 pub at_first : (a : Assigned) (w : Watching) (code : ℕ) → AtEntry (scene a w) (scene a w) code 0
 at_first a w code = record { keeps = keeps_not a w; before = tt; within = omega arith }
+
+-- the entries up to the next place have nothing to say
+pub at_next : (first s : Scene) (code at next : ℕ) → AtEntry first s code at → next ≤ entries_of s code → (AreTrueIn s code at → AreTrueIn s code next) → AtEntry first s code next
+at_next first s code at next h within all_true = record { keeps = h.keeps; before = all_true h.before; within = within }

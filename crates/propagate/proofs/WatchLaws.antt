@@ -5,7 +5,7 @@ use Rattle.std.proofs.lemmas.Bool.{cases_eq, false≢true, or_cases, or_left, or
 use Rattle.std.proofs.lemmas.List.{get_or-set_same, get_or-set_other, length-set, take-set, length-take-le}
 use Rattle.std.proofs.lemmas.List.Folds.{list_any-append}
 use Rattle.std.proofs.lemmas.List.Sorted.{IsPermutation-swap_remove, list_any-IsPermutation}
-use Rattle.std.proofs.lemmas.Option.{get_or_from_slice_get}
+use Rattle.std.proofs.lemmas.Option.{get_or_from_slice_get, slice_get-get_or}
 use Rattle.clause_pool.specs.Clause.{has}
 use Rattle.clause_pool.proofs.ClauseLaws.{all_push, all_take, all_at}
 use Rattle.propagate.specs.Watching.{Watching, IsWatching, EntryFits, IsPairIn, clause_at, pair_of, list_of, IsListed, Shifted, Watches}
@@ -203,6 +203,10 @@ can_move w code at other open_literal e ok h found =
       not_code = h.not_code;
       other_not_code = h.other_not_code;
     }
+
+-- the entry that a read of the list gives
+pub entry_found : (xs list : List Watch) (at : ℕ) (d : Watch) → xs ≡ list → at < length list → slice_get list at ≡ Some (get_or xs at d)
+entry_found xs list at d same there = subst (λ (ys : List Watch). slice_get list at ≡ Some (get_or ys at d)) (sym same) (slice_get-get_or list at d there)
 
 pub moved_by : (w : Watching) (code at other open_literal : ℕ) (e r : Watch) (lists more : List (List Watch))
     → more ≡ slice_set w.lists open_literal (get_or w.lists open_literal [] ++ record { clause = e.clause; blocker = other; is_binary = false } ∷ [])

@@ -7,6 +7,8 @@ use Rattle.std.specs.List.{IsDistinct}
 use Rattle.clause_pool.specs.Literal.{complement}
 use Rattle.clause_pool.specs.Clause.{has}
 use Rattle.propagate.specs.Trail.{AreBelow, AreRising}
+use Rattle.propagate.specs.declared.assignment.Truth.{Truth}
+use Rattle.propagate.specs.declared.assignment.Truth.TheVariants.{Open, Holds, Fails}
 
 pub record Assigned : Type 0 where
   pub vars : ℕ
@@ -80,9 +82,15 @@ cut_to a n = record {
 abbrev pub value_over : List ℕ → ℕ → Option Bool
 value_over lits l = if has lits l then Some true else (if has lits (complement l) then Some false else None)
 
+-- the same from a literal's entry in the table
+abbrev pub known : Truth → Option Bool
+known Open = None
+known Holds = Some true
+known Fails = Some false
+
 -- what the tables say of the trail
-pub record AreTables (values : List (Option Bool)) (places : List ℕ) (a : Assigned) : Type 0 where
+pub record AreTables (values : List Truth) (places : List ℕ) (a : Assigned) : Type 0 where
   pub values_counted : length values ≡ a.vars + a.vars
   pub places_counted : length places ≡ a.vars
-  pub value_is : (l : ℕ) → l < a.vars + a.vars → slice_index_or values l None ≡ value_over a.lits l
+  pub value_is : (l : ℕ) → l < a.vars + a.vars → known (slice_index_or values l Open) ≡ value_over a.lits l
   pub place_is : (k : ℕ) → k < length a.lits → slice_index_or places (slice_index a.lits k / 2) 0 ≡ k

@@ -3,19 +3,27 @@ ghost use Rattle.std.specs.Prelude.{◌≡◌, ℕ, ◌+◌, ◌-◌, ◌*◌, �
 ghost use Rattle.clause_pool.specs.Literal.{complement};
 ghost use Rattle.clause_pool.specs.Clause.{has};
 ghost use Rattle.propagate.specs.Trail.{IsAbsent, AreRising};
-ghost use Rattle.propagate.specs.Assignment.{IsAssigned, none_assigned, with_literal, with_level, first_literals, first_levels, cut_to, value_over, end_of};
+ghost use Rattle.propagate.specs.Assignment.{IsAssigned, none_assigned, with_literal, with_level, first_literals, first_levels, cut_to, value_over, known, end_of};
 
 use clause_pool::Lit;
 use pb_base::Memory;
 use std::alloc::Global;
 use std::marker::Model;
 
+// What is known of a literal.
+#[derive(Clone, Copy)]
+enum Truth {
+    Open,
+    Holds,
+    Fails,
+}
+
 /// The literals that are true: a trail, with the truth of each literal and the place of each variable beside
 /// it.
 #[derive(Drop)]
 pub(crate) struct Assignment {
     // By the code of a literal.
-    values: Vec<Option<bool>>,
+    values: Vec<Truth>,
     // By variable; it says nothing for a variable that isn't on the trail.
     places: Vec<u32>,
     lits: Vec<Lit>,
@@ -66,7 +74,7 @@ impl Assignment {
         }
         let room = vars as usize;
         Ok(Assignment {
-            values: vec![in alloc; None; room + room]?,
+            values: vec![in alloc; Truth::Open; room + room]?,
             places: vec![in alloc; 0; room]?,
             lits: Vec::with_capacity(alloc, room)?,
             reasons: Vec::with_capacity(alloc, room)?,
@@ -106,6 +114,16 @@ impl Assignment {
         self.starts.len()
     }
 
+    // What is known of a literal, by its code.
+    #[inline(always)]
+    fn truth(&self, code: u32) -> Truth
+        requires { code < self.now.vars + self.now.vars }
+        ensures value { known result ≡ value_over self.now.lits code }
+        ensures assigned { IsAssigned self.now }
+    {
+        self.values[code as usize]
+    }
+
     /// Whether a literal is true or false, by its code.
     #[inline(always)]
     pub(crate) fn value(&self, code: u32) -> Option<bool>
@@ -113,7 +131,11 @@ impl Assignment {
         ensures value { result ≡ value_over self.now.lits code }
         ensures assigned { IsAssigned self.now }
     {
-        self.values[code as usize]
+        match self.truth(code) {
+            Truth::Open => None,
+            Truth::Holds => Some(true),
+            Truth::Fails => Some(false),
+        }
     }
 
     /// Whether a literal is true, by its code.
@@ -122,9 +144,9 @@ impl Assignment {
         requires { code < self.now.vars + self.now.vars }
         ensures { result ≡ has self.now.lits code }
     {
-        match self.value(code) {
-            Some(truth) => truth,
-            None => false,
+        match self.truth(code) {
+            Truth::Holds => true,
+            Truth::Open | Truth::Fails => false,
         }
     }
 
@@ -134,9 +156,9 @@ impl Assignment {
         requires { code < self.now.vars + self.now.vars }
         ensures { result ≡ has self.now.lits (complement code) }
     {
-        match self.value(code) {
-            Some(truth) => !truth,
-            None => false,
+        match self.truth(code) {
+            Truth::Fails => true,
+            Truth::Open | Truth::Holds => false,
         }
     }
 
@@ -166,9 +188,10 @@ impl Assignment {
         ensures assigned { IsAssigned self.now }
         ensures none { IfNone result (IsAbsent self.now.lits var) }
     {
-        match self.values[2 * var as usize] {
-            Some(_) => Some(self.places[var as usize] as usize),
-            None => None,
+        self.assigned_law();
+        match self.truth(2 * var) {
+            Truth::Open => None,
+            Truth::Holds | Truth::Fails => Some(self.places[var as usize] as usize),
         }
     }
 
@@ -205,8 +228,8 @@ impl Assignment {
         ensures literal { self.new ≡ with_literal self.old lit reason }
         ensures assigned { IsAssigned self.new }
     {
-        self.values[lit.code() as usize] = Some(true);
-        self.values[lit.not().code() as usize] = Some(false);
+        self.values[lit.code() as usize] = Truth::Holds;
+        self.values[lit.not().code() as usize] = Truth::Fails;
         self.places[lit.var() as usize] = self.lits.len() as u32;
         self.lits.push(lit).unwrap();
         self.reasons.push(reason).unwrap();
@@ -229,8 +252,8 @@ impl Assignment {
     {
         let lit = self.lits.pop().unwrap();
         self.reasons.pop();
-        self.values[lit.code() as usize] = None;
-        self.values[lit.not().code() as usize] = None;
+        self.values[lit.code() as usize] = Truth::Open;
+        self.values[lit.not().code() as usize] = Truth::Open;
     }
 
     // Takes back all literals behind the first so many.

@@ -1,14 +1,15 @@
 //! What the clauses that watch a literal say where it has become false.
-ghost use Rattle.std.specs.Prelude.{◌≡◌, ◌⊎◌, ◌+◌, ◌<◌, ◌≤◌, [], ◌∷◌, ◌++◌, ℕ, List, length, slice_index_or, slice_get, IfOk, IfSome, IfNone, OnOk, OnErr, Ok, Some, None, true, false};
+ghost use Rattle.std.specs.Prelude.{◌≡◌, ◌⊎◌, ◌+◌, ◌<◌, ◌≤◌, ◌^◌, [], ◌∷◌, ◌++◌, ℕ, List, length, slice_index_or, slice_get, IfOk, IfSome, IfNone, OnOk, OnErr, Ok, Some, None, true, false};
 ghost use Rattle.std.specs.Bool.{OnTrue, OnFalse};
 ghost use Rattle.clause_pool.specs.Literal.{complement};
 ghost use Rattle.clause_pool.specs.Clause.{has};
 ghost use Rattle.propagate.specs.Trail.{OthersFalse, AllFalse, IsReason};
 ghost use Rattle.propagate.specs.Assignment.{IsAssigned, AreLiteralsOf};
 ghost use Rattle.propagate.specs.Visiting.{scene, Looks, IsConflict, AllTrueIn};
-ghost use Rattle.propagate.specs.Watching.{Grown, AreReasons, Keeps, AreTrue, EntryFits, clause_at, pair_of, list_of};
+ghost use Rattle.propagate.specs.Watching.{Grown, AreReasons, Keeps, AreTrue, HasTrue, IsWatching, EntryFits, clause_at, pair_of, list_of};
 
 use crate::assignment::Assignment;
+use crate::watch::Watch;
 use crate::watches::WatchedClauses;
 use clause_pool::Lit;
 use pb_base::Memory;
@@ -41,7 +42,7 @@ pub(crate) fn other_open(assignment: &Assignment, codes: &[u32], left_out: u32) 
     ensures none { IfNone result (OthersFalse assignment.now.lits codes.now left_out) }
 {
     for code in codes {
-        if *code != left_out && !assignment.is_false(*code) {
+        if !assignment.is_false(*code) && *code != left_out {
             return Some(*code);
         }
     }
@@ -83,6 +84,50 @@ pub(crate) fn put_last(assignment: &mut Assignment, code: u32, clause: u32) -> b
     true
 }
 
+// Whether the blocker of an entry is true, or the other literal that its clause watches.
+#[inline(always)]
+fn is_true_by(assignment: &Assignment, watched: &WatchedClauses, code: u32, entry: Watch) -> bool
+    requires codes { length watched.now.lists ≡ assignment.now.vars + assignment.now.vars }
+    requires watching { IsWatching watched.now }
+    requires fits { EntryFits watched.now code entry }
+    ensures { OnTrue result (HasTrue assignment.now.lits (clause_at watched.now.clauses entry.clause)) }
+{
+    if assignment.is_true(entry.blocker) {
+        return true;
+    }
+    assignment.is_true(watched.other_of(entry.clause, code))
+}
+
+// The next entry of a literal's list to look at, from this place on: those before it have nothing to say.
+#[inline(always)]
+fn next_place(
+    assignment: &Assignment,
+    watched: &WatchedClauses,
+    code: u32,
+    from: usize,
+) -> Option<usize>
+    requires codes { length watched.now.lists ≡ assignment.now.vars + assignment.now.vars }
+    requires code { code < length watched.now.lists }
+    requires from { from ≤ length (list_of watched.now code) }
+    ensures within { IfSome result (λ at. at < length (list_of watched.now code)) }
+    ensures behind { IfSome result (λ at. from ≤ at) }
+    ensures small { IfSome result (λ at. at + 1 < 2 ^ 64) }
+    ensures true_before { IfSome result (λ at. AreTrue assignment.now watched.now code from
+        → AreTrue assignment.now watched.now code at) }
+    ensures all_true { IfNone result (AreTrue assignment.now watched.now code from
+        → AllTrueIn (scene assignment.now watched.now) code) }
+{
+    let entries = watched.entries(code);
+    let mut at = from;
+    while at < entries.len() {
+        if !is_true_by(assignment, watched, code, entries[at]) {
+            return Some(at);
+        }
+        at += 1;
+    }
+    None
+}
+
 /// Looks at one entry of the list of a literal that has become false.
 #[inline(always)]
 pub(crate) fn look(
@@ -100,9 +145,6 @@ pub(crate) fn look(
         (Looks (scene assignment.old watched.old) (scene assignment.new watched.new) code at) }
 {
     let entry = watched.entry(code, at);
-    if assignment.is_true(entry.blocker) {
-        return Ok(Outcome::Kept);
-    }
     if !entry.is_binary {
         return look_further(assignment, watched, code, at);
     }
@@ -129,9 +171,6 @@ fn look_further(
 {
     let clause = watched.entry(code, at).clause;
     let other = watched.other_of(clause, code);
-    if assignment.is_true(other) {
-        return Ok(Outcome::Kept);
-    }
     if let Some(fresh) = other_open(assignment, watched.codes(clause), other) {
         watched.shift(code, at, other, fresh)?;
         return Ok(Outcome::Moved);
@@ -155,15 +194,18 @@ pub(crate) fn visit(
     ensures conflict { IfOk result (λ found. IfSome found (IsConflict (scene assignment.new watched.new))) }
     ensures all_true { result ≡ Ok None → AllTrueIn (scene assignment.new watched.new) code }
 {
-    let mut at = 0;
-    while at < watched.len_of(code) {
+    let mut from = 0;
+    while let Some(at) = next_place(assignment, watched, code, from) {
         let seen = look(assignment, watched, code, at)?;
         match seen {
             Outcome::Kept => {
-                at += 1;
+                from = at + 1;
                 continue;
             }
-            Outcome::Moved => continue,
+            Outcome::Moved => {
+                from = at;
+                continue;
+            }
             Outcome::Conflict(clause) => return Ok(Some(clause)),
         }
     }

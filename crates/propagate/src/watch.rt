@@ -53,13 +53,13 @@ impl WatchLists {
         Ok(WatchLists { lists })
     }
 
-    /// The number of entries of a literal.
+    /// The entries of a literal.
     #[inline(always)]
-    pub(crate) fn len_of(&self, code: u32) -> usize
+    pub(crate) fn entries(&self, code: u32) -> &[Watch]
         requires { code < length self.now }
-        ensures { result ≡ length (list_in self.now code) }
+        ensures { result.now ≡ list_in self.now code }
     {
-        self.lists[code as usize].len()
+        &self.lists[code as usize]
     }
 
     /// An entry of a literal.

@@ -52,13 +52,14 @@ impl WatchedClauses {
         self.store.len()
     }
 
-    /// The number of entries of a literal.
+    /// The entries of a literal.
     #[inline(always)]
-    pub(crate) fn len_of(&self, code: u32) -> usize
+    pub(crate) fn entries(&self, code: u32) -> &[Watch]
         requires { code < length self.now.lists }
-        ensures { result ≡ length (list_of self.now code) }
+        ensures entries { result.now ≡ list_of self.now code }
+        ensures watching { IsWatching self.now }
     {
-        self.lists.len_of(code)
+        self.lists.entries(code)
     }
 
     /// An entry of a literal.
@@ -90,7 +91,7 @@ impl WatchedClauses {
         ensures pair { IsOneOf (pair_of self.now clause) result }
         ensures other { AreApart (pair_of self.now clause) → result ≡ code → ⊥ }
     {
-        let pair = self.watched[clause as usize];
+        let pair = &self.watched[clause as usize];
         if pair.first == code {
             pair.second
         } else {
@@ -171,7 +172,7 @@ impl WatchedClauses {
             → Watches self.old self.new e.clause other fresh) }
         ensures err { OnErr result (self.new ≡ self.old) }
     {
-        let clause = self.lists.entry(code, at).clause;
+        let clause = self.lists.entries(code)[at].clause;
         self.lists.push(
             fresh,
             Watch {
@@ -181,10 +182,9 @@ impl WatchedClauses {
             },
         )?;
         self.lists.remove(code, at);
-        self.watched[clause as usize] = Watched {
-            first: other,
-            second: fresh,
-        };
+        let pair = &mut self.watched[clause as usize];
+        pair.first = other;
+        pair.second = fresh;
         Ok(())
     }
 }

@@ -1,25 +1,11 @@
-use Rattle.std.proofs.Common.{sym, ◌∙◌, arith}
-use Rattle.propagate.proofs.KeepLaws.{grown_not}
-use Rattle.propagate.proofs.LookLaws.{keeps_not, keeps_grown, goes_on, binary_reason, reason_conflict, binary_is}
+use Rattle.std.proofs.Common.{arith}
+use Rattle.propagate.proofs.LookLaws.{keeps_grown, goes_on, binary_reason, reason_conflict, binary_is}
 use Rattle.propagate.proofs.visit.look.Goals as goal
-
-pub is_true-requires : goal.is_true-requires
-is_true-requires c =
-    let b = c.entry-entry.ensures.watching.below c.entry-entry.result.clause c.entry-entry.result.blocker c.entry-entry.ensures.fits.blocks in
-    omega (arith, b, c.requires.codes)
 
 pub put_last-requires : goal.put_last-requires
 put_last-requires c =
     let b = c.entry-entry.ensures.watching.below c.entry-entry.result.clause c.entry-entry.result.blocker c.entry-entry.ensures.fits.blocks in
     omega (arith, b, c.requires.codes)
-
-pub returns-then-is_true-clause-keeps : goal.returns-then-is_true-clause-keeps
-returns-then-is_true-clause-keeps c = keeps_not c.args.assignment.now c.args.watched.now
-
-pub returns-then-is_true-clause-looks : goal.returns-then-is_true-clause-looks
-returns-then-is_true-clause-looks c =
-    goes_on c.args.assignment.now c.args.assignment.now c.args.watched.now c.args.code c.args.at c.entry-entry.result (grown_not c.args.assignment.now) c.entry-entry.ensures.entry
-    (c.entry-entry.result.blocker, c.entry-entry.ensures.fits.blocks, sym c.is_true.ensures ∙ c.if-is_true.true)
 
 pub returns-then-put_last-clause-keeps : goal.returns-then-put_last-clause-keeps
 returns-then-put_last-clause-keeps c =

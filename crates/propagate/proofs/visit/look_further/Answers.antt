@@ -1,24 +1,8 @@
-use Rattle.std.proofs.Common.{◌≡◌, ℕ, List, true, sym, subst, ◌∙◌, arith}
+use Rattle.std.proofs.Common.{◌≡◌, ℕ, List, true, sym, subst}
 use Rattle.clause_pool.specs.Clause.{has}
 use Rattle.propagate.specs.Watching.{Watching, Keeps}
-use Rattle.propagate.proofs.KeepLaws.{grown_not}
 use Rattle.propagate.proofs.LookLaws.{keeps_not, keeps_grown, goes_on, other_in, reason_conflict, keeps_shifted, goes_shifted, reason_by}
 use Rattle.propagate.proofs.visit.look_further.Goals as goal
-
-pub is_true-requires : goal.is_true-requires
-is_true-requires c =
-    let is_in = other_in c.args.watched.now c.entry-clause.result.clause c.other_of-other.result c.entry-clause.ensures.fits.pair c.other_of-other.ensures.pair in
-    let b = c.entry-clause.ensures.watching.below c.entry-clause.result.clause c.other_of-other.result is_in in
-    omega (arith, b, c.requires.codes)
-
-pub returns-then-is_true-clause-keeps : goal.returns-then-is_true-clause-keeps
-returns-then-is_true-clause-keeps c = keeps_not c.args.assignment.now c.args.watched.now
-
-pub returns-then-is_true-clause-looks : goal.returns-then-is_true-clause-looks
-returns-then-is_true-clause-looks c =
-    let is_in = other_in c.args.watched.now c.entry-clause.result.clause c.other_of-other.result c.entry-clause.ensures.fits.pair c.other_of-other.ensures.pair in
-    goes_on c.args.assignment.now c.args.assignment.now c.args.watched.now c.args.code c.args.at c.entry-clause.result (grown_not c.args.assignment.now) c.entry-clause.ensures.entry
-    (c.other_of-other.result, is_in, sym c.is_true.ensures ∙ c.if-is_true.true)
 
 pub returns-in_err-shift-clause-keeps : goal.returns-in_err-shift-clause-keeps
 returns-in_err-shift-clause-keeps c =
