@@ -1,11 +1,11 @@
 -- A kernel that derived further clauses, and what a clause of one literal says.
-use Rattle.std.proofs.Common.{◌≡◌, ℕ, suc, ◌<◌, ◌≤◌, Bool, false, List, [], ◌∷◌, ◌++◌, ◌*◌, Some, Result, Ok, Err, length, take, get_or, eqb, sym, ap, subst, ◌∙◌, arith, inl, inr}
+use Rattle.std.proofs.Common.{◌≡◌, ℕ, suc, ◌<◌, ◌≤◌, Bool, false, List, [], ◌∷◌, ◌*◌, Some, Result, Ok, Err, length, take, get_or, eqb, sym, ap, subst, ◌∙◌, arith, inl, inr}
 use Rattle.std.specs.Result.{IfOk}
 use Rattle.std.proofs.lemmas.Bool.{or_cases, eqb-true, false≢true}
 use Rattle.std.proofs.lemmas.List.{take-append-le, length-take}
 use Rattle.std.proofs.lemmas.Option.{slice_get-get_or}
 use Rattle.clause_pool.specs.Literal.{complement}
-use Rattle.clause_pool.specs.Clause.{KeepsBounds, AreBelow}
+use Rattle.clause_pool.specs.Clause.{KeepsBounds}
 use Rattle.clause_pool.specs.Chain.{chain}
 use Rattle.clause_pool.specs.Derivation.{Derivation, grown, placed}
 use Rattle.clause_pool.specs.declared.chain.Pair.{Pair}
@@ -13,7 +13,7 @@ use Rattle.clause_pool.specs.declared.chain.StepFault.{StepFault}
 use Rattle.propagate.specs.Trail.{Trail}
 use Rattle.solver.specs.Answer.{Refutes}
 use Rattle.solver.specs.Search.{IsKept}
-use Rattle.solver.specs.Solver.{Extends, Grows, ClosedBy}
+use Rattle.solver.specs.Solver.{Grows, ClosedBy}
 use Rattle.solver.proofs.PoolLaws.{extends_same, extends_twice, extends_one}
 
 pub grows_same : (k : Derivation) → Grows k k

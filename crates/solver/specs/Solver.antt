@@ -2,11 +2,16 @@
 --     Solving                    its kernel, the number of its variables, and how many of them are codes
 --     Extends old new            further clauses were derived, and nothing else changed
 --     Grows old new              the same, with each bound on the literals kept
+--     resolvent_of pairs r       the resolvent of a chain of these pairs, whose result is r
+--     IsDerivedBy old new start pairs c place
+--                                a chain's resolvent was derived, if there is one, and stands at a place
 --     IsRight k codes g budget answer
 --                                what an answer says of the clauses of a kernel
-use Rattle.std.specs.Prelude.{◌≡◌, ℕ, List, ◌++◌, Some, take, slice_get}
+use Rattle.std.specs.Prelude.{◌≡◌, ℕ, List, [], ◌∷◌, ◌++◌, Option, Some, None, Result, Ok, Err, length, take, slice_get}
 use Rattle.clause_pool.specs.Clause.{KeepsBounds}
-use Rattle.clause_pool.specs.Derivation.{Derivation}
+use Rattle.clause_pool.specs.Derivation.{Derivation, grown}
+use Rattle.clause_pool.specs.declared.chain.Pair.{Pair}
+use Rattle.clause_pool.specs.declared.chain.StepFault.{StepFault}
 use Rattle.solver.specs.Answer.{Begins, Refutes, IsSpent}
 use Rattle.solver.specs.declared.answer.Answer.{Answer}
 use Rattle.solver.specs.declared.answer.Answer.TheVariants.{Set, Closed, Spent}
@@ -29,6 +34,17 @@ pub record Extends (old new : Derivation) : Type 0 where
 pub record Grows (old new : Derivation) : Type 0 where
   pub extends : Extends old new
   pub bounds : KeepsBounds old.clauses new.clauses
+
+-- the resolvent of a chain, unless the chain has none or is a clause alone
+abbrev pub resolvent_of : List Pair → Result (List ℕ) StepFault → Option (List ℕ)
+resolvent_of [] r = None
+resolvent_of (p ∷ ps) (Ok c) = Some c
+resolvent_of (p ∷ ps) (Err fault) = None
+
+-- a derivation with one more clause, or the same, and where that clause stands
+abbrev pub IsDerivedBy : Derivation → Derivation → ℕ → List Pair → Option (List ℕ) → Option ℕ → Type 0
+IsDerivedBy old new start pairs (Some c) place = (new ≡ grown old start pairs c) × (place ≡ Some (length old.clauses))
+IsDerivedBy old new start pairs None place = (new ≡ old) × (place ≡ None)
 
 -- the kernel's clause at this place has no literal but the complement of the assumed one
 pub record ClosedBy (k : Derivation) (g at : ℕ) : Type 0 where

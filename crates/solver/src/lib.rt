@@ -6,6 +6,7 @@ mod answer;
 mod chain;
 mod conflict;
 mod descend;
+mod gates;
 mod jump;
 mod learn;
 mod marks;
@@ -14,6 +15,8 @@ mod order;
 mod refute;
 mod resolution;
 mod run;
+mod share;
+mod shortcut;
 mod solver;
 #[cfg(test)]
 mod tests;

@@ -14,9 +14,11 @@ ghost use Rattle.pb_base.specs.declared.limits.TheConstants.{MOST_BUDGET};
 use crate::answer::Answer;
 use crate::marks::clear;
 use crate::order::Order;
-use crate::refute::{Implied, close_false};
+use crate::refute::{Implied, Walk, close_conflict, close_false};
 use crate::resolution::Resolution;
 use crate::run::{Ending, run};
+use crate::share::share_disjunctions;
+use crate::shortcut::Shortcuts;
 use crate::way::Way;
 use clause_pool::{Kernel, Lit, Pool, Ref};
 use pb_base::{CodeSet, Memory};
@@ -34,6 +36,8 @@ pub struct Solver {
     resolution: Resolution,
     way: Way,
     order: Order,
+    shortcuts: Shortcuts,
+    walk: Walk,
     codes: u32,
 }
 
@@ -66,6 +70,8 @@ impl Solver {
             resolution: Resolution::new(alloc, vars as usize + vars as usize)?,
             way: Way::new(alloc),
             order: Order::new(alloc, vars, codes)?,
+            shortcuts: Shortcuts::new(alloc, codes),
+            walk: Walk::new(alloc),
             codes,
         })
     }
@@ -82,6 +88,19 @@ impl Solver {
         ensures { result ≡ self.now.vars }
     {
         self.engine.vars()
+    }
+
+    /// Derives what the given clauses say of disjunctions, so that what is derived later is short. No answer hangs on it.
+    #[tactic(auto, using(crate::proofs::GrowthLaws::kept_grown))]
+    pub fn share(&mut self) -> Result<(), Memory>
+        ensures extends { Extends self.old.kernel self.new.kernel }
+        ensures vars { self.new.vars ≡ self.old.vars }
+        ensures codes { self.new.codes ≡ self.old.codes }
+    {
+        let vars = self.engine.vars();
+        let shared = share_disjunctions(self.alloc, &mut self.kernel, self.codes, vars)?;
+        self.shortcuts.lead_to(shared);
+        Ok(())
     }
 
     /// Gives the kernel back.
@@ -115,6 +134,7 @@ impl Solver {
             → (lits : List ℕ) × Quiet (given_of self.old.kernel) lits × (has lits assume ≡ true) }
     {
         let first = self.kernel.pool().len();
+        self.shortcuts.forget();
         prepare(
             &self.kernel,
             &mut self.engine,
@@ -157,20 +177,78 @@ impl Solver {
         ensures codes { self.new.codes ≡ self.old.codes }
         ensures closed { IfOk result (λ found. IfSome found (ClosedBy self.new.kernel goal)) }
     {
+        self.assume_first(implied.lit)?;
+        close_false(
+            &mut self.kernel,
+            &self.engine,
+            &mut self.shortcuts,
+            &mut self.walk,
+            goal,
+            &[implied],
+        )
+    }
+
+    /// The same where the goal implies several literals, of which the first and the last are assumed one after the other.
+    #[tactic(auto, using(crate::proofs::PoolLaws::extends_same))]
+    pub fn refute_both(&mut self, goal: Lit, implied: &[Implied]) -> Result<Option<Ref>, Memory>
+        requires { goal < 2 * self.old.vars }
+        ensures extends { Extends self.old.kernel self.new.kernel }
+        ensures vars { self.new.vars ≡ self.old.vars }
+        ensures codes { self.new.codes ≡ self.old.codes }
+        ensures closed { IfOk result (λ found. IfSome found (ClosedBy self.new.kernel goal)) }
+    {
+        let Some(first) = implied.first() else {
+            return Ok(None);
+        };
+        let found = self.refute(goal, *first)?;
+        if found.is_some() {
+            return Ok(found);
+        }
+        self.close_both(goal, implied)
+    }
+
+    // Assumes the last literal too, and closes the goal by the clause that is false then, if one is.
+    #[tactic(auto, using(crate::proofs::GrowthLaws::kept_grown, crate::proofs::PoolLaws::extends_same))]
+    fn close_both(&mut self, goal: Lit, implied: &[Implied]) -> Result<Option<Ref>, Memory>
+        ensures extends { Extends self.old.kernel self.new.kernel }
+        ensures vars { self.new.vars ≡ self.old.vars }
+        ensures codes { self.new.codes ≡ self.old.codes }
+        ensures closed { IfOk result (λ found. IfSome found (ClosedBy self.new.kernel goal)) }
+    {
+        let Some(last) = implied.last() else {
+            return Ok(None);
+        };
+        let conflict = propagate_further(&self.kernel, &mut self.engine, last.lit)?;
+        let Some(at) = conflict else {
+            return Ok(None);
+        };
+        let closed = close_conflict(
+            &mut self.kernel,
+            &self.engine,
+            &mut self.shortcuts,
+            &mut self.walk,
+            goal,
+            implied,
+            at,
+        )?;
+        self.shortcuts.forget();
+        Ok(closed)
+    }
+
+    // Assumes a literal alone and propagates it.
+    fn assume_first(&mut self, lit: Lit) -> Result<(), Memory>
+        ensures { self.new ≡ self.old }
+    {
+        if begins_with(&self.engine, lit) {
+            return Ok(());
+        }
+        self.shortcuts.forget();
         assume_alone(
             &self.kernel,
             &mut self.engine,
             &self.resolution,
             &mut self.order,
-            implied.lit,
-        )?;
-        close_false(
-            &mut self.kernel,
-            &self.engine,
-            &mut self.resolution.pairs,
-            &mut self.way.ahead,
-            goal,
-            implied,
+            lit,
         )
     }
 }
@@ -180,7 +258,7 @@ fn begins_with(engine: &Engine, lit: Lit) -> bool {
     engine.level() == 1 && engine.trail().get(engine.end_of(0)) == Some(&lit)
 }
 
-// Assumes a literal alone, unless it has a value without, and propagates it. Where it is assumed already, so it stays.
+// Assumes a literal alone, unless it has a value without, and propagates it.
 fn assume_alone(
     kernel: &Kernel,
     engine: &mut Engine,
@@ -193,9 +271,6 @@ fn assume_alone(
     ensures kept { IsKept kernel.now.clauses engine.new resolution.now.marks.items }
     ensures vars { engine.new.vars ≡ engine.old.vars }
 {
-    if begins_with(engine, lit) {
-        return Ok(());
-    }
     prepare(kernel, engine, resolution, order)?;
     if lit.var() >= engine.vars() || engine.value(lit).is_some() {
         return Ok(());
@@ -203,6 +278,23 @@ fn assume_alone(
     engine.assume(lit);
     engine.propagate(kernel.pool())?;
     Ok(())
+}
+
+// Assumes a further literal, unless it has a value, and gives the clause that is false then.
+fn propagate_further(kernel: &Kernel, engine: &mut Engine, lit: Lit) -> Result<Option<Ref>, Memory>
+    requires attached { engine.old.clauses ≡ take (length engine.old.clauses) kernel.now.clauses }
+    ensures clauses { engine.new.clauses ≡ engine.old.clauses }
+    ensures vars { engine.new.vars ≡ engine.old.vars }
+{
+    let pool = kernel.pool();
+    if engine.clauses() < pool.len() || engine.level() >= engine.vars() {
+        return Ok(None);
+    }
+    if lit.var() >= engine.vars() || engine.value(lit).is_some() {
+        return Ok(None);
+    }
+    engine.assume(lit);
+    engine.propagate(pool)
 }
 
 // Takes all levels back. Each variable keeps its value to try it again.

@@ -121,6 +121,53 @@ fn a_question_without_a_search(rt: HostRuntime) -> Result<(), Fail> {
     Ok(())
 }
 
+// 6 and 7 are both `0/1`. The goal 9 is of 7 and 8, and 8 excludes 0 and 1.
+const SHARED: &[u8] = b"-6+0+1;+6-0;+6-1;-7+0+1;+7-0;+7-1;-8-0;-8-1;-9+7;-9+8;+9-7-8;";
+
+// Whether the last clause says that 7 implies 6.
+fn is_shared(solver: &Solver) -> bool {
+    let pool = solver.kernel().pool();
+    if pool.len() != 12 {
+        return false;
+    }
+    let clause = pool.lits(11);
+    clause.len() == 2 && clause[0] == Lit::new(6, true) && clause[1] == Lit::new(7, false)
+}
+
+// Whether a goal is refuted by what these literals come to together.
+fn is_refuted_by_both(solver: &mut Solver, goal: Lit, implied: &[Implied]) -> Result<bool, Fail>
+    requires { goal < 2 * solver.old.vars }
+{
+    let Some(at) = solver.refute_both(goal, implied)? else {
+        return Ok(false);
+    };
+    Ok(closes(solver, &Answer::Closed(at), goal.not()))
+}
+
+#[test]
+fn a_question_of_two_literals(rt: HostRuntime) -> Result<(), Fail> {
+    let mut solver = solver_of(rt.alloc(), SHARED)?;
+    solver.share()?;
+    let shared = is_shared(&solver);
+    assert!(rt; shared);
+    let goal = Lit::new(9, true);
+    let implied = [
+        Implied {
+            lit: Lit::new(7, true),
+            by: 8,
+        },
+        Implied {
+            lit: Lit::new(8, true),
+            by: 9,
+        },
+    ];
+    let alone = is_refuted_by_both(&mut solver, goal, &implied[..1])?;
+    assert!(rt; !alone);
+    let both = is_refuted_by_both(&mut solver, goal, &implied)?;
+    assert!(rt; both);
+    Ok(())
+}
+
 #[test]
 fn a_set_for_the_first_question(rt: HostRuntime) -> Result<(), Fail> {
     let mut solver = solver_of(rt.alloc(), BOOK)?;
