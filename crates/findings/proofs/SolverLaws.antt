@@ -5,7 +5,7 @@ use Rattle.std.specs.List.{slice_get}
 use Rattle.book_model.specs.Contents.{Contents}
 use Rattle.book_model.specs.declared.record.Slice.{Slice}
 use Rattle.clause_pool.specs.Clause.{Follows}
-use Rattle.clause_pool.specs.Derivation.{Derivation, AllFollow}
+use Rattle.clause_pool.specs.Derivation.{AllFollow}
 use Rattle.clause_pool.proofs.ClauseLaws.{all_found}
 use Rattle.clausify.specs.Coded.{slice_clauses, slice_asked}
 use Rattle.clausify.specs.Questions.{HasSet}

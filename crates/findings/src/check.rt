@@ -101,12 +101,12 @@ fn report_slices(
     let mut all = Vec::new(alloc);
     let mut earlier = Earlier::none(alloc);
     for slice in slices.iter() {
-        let checked = check_slice(alloc, book, slice, effort, &mut earlier, None)?;
-        let SliceCheck { mut notes, proof } = checked;
+        let checked = check_slice(alloc, book, slice, effort, &mut earlier)?;
+        let SliceCheck {
+            mut notes,
+            proof: _,
+        } = checked;
         all.append(&mut notes)?;
-        if let Some(proof) = proof {
-            earlier.hold(slice.first, proof.kernel);
-        }
     }
     Ok(all)
 }
@@ -143,8 +143,7 @@ fn check_slices(
     };
     let mut earlier = Earlier::none(alloc);
     for slice in slices {
-        let latest = all.proofs.last();
-        let checked = check_slice(alloc, book, slice, effort, &mut earlier, latest)?;
+        let checked = check_slice(alloc, book, slice, effort, &mut earlier)?;
         all.put(checked)?;
     }
     Ok(all)

@@ -16,6 +16,7 @@ mod pairs;
 mod report;
 mod sets;
 mod slice;
+mod trace;
 mod units;
 
 pub use check::{Checked, check_book, report_book};

@@ -16,9 +16,6 @@ use pb_base::Memory;
 use solver::Solver;
 use std::alloc::Global;
 
-// A pair alone is left to a search.
-const FEWEST_PAIRS: usize = 2;
-
 // Behind so many learnt clauses a pair is left until its turn comes.
 const PAIR_BUDGET: u32 = 1_000;
 
@@ -50,10 +47,10 @@ pub(crate) fn answer_pairs(
         budget: effort.budget.min(PAIR_BUDGET),
     };
     for (place, one) in asked.iter().enumerate() {
-        if first_of(one.question).is_none() {
+        if variants_in(one).is_none() {
             continue;
         }
-        refute_pairs(solver, units, asked, place)?;
+        refute_pairs(alloc, solver, sets, units, asked, place)?;
         let outcome = answer(alloc, book, slice, few, one, solver, sets, usages, units)?;
         if let Outcome::Closed(at) = outcome {
             units.put(one.goal, at);
@@ -62,10 +59,12 @@ pub(crate) fn answer_pairs(
     Ok(())
 }
 
-// Refutes what one propagation can of the pairs that begin at a place of the questions. Where none begin, it does nothing.
-#[tactic(auto, using(solver::proofs::PoolLaws::extends_same))]
+// Refutes the pair at a place of the questions without a search, if it can, and those of its position before the first of them.
+#[tactic(auto, using(solver::proofs::PoolLaws::extends_same, solver::proofs::PoolLaws::extends_twice))]
 fn refute_pairs(
+    alloc: Global,
     solver: &mut Solver,
+    sets: &Sets,
     units: &mut Units,
     asked: &[Asked],
     place: usize,
@@ -75,68 +74,172 @@ fn refute_pairs(
     ensures vars { solver.new.vars ≡ solver.old.vars }
     ensures codes { solver.new.codes ≡ solver.old.codes }
 {
-    let Some(first) = first_of(asked[place].question) else {
-        return Ok(());
-    };
-    if place > 0 && first_of(asked[place - 1].question) == Some(first) {
-        return Ok(());
-    }
-    let pairs = pairs_of(&asked[place..], first);
-    if open_pairs(units, pairs) < FEWEST_PAIRS {
-        return Ok(());
-    }
-    refute_each(solver, units, pairs)
+    refute_alone(alloc, solver, sets, units, pairs_at(asked, place))?;
+    refute_pair(solver, sets, units, &asked[place], Way::Both)
 }
 
-// The first variant of a pair.
-fn first_of(question: Question) -> Option<u32> {
-    match question {
-        Question::Ambiguous { first, .. } => Some(first),
+// A position, and two of its variants.
+#[derive(Clone, Copy)]
+struct Variants {
+    position: u32,
+    first: u32,
+    second: u32,
+}
+
+// What a question for a pair is for.
+fn variants_in(asked: &Asked) -> Option<Variants> {
+    match asked.question {
+        Question::Ambiguous {
+            position,
+            first,
+            second,
+        } => Some(Variants {
+            position,
+            first,
+            second,
+        }),
         _ => None,
     }
 }
 
-// The questions in front that are for pairs with this first variant.
-fn pairs_of(asked: &[Asked], first: u32) -> &[Asked] {
-    for (k, one) in asked.iter().enumerate() {
-        if first_of(one.question) != Some(first) {
-            return &asked[..k];
-        }
+// The position of the pair that a place of the questions is for.
+fn position_at(asked: &[Asked], place: usize) -> Option<u32> {
+    match asked.get(place) {
+        Some(one) => Some(variants_in(one)?.position),
+        None => None,
     }
-    asked
 }
 
-// How many aren't refuted yet.
-fn open_pairs(units: &Units, pairs: &[Asked]) -> usize {
-    pairs.iter().filter(|pair| units.is_open(pair.goal)).count()
+// The pairs of a position whose first stands at this place of the questions, or none.
+fn pairs_at(asked: &[Asked], place: usize) -> &[Asked]
+    requires { place < length asked.now }
+{
+    let position = position_at(asked, place);
+    if position.is_none() || (place > 0 && position_at(asked, place - 1) == position) {
+        return &[];
+    }
+    let pairs = &asked[place..];
+    for count in 0..pairs.len() {
+        if position_at(pairs, count) != position {
+            return &pairs[..count];
+        }
+    }
+    pairs
+}
+
+// The pairs of a position, those with the same second variant side by side.
+fn by_second<'a>(alloc: Global, pairs: &'a [Asked]) -> Result<Vec<&'a Asked>, Memory> {
+    let mut places = Vec::new(alloc);
+    for (place, pair) in pairs.iter().enumerate() {
+        if let Some(here) = variants_in(pair) {
+            places.push((here.second, place))?;
+        }
+    }
+    places.sort_unstable();
+    let mut sorted = Vec::new(alloc);
+    for (_, place) in places {
+        if let Some(pair) = pairs.get(place) {
+            sorted.push(pair)?;
+        }
+    }
+    Ok(sorted)
+}
+
+// Refutes what the propagation of a variant's formula can of the pairs of a position, first of the first ones, then of the
+// second ones.
+#[tactic(auto, using(solver::proofs::PoolLaws::extends_same, solver::proofs::PoolLaws::extends_twice))]
+fn refute_alone(
+    alloc: Global,
+    solver: &mut Solver,
+    sets: &Sets,
+    units: &mut Units,
+    pairs: &[Asked],
+) -> Result<(), Memory>
+    ensures extends { Extends solver.old.kernel solver.new.kernel }
+    ensures vars { solver.new.vars ≡ solver.old.vars }
+    ensures codes { solver.new.codes ≡ solver.old.codes }
+{
+    refute_by_first(solver, sets, units, pairs)?;
+    let sorted = by_second(alloc, pairs)?;
+    refute_by_second(solver, sets, units, &sorted)
 }
 
 #[tactic(auto, using(solver::proofs::PoolLaws::extends_same))]
-fn refute_each(solver: &mut Solver, units: &mut Units, pairs: &[Asked]) -> Result<(), Memory>
+fn refute_by_first(
+    solver: &mut Solver,
+    sets: &Sets,
+    units: &mut Units,
+    pairs: &[Asked],
+) -> Result<(), Memory>
     ensures extends { Extends solver.old.kernel solver.new.kernel }
     ensures vars { solver.new.vars ≡ solver.old.vars }
     ensures codes { solver.new.codes ≡ solver.old.codes }
 {
     for pair in pairs {
-        refute_pair(solver, units, pair)?;
+        refute_pair(solver, sets, units, pair, Way::First)?;
     }
     Ok(())
 }
 
 #[tactic(auto, using(solver::proofs::PoolLaws::extends_same))]
-fn refute_pair(solver: &mut Solver, units: &mut Units, pair: &Asked) -> Result<(), Memory>
+fn refute_by_second(
+    solver: &mut Solver,
+    sets: &Sets,
+    units: &mut Units,
+    pairs: &[&Asked],
+) -> Result<(), Memory>
     ensures extends { Extends solver.old.kernel solver.new.kernel }
     ensures vars { solver.new.vars ≡ solver.old.vars }
     ensures codes { solver.new.codes ≡ solver.old.codes }
 {
-    if !units.is_open(pair.goal) || pair.goal.var() >= solver.vars() {
+    for pair in pairs {
+        refute_pair(solver, sets, units, pair, Way::Second)?;
+    }
+    Ok(())
+}
+
+// What is propagated to refute a pair.
+#[derive(Clone, Copy)]
+enum Way {
+    First,
+    Second,
+    Both,
+}
+
+// Refutes a pair by the propagation of its variants' formulas, if it can.
+#[tactic(auto, using(solver::proofs::PoolLaws::extends_same))]
+fn refute_pair(
+    solver: &mut Solver,
+    sets: &Sets,
+    units: &mut Units,
+    pair: &Asked,
+    way: Way,
+) -> Result<(), Memory>
+    ensures extends { Extends solver.old.kernel solver.new.kernel }
+    ensures vars { solver.new.vars ≡ solver.old.vars }
+    ensures codes { solver.new.codes ≡ solver.old.codes }
+{
+    if !units.is_open(pair.goal) || pair.goal.var() >= solver.vars() || is_met(sets, pair) {
         return Ok(());
     }
     let Some(implied) = units.implied(solver.kernel().pool(), pair.goal) else {
         return Ok(());
     };
-    if let Some(at) = solver.refute(pair.goal, implied)? {
+    let found = match way {
+        Way::First => solver.refute(pair.goal, implied[0])?,
+        Way::Second => solver.refute(pair.goal, implied[1])?,
+        Way::Both => solver.refute_both(pair.goal, &implied)?,
+    };
+    if let Some(at) = found {
         units.put(pair.goal, at);
     }
     Ok(())
+}
+
+// Whether a set seems to have both variants.
+fn is_met(sets: &Sets, pair: &Asked) -> bool {
+    match variants_in(pair) {
+        Some(here) => sets.using(here.first) & sets.using(here.second) != 0,
+        None => false,
+    }
 }

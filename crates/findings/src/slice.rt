@@ -14,7 +14,7 @@ ghost use Rattle.findings.specs.Findings.{MeetsThrough};
 ghost use Rattle.findings.specs.Answering.{SliceFacts, IsAsked, IsOver, IsFound, AreTold, ShowsUnlessStopped, inquiry, stops};
 
 use crate::answer::answer;
-use crate::earlier::{Earlier, Held, derive_earlier};
+use crate::earlier::{Earlier, derive_earlier};
 use crate::effort::{Effort, is_asked};
 use crate::found::found_with;
 use crate::outcome::Told;
@@ -45,7 +45,6 @@ pub(crate) fn check_slice(
     slice: &Slice,
     effort: Effort,
     earlier: &mut Earlier,
-    latest: Option<&SliceProof>,
 ) -> Result<SliceCheck, Memory>
     requires steady { IsSteady book.now slice.now }
     requires order { IsOrdered slice.now }
@@ -57,7 +56,7 @@ pub(crate) fn check_slice(
 {
     let coded = coded_slice(alloc, book, slice)?;
     let void = first_goal(&coded.questions);
-    let mut solver = begin(alloc, book, slice, coded.pool, coded.vars, earlier, latest)?;
+    let mut solver = begin(alloc, book, slice, coded.pool, coded.vars, earlier)?;
     let searched = solver.solve(void, effort.budget)?;
     match searched {
         Answer::Set(set) => {
@@ -70,7 +69,7 @@ pub(crate) fn check_slice(
                 question: Question::Void,
                 set: None,
             };
-            earlier.hold(slice.first, solver.into_kernel());
+            earlier.follow(slice.first, solver.kernel())?;
             return only_void(alloc, slice, note);
         }
         Answer::Spent(learnt) => {
@@ -78,7 +77,7 @@ pub(crate) fn check_slice(
                 question: Question::Void,
                 learnt,
             };
-            earlier.hold(slice.first, solver.into_kernel());
+            earlier.follow(slice.first, solver.kernel())?;
             return only_void(alloc, slice, note);
         }
     }
@@ -92,8 +91,7 @@ fn begin(
     slice: &Slice,
     clauses: Pool,
     vars: u32,
-    earlier: &mut Earlier,
-    latest: Option<&SliceProof>,
+    earlier: &Earlier,
 ) -> Result<Solver, Memory>
     requires below { AreBelow (2 * vars) clauses.clauses }
     requires codes { length book.now.codes ≤ vars }
@@ -102,7 +100,7 @@ fn begin(
     ensures codes { IfOk result (λ s. s.codes ≡ length book.now.codes) }
 {
     let mut kernel = Kernel::of(alloc, clauses);
-    derive_earlier(alloc, book, slice, &mut kernel, earlier, latest)?;
+    derive_earlier(alloc, book, slice, &mut kernel, earlier)?;
     Solver::new(alloc, kernel, vars, book.codes().len())
 }
 
@@ -172,14 +170,14 @@ fn check_later(
     let mut sets = first_sets(alloc, book, slice, &set, &earlier.sets)?;
     let told = ask_later(alloc, book, slice, effort, later, &mut solver, &mut sets)?;
     sets.hand_on(&mut earlier.sets)?;
-    earlier.day = slice.first;
+    earlier.follow(slice.first, solver.kernel())?;
     let Told { notes, closed } = told;
     let proof = SliceProof {
         set,
         kernel: solver.into_kernel(),
         closed,
     };
-    put_together(alloc, slice, notes, proof, earlier)
+    put_together(alloc, slice, notes, proof)
 }
 
 // This set, and those of the slice before that are good in this one too.
@@ -202,14 +200,12 @@ fn first_sets(
     Ok(sets)
 }
 
-// What is told of a slice whose questions behind Void have these notes. A proof that counts for nothing leaves its kernel
-// to the next slice.
+// What is told of a slice whose questions behind Void have these notes.
 fn put_together(
     alloc: Global,
     slice: &Slice,
     mut own: Vec<Note>,
     proof: SliceProof,
-    earlier: &mut Earlier,
 ) -> Result<SliceCheck, Memory>
     ensures notes { IfOk result (λ c. c.notes.items
         ≡ Note.Days slice.now.first slice.now.last ∷ own.items) }
@@ -220,10 +216,8 @@ fn put_together(
     let mut notes = days_note(alloc, slice)?;
     notes.append(&mut own)?;
     if stopped {
-        earlier.kernel = Held::Here(proof.kernel);
         return Ok(SliceCheck { notes, proof: None });
     }
-    earlier.kernel = Held::InProof;
     Ok(SliceCheck {
         notes,
         proof: Some(proof),
@@ -256,6 +250,7 @@ fn ask_later(
         closed: Vec::new(alloc),
     };
     let usages = usages_of(alloc, later)?;
+    solver.share()?;
     let mut units = Units::of(alloc, solver.kernel(), later)?;
     answer_pairs(
         alloc, book, slice, effort, later, solver, sets, &usages, &mut units,

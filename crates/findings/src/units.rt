@@ -56,22 +56,30 @@ impl Units {
         }
     }
 
-    /// A literal that a goal implies by one clause.
-    pub(crate) fn implied(&self, pool: &Pool, goal: Lit) -> Option<Implied> {
+    /// The literals that a goal implies by its first two clauses.
+    pub(crate) fn implied(&self, pool: &Pool, goal: Lit) -> Option<[Implied; 2]> {
         let by = place_in(&self.implying, goal)?;
-        if by >= pool.len() {
-            return None;
-        }
-        let [first, second] = pool.lits(by) else {
-            return None;
-        };
-        let lit = if *first == goal.not() {
-            *second
-        } else {
-            *first
-        };
-        Some(Implied { lit, by })
+        Some([
+            implied_by(pool, goal, by)?,
+            implied_by(pool, goal, by.wrapping_add(1))?,
+        ])
     }
+}
+
+// The literal that a goal implies by the clause at this place.
+fn implied_by(pool: &Pool, goal: Lit, by: Ref) -> Option<Implied> {
+    if by >= pool.len() {
+        return None;
+    }
+    let [first, second] = pool.lits(by) else {
+        return None;
+    };
+    let lit = if *first == goal.not() {
+        *second
+    } else {
+        *first
+    };
+    Some(Implied { lit, by })
 }
 
 fn place_in(places: &[Option<Ref>], goal: Lit) -> Option<Ref> {

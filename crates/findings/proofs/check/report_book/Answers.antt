@@ -1,8 +1,5 @@
-use Rattle.std.proofs.Common.{All, List, sym, subst}
+use Rattle.std.proofs.Common.{All, sym, subst}
 use Rattle.book_model.specs.Slices.{IsOrdered, IsSteady}
-use Rattle.book_model.specs.declared.record.Slice.{Slice}
-use Rattle.derivation.specs.Limits.{AreWithin}
-use Rattle.findings.specs.Notes.{Inquiry, InParts, SliceNotes}
 use Rattle.findings.proofs.BookLaws.{steady_within, ordered_within}
 use Rattle.findings.proofs.check.report_book.Goals as goal
 

@@ -1,9 +1,7 @@
-use Rattle.std.proofs.Common.{ℕ, ◌<◌, length, sym, subst, ◌∙◌, arith}
+use Rattle.std.proofs.Common.{ℕ, sym, subst, ◌∙◌, arith}
 use Rattle.std.proofs.lemmas.List.Elements.{All-get_or}
-use Rattle.solver.specs.Solver.{Extends}
 use Rattle.findings.specs.Answering.{IsAsked}
 use Rattle.findings.proofs.SolverLaws.{over_further}
-use Rattle.findings.proofs.ToldLaws.{extends_further}
 use Rattle.findings.proofs.pairs.answer_pairs.Goals as goal
 
 pub answer-requires-clause-asked : goal.answer-requires-clause-asked

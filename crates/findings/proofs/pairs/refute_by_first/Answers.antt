@@ -1,6 +1,6 @@
 use Rattle.std.proofs.Common.{◌∙◌}
 use Rattle.solver.proofs.PoolLaws.{extends_twice}
-use Rattle.findings.proofs.pairs.refute_each.Goals as goal
+use Rattle.findings.proofs.pairs.refute_by_first.Goals as goal
 
 pub loop-pair-preserved : goal.loop-pair-preserved
 loop-pair-preserved c = (
