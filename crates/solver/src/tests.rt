@@ -134,11 +134,16 @@ fn is_shared(solver: &Solver) -> bool {
     clause.len() == 2 && clause[0] == Lit::new(6, true) && clause[1] == Lit::new(7, false)
 }
 
-// Whether a goal is refuted by what these literals come to together.
-fn is_refuted_by_both(solver: &mut Solver, goal: Lit, implied: &[Implied]) -> Result<bool, Fail>
+// Whether a goal is refuted by what two literals come to together.
+fn is_refuted_by_both(
+    solver: &mut Solver,
+    goal: Lit,
+    first: Implied,
+    second: Implied,
+) -> Result<bool, Fail>
     requires { goal < 2 * solver.old.vars }
 {
-    let Some(at) = solver.refute_both(goal, implied)? else {
+    let Some(at) = solver.refute_both(goal, &[first, second])? else {
         return Ok(false);
     };
     Ok(closes(solver, &Answer::Closed(at), goal.not()))
@@ -150,20 +155,15 @@ fn a_question_of_two_literals(rt: HostRuntime) -> Result<(), Fail> {
     solver.share()?;
     let shared = is_shared(&solver);
     assert!(rt; shared);
-    let goal = Lit::new(9, true);
-    let implied = [
-        Implied {
-            lit: Lit::new(7, true),
-            by: 8,
-        },
-        Implied {
-            lit: Lit::new(8, true),
-            by: 9,
-        },
-    ];
-    let alone = is_refuted_by_both(&mut solver, goal, &implied[..1])?;
-    assert!(rt; !alone);
-    let both = is_refuted_by_both(&mut solver, goal, &implied)?;
+    let first = Implied {
+        lit: Lit::new(7, true),
+        by: 8,
+    };
+    let second = Implied {
+        lit: Lit::new(8, true),
+        by: 9,
+    };
+    let both = is_refuted_by_both(&mut solver, Lit::new(9, true), first, second)?;
     assert!(rt; both);
     Ok(())
 }
