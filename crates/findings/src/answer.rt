@@ -11,6 +11,7 @@ use crate::outcome::{Outcome, from_clause, from_set};
 use crate::report::Note;
 use crate::sets::Sets;
 use crate::units::Units;
+use crate::usages::Usages;
 use book_model::{Book, Slice};
 use clause_pool::Ref;
 use clausify::Asked;
@@ -29,7 +30,7 @@ pub(crate) fn answer(
     asked: &Asked,
     solver: &mut Solver,
     sets: &mut Sets,
-    usages: &[Asked],
+    usages: &Usages,
     units: &Units,
 ) -> Result<Outcome, Memory>
     requires facts { SliceFacts book.now slice.now }
@@ -65,7 +66,7 @@ fn answer_by_search(
     asked: &Asked,
     solver: &mut Solver,
     sets: &mut Sets,
-    usages: &[Asked],
+    usages: &Usages,
 ) -> Result<Outcome, Memory>
     requires facts { SliceFacts book.now slice.now }
     requires asked { IsAsked book.now slice.now solver.old.vars asked.now }

@@ -8,6 +8,7 @@ use book_model::{Book, Slice};
 use clause_pool::Kernel;
 use pb_base::{CodeSet, Day, Memory};
 use std::alloc::Global;
+use std::mem::replace;
 
 /// What the latest slice hands on.
 #[derive(Drop)]
@@ -37,18 +38,19 @@ impl Earlier {
     }
 }
 
-/// Derives again what the slice before derived.
+/// Derives again what the slice before derived, of which nothing is kept then.
 #[tactic(auto, using(solver::proofs::GrowthLaws::grows_same))]
 pub(crate) fn derive_earlier(
     alloc: Global,
     book: &Book,
     slice: &Slice,
     kernel: &mut Kernel,
-    earlier: &Earlier,
+    earlier: &mut Earlier,
 ) -> Result<(), Memory>
     ensures { Grows kernel.old kernel.new }
 {
-    if earlier.trace.len() == 0 {
+    let trace = replace(&mut earlier.trace, Trace::none(alloc));
+    if trace.len() == 0 {
         return Ok(());
     }
     let days = Days {
@@ -56,5 +58,5 @@ pub(crate) fn derive_earlier(
         now: slice.first,
     };
     let moves = Moves::of(alloc, book, days)?;
-    derive_again(alloc, kernel, &earlier.trace, moves)
+    derive_again(alloc, kernel, &trace, moves)
 }

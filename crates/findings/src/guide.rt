@@ -4,6 +4,7 @@ ghost use Rattle.clausify.specs.Questions.{QuestionFits};
 
 use crate::found::Found;
 use crate::sets::Sets;
+use crate::usages::Usages;
 use book_model::{Book, Slice, active};
 use clause_pool::Lit;
 use clausify::{Asked, Question};
@@ -17,7 +18,7 @@ pub(crate) fn guide(
     book: &Book,
     slice: &Slice,
     sets: &Sets,
-    usages: &[Asked],
+    usages: &Usages,
     question: Question,
 )
     requires { QuestionFits book.now question }
@@ -26,7 +27,7 @@ pub(crate) fn guide(
     match question {
         Question::Void => {}
         Question::Necessary(_) | Question::Inadmissible(_) => prefer_new_codes(solver, book, sets),
-        Question::Superfluous(_) => prefer_new_usages(solver, sets, usages),
+        Question::Superfluous(_) => prefer_new_usages(solver, sets, &usages.asked),
         Question::Ambiguous {
             position: _,
             first,
@@ -35,7 +36,10 @@ pub(crate) fn guide(
             prefer_codes_of(solver, book, sets, second);
             prefer_codes_of(solver, book, sets, first);
         }
-        Question::Uncovered(position) => prefer_codes_at(solver, book, slice, sets, position),
+        Question::Uncovered(position) => {
+            prefer_codes_at(solver, book, slice, sets, position);
+            prefer_disjunctions_at(solver, usages, position);
+        }
     }
 }
 
@@ -77,6 +81,17 @@ fn prefer_codes_at(solver: &mut Solver, book: &Book, slice: &Slice, sets: &Sets,
         if active(record.from, record.until, slice.first) {
             prefer_codes_of(solver, book, sets, *variant);
         }
+    }
+}
+
+// Prefers the disjunctions that are parts of the formulas of a position's variants: what is learnt then speaks of them, and not
+// of each code that they are of.
+fn prefer_disjunctions_at(solver: &mut Solver, usages: &Usages, position: u32)
+    ensures { solver.new ≡ solver.old }
+{
+    match usages.span(position) {
+        Some(span) => solver.prefer_disjunctions(span.from, span.until),
+        None => {}
     }
 }
 

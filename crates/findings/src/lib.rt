@@ -18,6 +18,7 @@ mod sets;
 mod slice;
 mod trace;
 mod units;
+mod usages;
 
 pub use check::{Checked, check_book, report_book};
 pub use report::{Ask, Note, Report, Verdict, verdict_of};

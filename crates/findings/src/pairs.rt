@@ -10,6 +10,7 @@ use crate::effort::Effort;
 use crate::outcome::Outcome;
 use crate::sets::Sets;
 use crate::units::Units;
+use crate::usages::Usages;
 use book_model::{Book, Slice};
 use clausify::{Asked, Question};
 use pb_base::Memory;
@@ -28,7 +29,7 @@ pub(crate) fn answer_pairs(
     asked: &[Asked],
     solver: &mut Solver,
     sets: &mut Sets,
-    usages: &[Asked],
+    usages: &Usages,
     units: &mut Units,
 ) -> Result<(), Memory>
     requires facts { SliceFacts book.now slice.now }

@@ -22,6 +22,7 @@ use crate::pairs::answer_pairs;
 use crate::report::{Note, is_fault, is_left};
 use crate::sets::Sets;
 use crate::units::Units;
+use crate::usages::Usages;
 use book_model::{Book, Slice};
 use clause_pool::{Kernel, Lit, Pool};
 use clausify::{Asked, Question, coded_slice};
@@ -91,7 +92,7 @@ fn begin(
     slice: &Slice,
     clauses: Pool,
     vars: u32,
-    earlier: &Earlier,
+    earlier: &mut Earlier,
 ) -> Result<Solver, Memory>
     requires below { AreBelow (2 * vars) clauses.clauses }
     requires codes { length book.now.codes ≤ vars }
@@ -170,11 +171,13 @@ fn check_later(
     let mut sets = first_sets(alloc, book, slice, &set, &earlier.sets)?;
     let told = ask_later(alloc, book, slice, effort, later, &mut solver, &mut sets)?;
     sets.hand_on(&mut earlier.sets)?;
-    earlier.follow(slice.first, solver.kernel())?;
+    // The engine's tables are gone before the chains are copied.
+    let kernel = solver.into_kernel();
+    earlier.follow(slice.first, &kernel)?;
     let Told { notes, closed } = told;
     let proof = SliceProof {
         set,
-        kernel: solver.into_kernel(),
+        kernel,
         closed,
     };
     put_together(alloc, slice, notes, proof)
@@ -249,7 +252,7 @@ fn ask_later(
         notes: Vec::new(alloc),
         closed: Vec::new(alloc),
     };
-    let usages = usages_of(alloc, later)?;
+    let usages = Usages::of(alloc, book, later)?;
     solver.share()?;
     let mut units = Units::of(alloc, solver.kernel(), later)?;
     answer_pairs(
@@ -265,17 +268,6 @@ fn ask_later(
         told.put(place as u32 + 1, outcome)?;
     }
     Ok(told)
-}
-
-// The questions of single variants.
-fn usages_of(alloc: Global, asked: &[Asked]) -> Result<Vec<Asked>, Memory> {
-    let mut usages = Vec::new(alloc);
-    for asked in asked {
-        if matches!(asked.question, Question::Superfluous(_)) {
-            usages.push(*asked)?;
-        }
-    }
-    Ok(usages)
 }
 
 // Whether some note keeps the book from its release.

@@ -12,8 +12,8 @@ use std::alloc::Global;
 /// of one more. They are hints: a clause is looked at before it counts.
 #[derive(Drop)]
 pub(crate) struct Units {
-    refuting: Vec<Option<Ref>>,
-    implying: Vec<Option<Ref>>,
+    refuting: Vec<Option<u32>>,
+    implying: Vec<Option<u32>>,
 }
 
 impl Units {
@@ -51,7 +51,7 @@ impl Units {
     /// A clause at this place refutes a goal.
     pub(crate) fn put(&mut self, goal: Lit, at: Ref) {
         match self.refuting.get_mut(goal.var() as usize) {
-            Some(place) => *place = Some(at),
+            Some(place) => *place = u32::try_from(at).ok(),
             None => {}
         }
     }
@@ -82,10 +82,10 @@ fn implied_by(pool: &Pool, goal: Lit, by: Ref) -> Option<Implied> {
     Some(Implied { lit, by })
 }
 
-fn place_in(places: &[Option<Ref>], goal: Lit) -> Option<Ref> {
+fn place_in(places: &[Option<u32>], goal: Lit) -> Option<Ref> {
     match places.get(goal.var() as usize) {
-        Some(place) => *place,
-        None => None,
+        Some(Some(place)) => Some(*place as usize),
+        _ => None,
     }
 }
 
@@ -99,7 +99,7 @@ fn vars_of(asked: &[Asked]) -> usize {
 }
 
 // Enters a clause that has one negative literal alone.
-fn enter_unit(places: &mut [Option<Ref>], clause: &[Lit], at: Ref) {
+fn enter_unit(places: &mut [Option<u32>], clause: &[Lit], at: Ref) {
     let [lit] = clause else {
         return;
     };
@@ -107,13 +107,13 @@ fn enter_unit(places: &mut [Option<Ref>], clause: &[Lit], at: Ref) {
         return;
     }
     match places.get_mut(lit.var() as usize) {
-        Some(place) => *place = Some(at),
+        Some(place) => *place = u32::try_from(at).ok(),
         None => {}
     }
 }
 
 // Enters a clause of two literals for those that are negative and have none yet.
-fn enter_pair(places: &mut [Option<Ref>], clause: &[Lit], at: Ref) {
+fn enter_pair(places: &mut [Option<u32>], clause: &[Lit], at: Ref) {
     let [first, second] = clause else {
         return;
     };
@@ -121,12 +121,12 @@ fn enter_pair(places: &mut [Option<Ref>], clause: &[Lit], at: Ref) {
     enter_first(places, *second, at);
 }
 
-fn enter_first(places: &mut [Option<Ref>], lit: Lit, at: Ref) {
+fn enter_first(places: &mut [Option<u32>], lit: Lit, at: Ref) {
     if lit.positive() {
         return;
     }
     match places.get_mut(lit.var() as usize) {
-        Some(place) => *place = place.or(Some(at)),
+        Some(place) => *place = place.or(u32::try_from(at).ok()),
         None => {}
     }
 }

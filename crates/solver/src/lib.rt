@@ -6,6 +6,7 @@ mod answer;
 mod chain;
 mod conflict;
 mod descend;
+mod exclude;
 mod gates;
 mod jump;
 mod learn;

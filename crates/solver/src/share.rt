@@ -4,8 +4,9 @@ ghost use Rattle.std.specs.Prelude.{◌≤◌, length};
 ghost use Rattle.solver.specs.Solver.{Grows};
 
 use crate::chain::derive;
+use crate::exclude::exclude_codes;
 use crate::gates::Gates;
-use clause_pool::{Kernel, Lit, Pair, Pool};
+use clause_pool::{Kernel, Lit, Pair, Pool, Ref};
 use pb_base::Memory;
 use std::alloc::Global;
 
@@ -27,31 +28,76 @@ struct Known {
     pairs: Vec<(u32, u32)>,
 }
 
-/// Derives that each disjunction implies the first one of the same literals, and what that one implies. It gives by variable
-/// which are the first.
-#[tactic(auto, using(crate::proofs::GrowthLaws::grows_same))]
+/// By variable, what is known of a disjunction.
+#[derive(Drop)]
+pub(crate) struct Sharing {
+    /// Whether others imply it, or it is of many literals.
+    pub(crate) is_shared: Vec<bool>,
+    /// The first one of the same literals, or `NO_VAR` where the variable is no disjunction.
+    pub(crate) firsts: Vec<u32>,
+}
+
+/// The number of no variable.
+pub(crate) const NO_VAR: u32 = u32::MAX;
+
+impl Sharing {
+    // Nothing is known.
+    fn none(alloc: Global, vars: u32) -> Result<Sharing, Memory> {
+        Ok(Sharing {
+            is_shared: vec![in alloc; false; vars as usize]?,
+            firsts: vec![in alloc; NO_VAR; vars as usize]?,
+        })
+    }
+
+    // All of these are of the same literals.
+    fn lead(&mut self, first: &Disjunction, others: &[Disjunction]) {
+        put(&mut self.firsts, first.var, first.var);
+        for other in others {
+            put(&mut self.firsts, other.var, first.var);
+        }
+    }
+}
+
+fn put(firsts: &mut [u32], var: u32, first: u32) {
+    if let Some(entry) = firsts.get_mut(var as usize) {
+        *entry = first;
+    }
+}
+
+/// Derives that codes exclude each other, and of disjunctions of the same literals that the first one of them and the others
+/// imply each other, and what that one implies.
+#[tactic(auto, using(crate::proofs::GrowthLaws::grows_same, crate::proofs::GrowthLaws::grows_twice))]
 pub(crate) fn share_disjunctions(
     alloc: Global,
     kernel: &mut Kernel,
     codes: u32,
     vars: u32,
-) -> Result<Vec<bool>, Memory>
+) -> Result<Sharing, Memory>
     ensures { Grows kernel.old kernel.new }
 {
     let gates = Gates::of(alloc, kernel.pool(), kernel.given(), codes, vars)?;
-    let all = disjunctions(alloc, kernel.pool(), &gates)?;
+    exclude_codes(alloc, kernel, &gates, codes)?;
+    share_all(alloc, kernel, &gates)
+}
+
+// Derives what disjunctions of the same literals say of each other.
+#[tactic(auto, using(crate::proofs::GrowthLaws::grows_same))]
+fn share_all(alloc: Global, kernel: &mut Kernel, gates: &Gates) -> Result<Sharing, Memory>
+    ensures { Grows kernel.old kernel.new }
+{
+    let all = disjunctions(alloc, kernel.pool(), gates)?;
     let known = Known::of(alloc, kernel)?;
-    let mut shared = vec![in alloc; false; vars as usize]?;
+    let mut sharing = Sharing::none(alloc, gates.vars())?;
     let mut pairs = Vec::new(alloc);
     let mut next: usize = 0;
     for at in 0..all.len() {
         if at < next {
             continue;
         }
-        let count = share_front(kernel, &gates, &known, &all[at..], &mut shared, &mut pairs)?;
+        let count = share_front(kernel, gates, &known, &all[at..], &mut sharing, &mut pairs)?;
         next = at.saturating_add(count);
     }
-    Ok(shared)
+    Ok(sharing)
 }
 
 // Does so for the first of these and those of the same literals behind it, and gives their number.
@@ -61,7 +107,7 @@ fn share_front(
     gates: &Gates,
     known: &Known,
     all: &[Disjunction],
-    shared: &mut [bool],
+    sharing: &mut Sharing,
     pairs: &mut Vec<Pair>,
 ) -> Result<usize, Memory>
     ensures { Grows kernel.old kernel.new }
@@ -70,31 +116,51 @@ fn share_front(
         return Ok(0);
     };
     let count = same_in_front(first, others);
-    imply_each(kernel, gates, known, first, &others[..count], pairs)?;
+    let same = &others[..count];
+    sharing.lead(first, same);
     if count == 0 && first.leaves.len() < FEWEST_LEAVES {
         return Ok(1);
     }
-    mark(shared, first.var);
-    take_apart(kernel, gates, first, known, pairs)?;
+    mark(&mut sharing.is_shared, first.var);
+    let whole = take_apart(kernel, gates, first, known, pairs)?;
+    imply_each(kernel, gates, known, first, whole, same, pairs)?;
     Ok(count.saturating_add(1))
 }
 
-// Derives that each of these implies the one that they are the same as.
+// Derives that each of these implies the one that they are the same as, and is implied by it.
 #[tactic(auto, using(crate::proofs::GrowthLaws::grows_same))]
 fn imply_each(
     kernel: &mut Kernel,
     gates: &Gates,
     known: &Known,
     first: &Disjunction,
+    whole: Option<Ref>,
     same: &[Disjunction],
     pairs: &mut Vec<Pair>,
 ) -> Result<(), Memory>
     ensures { Grows kernel.old kernel.new }
 {
     for other in same {
-        imply(kernel, gates, other, first, known, pairs)?;
+        imply_both(kernel, gates, known, first, whole, other, pairs)?;
     }
     Ok(())
+}
+
+// Derives that two disjunctions of the same literals imply each other.
+#[tactic(auto, using(crate::proofs::GrowthLaws::grows_same, crate::proofs::GrowthLaws::grows_twice))]
+fn imply_both(
+    kernel: &mut Kernel,
+    gates: &Gates,
+    known: &Known,
+    first: &Disjunction,
+    whole: Option<Ref>,
+    other: &Disjunction,
+    pairs: &mut Vec<Pair>,
+) -> Result<(), Memory>
+    ensures { Grows kernel.old kernel.new }
+{
+    imply(kernel, gates, known, other, None, first, pairs)?;
+    imply(kernel, gates, known, first, whole, other, pairs)
 }
 
 fn mark(shared: &mut [bool], var: u32) {
@@ -205,7 +271,7 @@ impl Known {
     }
 }
 
-// Derives that a disjunction implies one of its literals.
+// Derives that a disjunction implies one of its literals, and gives the place of the clause that says so.
 #[tactic(auto, using(crate::proofs::GrowthLaws::grows_same))]
 fn take_apart(
     kernel: &mut Kernel,
@@ -213,43 +279,47 @@ fn take_apart(
     one: &Disjunction,
     known: &Known,
     pairs: &mut Vec<Pair>,
-) -> Result<(), Memory>
+) -> Result<Option<Ref>, Memory>
     ensures { Grows kernel.old kernel.new }
 {
     let lit = Lit::new(one.var, true);
     let Some(start) = gates.place(lit) else {
-        return Ok(());
+        return Ok(None);
     };
     if known.has(one.var, one.var) {
-        return Ok(());
+        return Ok(None);
     }
     pairs.clear();
     put_apart(kernel.pool(), gates, lit, pairs)?;
-    derive(kernel, start, pairs)?;
-    Ok(())
+    derive(kernel, start, pairs)
 }
 
-// Derives that a disjunction implies another one of the same literals.
+// Derives that a disjunction implies another one of the same literals. The clause that the first one implies one of them may
+// have been derived.
 #[tactic(auto, using(crate::proofs::GrowthLaws::grows_same))]
 fn imply(
     kernel: &mut Kernel,
     gates: &Gates,
-    one: &Disjunction,
-    other: &Disjunction,
     known: &Known,
+    one: &Disjunction,
+    whole: Option<Ref>,
+    other: &Disjunction,
     pairs: &mut Vec<Pair>,
 ) -> Result<(), Memory>
     ensures { Grows kernel.old kernel.new }
 {
-    let lit = Lit::new(one.var, true);
-    let Some(start) = gates.place(lit) else {
-        return Ok(());
-    };
     if known.has(one.var, other.var) {
         return Ok(());
     }
+    let lit = Lit::new(one.var, true);
     pairs.clear();
-    put_apart(kernel.pool(), gates, lit, pairs)?;
+    let start = match whole {
+        Some(whole) => whole,
+        None => {
+            put_apart(kernel.pool(), gates, lit, pairs)?;
+            gates.place(lit).unwrap_or(0)
+        }
+    };
     put_together(kernel.pool(), gates, Lit::new(other.var, true), pairs)?;
     derive(kernel, start, pairs)?;
     Ok(())

@@ -5,6 +5,7 @@ ghost use Rattle.std.specs.Prelude.{◌<◌, length, IfOk, IfSome};
 ghost use Rattle.solver.specs.Solver.{Grows};
 
 use crate::chain::derive;
+use crate::share::{NO_VAR, Sharing};
 use clause_pool::{Kernel, Lit, Pair, Pool, Ref};
 use pb_base::Memory;
 use propagate::Engine;
@@ -14,13 +15,12 @@ use std::collections::BinaryHeap;
 /// By variable, the derived clauses that stand for the reasons of the trail.
 #[derive(Drop)]
 pub(crate) struct Shortcuts {
-    by_var: Vec<Option<Ref>>,
+    by_var: Vec<Option<u32>>,
     // The variables above level 0 that have one.
     touched: Vec<u32>,
     // Variables below this one are codes.
     codes: u32,
-    // By variable, the disjunctions that others imply.
-    shared: Vec<bool>,
+    sharing: Option<Sharing>,
     pairs: Vec<Pair>,
     ahead: BinaryHeap<usize, Global>,
 }
@@ -32,15 +32,15 @@ impl Shortcuts {
             by_var: Vec::new(alloc),
             touched: Vec::new(alloc),
             codes,
-            shared: Vec::new(alloc),
+            sharing: None,
             pairs: Vec::new(alloc),
             ahead: BinaryHeap::new(alloc),
         }
     }
 
     /// Says which variables are disjunctions that others imply.
-    pub(crate) fn lead_to(&mut self, shared: Vec<bool>) {
-        self.shared = shared;
+    pub(crate) fn lead_to(&mut self, sharing: Sharing) {
+        self.sharing = Some(sharing);
     }
 
     /// Forgets what rests on an assumption.
@@ -56,14 +56,28 @@ impl Shortcuts {
     // The clause that stands for the reason of a variable.
     fn known(&self, var: u32) -> Option<Ref> {
         match self.by_var.get(var as usize) {
-            Some(at) => *at,
-            None => None,
+            Some(Some(at)) => Some(*at as usize),
+            _ => None,
         }
     }
 
     /// Whether a variable is a disjunction that others imply.
     pub(crate) fn is_shared(&self, var: u32) -> bool {
-        self.shared.get(var as usize) == Some(&true)
+        match &self.sharing {
+            Some(sharing) => sharing.is_shared.get(var as usize) == Some(&true),
+            None => false,
+        }
+    }
+
+    /// The first disjunction of the same literals as one, if that is one.
+    pub(crate) fn first_of(&self, var: u32) -> Option<u32> {
+        match &self.sharing {
+            Some(sharing) => match sharing.firsts.get(var as usize) {
+                Some(first) if *first != NO_VAR => Some(*first),
+                _ => None,
+            },
+            None => None,
+        }
     }
 
     // Whether ways lead back to a variable.
@@ -84,7 +98,7 @@ impl Shortcuts {
             self.touched.push(var)?;
         }
         if let Some(entry) = self.by_var.get_mut(var as usize) {
-            *entry = Some(at);
+            *entry = u32::try_from(at).ok();
         }
         Ok(())
     }

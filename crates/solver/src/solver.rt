@@ -98,8 +98,8 @@ impl Solver {
         ensures codes { self.new.codes ≡ self.old.codes }
     {
         let vars = self.engine.vars();
-        let shared = share_disjunctions(self.alloc, &mut self.kernel, self.codes, vars)?;
-        self.shortcuts.lead_to(shared);
+        let sharing = share_disjunctions(self.alloc, &mut self.kernel, self.codes, vars)?;
+        self.shortcuts.lead_to(sharing);
         Ok(())
     }
 
@@ -116,6 +116,14 @@ impl Solver {
         ensures { self.new ≡ self.old }
     {
         self.order.prefer(lit);
+    }
+
+    /// A hint: the disjunctions among the variables from this one on and before another are decided before others, true at
+    /// first. Of those that are of the same literals, the one that the others imply is. No answer becomes wrong by it.
+    pub fn prefer_disjunctions(&mut self, from: u32, until: u32)
+        ensures { self.new ≡ self.old }
+    {
+        prefer_firsts(&mut self.order, &self.shortcuts, from, until);
     }
 
     /// Looks for a set of codes that begins an assignment which satisfies the given clauses with this literal true,
@@ -250,6 +258,15 @@ impl Solver {
             &mut self.order,
             lit,
         )
+    }
+}
+
+// Prefers the first disjunction of the same literals for each of these variables that is one.
+fn prefer_firsts(order: &mut Order, shortcuts: &Shortcuts, from: u32, until: u32) {
+    for var in from..until {
+        if let Some(first) = shortcuts.first_of(var) {
+            order.prefer(Lit::new(first, true));
+        }
     }
 }
 

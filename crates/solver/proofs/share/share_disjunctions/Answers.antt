@@ -1,8 +1,5 @@
 use Rattle.solver.proofs.GrowthLaws.{grows_twice}
 use Rattle.solver.proofs.share.share_disjunctions.Goals as goal
 
-pub returns-in_err-count : goal.returns-in_err-count
-returns-in_err-count c = grows_twice c.args.kernel.now c.loop-at.kernel c.share_front.new.kernel c.loop-at.invariant c.share_front.ensures
-
-pub loop-at-preserved : goal.loop-at-preserved
-loop-at-preserved c = grows_twice c.args.kernel.now c.loop-at.kernel c.share_front.new.kernel c.loop-at.invariant c.share_front.ensures
+pub returns : goal.returns
+returns c = grows_twice c.args.kernel.now c.exclude_codes.new.kernel c.share_all.new.kernel (c.in_ok-exclude_codes.ensures) c.share_all.ensures
