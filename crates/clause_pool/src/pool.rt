@@ -3,7 +3,7 @@ ghost use Rattle.std.specs.Prelude.{◌≡◌, ◌+◌, ◌<◌, ◌≤◌, [], 
 ghost use Rattle.clause_pool.specs.Clause.{IsRising, clause_of};
 
 use crate::lit::Lit;
-use crate::region::{append, list_at};
+use crate::region::{append, list_at, reserve};
 use pb_base::Memory;
 use std::alloc::Global;
 use std::marker::Model;
@@ -95,7 +95,7 @@ impl Pool {
         ensures keeps_lits { self.old.spare_lits ≤ self.new.spare_lits }
     {
         self.starts.reserve(clauses)?;
-        self.lits.reserve(lits)?;
+        reserve(&mut self.lits, lits)?;
         self.scratch.clear();
         self.scratch.reserve(lits)?;
         Ok(())
