@@ -6,7 +6,7 @@ ghost use Rattle.propagate.specs.Watching.{Watches, IsListed, IsEntryAt, HasAt, 
 ghost use Rattle.propagate.specs.Attaching.{Attached};
 
 use crate::clause_store::ClauseStore;
-use crate::watch::{Watch, WatchLists, Watched};
+use crate::watch::{ShortWatch, Watch, WatchLists, Watched};
 use clause_pool::Lit;
 use pb_base::Memory;
 use std::alloc::Global;
@@ -54,7 +54,7 @@ impl WatchedClauses {
 
     /// The entries of a literal.
     #[inline(always)]
-    pub(crate) fn entries(&self, code: u32) -> &[Watch]
+    pub(crate) fn entries(&self, code: u32) -> &[ShortWatch]
         requires { code < length self.now.lists }
         ensures entries { result.now ≡ list_of self.now code }
         ensures watching { IsWatching self.now }
@@ -128,6 +128,9 @@ impl WatchedClauses {
         ensures err { OnErr result (self.new ≡ self.old) }
     {
         let clause = self.store.len() as u32;
+        if clause >= 1 << 31 {
+            return Err(Memory);
+        }
         let is_binary = lits.len() == 2;
         self.watched.reserve(1)?;
         self.store.push(lits)?;
@@ -172,7 +175,7 @@ impl WatchedClauses {
             → Watches self.old self.new e.clause other fresh) }
         ensures err { OnErr result (self.new ≡ self.old) }
     {
-        let clause = self.lists.entries(code)[at].clause;
+        let clause = self.lists.entries(code)[at].watch().clause;
         self.lists.push(
             fresh,
             Watch {
