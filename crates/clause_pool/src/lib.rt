@@ -15,3 +15,4 @@ pub use chain::{Pair, ShortPair, StepFault};
 pub use kernel::Kernel;
 pub use lit::Lit;
 pub use pool::{Mark, Pool, Ref};
+pub use region::make_room;

@@ -19,11 +19,11 @@ pub(crate) fn list_at<'a, T>(items: &'a [T], starts: &[usize], at: usize) -> &'a
     }
 }
 
-// From this length on a vector grows by a quarter, and not to twice its length.
+// From this length on a vector is long.
 const LONG: usize = 65_536;
 
-/// Makes room for so many further items.
-pub(crate) fn reserve<T>(items: &mut Vec<T>, more: usize) -> Result<(), AllocError>
+/// Makes room for so many further items. A long vector grows by a quarter, so that little of it is empty.
+pub fn make_room<T>(items: &mut Vec<T>, more: usize) -> Result<(), AllocError>
     ensures items { items.new.items ≡ items.old.items }
     ensures len { vec_len items.new ≡ vec_len items.old }
     ensures ok { OnOk result (vec_len items.new + more ≤ vec_capacity items.new) }

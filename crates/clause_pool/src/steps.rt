@@ -3,7 +3,7 @@ ghost use Rattle.std.specs.Prelude.{◌≡◌, ◌<◌, [], ◌∷◌, ◌++◌,
 
 use crate::chain::{Pair, ShortPair};
 use crate::pool::Ref;
-use crate::region::{append, list_at, reserve};
+use crate::region::{append, list_at, make_room};
 use pb_base::Memory;
 use std::alloc::Global;
 use std::marker::Model;
@@ -68,9 +68,9 @@ impl StepLog {
         ensures err { OnErr result (self.new ≡ self.old) }
     {
         shorten(&mut self.scratch, pairs)?;
-        self.starts.reserve(1)?;
-        self.pair_starts.reserve(1)?;
-        reserve(&mut self.pairs, pairs.len())?;
+        make_room(&mut self.starts, 1)?;
+        make_room(&mut self.pair_starts, 1)?;
+        make_room(&mut self.pairs, pairs.len())?;
         self.starts.push(start).unwrap();
         append(&mut self.pairs, &mut self.pair_starts, &self.scratch);
         Ok(())
@@ -82,8 +82,9 @@ fn shorten(short: &mut Vec<ShortPair>, pairs: &[Pair]) -> Result<(), Memory>
     ensures { OnOk result (short.new.items ≡ pairs.now) }
 {
     short.clear();
+    short.reserve(pairs.len())?;
     for pair in pairs {
-        short.push(ShortPair::of(*pair)?)?;
+        short.push_reserved(ShortPair::of(*pair)?);
     }
     Ok(())
 }
