@@ -59,8 +59,8 @@ impl ShortWatch {
 
     /// The entry itself.
     #[inline(always)]
-    pub(crate) fn watch(self) -> Watch
-        ensures value { result ≡ self }
+    pub(crate) fn watch(&self) -> Watch
+        ensures value { result ≡ self.now }
         ensures small { result.clause < 2 ^ 31 }
     {
         Watch {
@@ -127,13 +127,12 @@ impl WatchLists {
 
     /// A further entry of a literal. On want of memory the lists are as before.
     #[inline(always)]
-    pub(crate) fn push(&mut self, code: u32, watch: Watch) -> Result<(), Memory>
-        requires list { code < length self.old }
-        requires place { watch.clause < 2 ^ 31 }
+    pub(crate) fn push(&mut self, code: u32, watch: ShortWatch) -> Result<(), Memory>
+        requires { code < length self.old }
         ensures ok { OnOk result (self.new ≡ pushed_at self.old code watch) }
         ensures err { OnErr result (self.new ≡ self.old) }
     {
-        let Ok(()) = self.lists[code as usize].push(ShortWatch::of(watch)) else {
+        let Ok(()) = self.lists[code as usize].push(watch) else {
             return Err(Memory);
         };
         Ok(())
@@ -151,14 +150,12 @@ impl WatchLists {
     pub(crate) fn push_two(
         &mut self,
         first: u32,
-        first_watch: Watch,
+        first_watch: ShortWatch,
         second: u32,
-        second_watch: Watch,
+        second_watch: ShortWatch,
     ) -> Result<(), Memory>
         requires first { first < length self.old }
         requires second { second < length self.old }
-        requires first_place { first_watch.clause < 2 ^ 31 }
-        requires second_place { second_watch.clause < 2 ^ 31 }
         ensures ok { OnOk result
             (self.new ≡ pushed_at (pushed_at self.old first first_watch) second second_watch) }
         ensures err { OnErr result (self.new ≡ self.old) }

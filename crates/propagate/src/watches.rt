@@ -7,7 +7,7 @@ ghost use Rattle.propagate.specs.Attaching.{Attached};
 
 use crate::clause_store::ClauseStore;
 use crate::watch::{ShortWatch, Watch, WatchLists, Watched};
-use clause_pool::Lit;
+use clause_pool::{Lit, make_room};
 use pb_base::Memory;
 use std::alloc::Global;
 use std::marker::Model;
@@ -106,7 +106,7 @@ impl WatchedClauses {
         ensures attached { OnOk result (Attached self.old self.new lits.now no_pair) }
         ensures err { OnErr result (self.new ≡ self.old) }
     {
-        self.watched.reserve(1)?;
+        make_room(&mut self.watched, 1)?;
         self.store.push(lits)?;
         let pair = Watched {
             first: 0,
@@ -132,18 +132,18 @@ impl WatchedClauses {
             return Err(Memory);
         }
         let is_binary = lits.len() == 2;
-        self.watched.reserve(1)?;
+        make_room(&mut self.watched, 1)?;
         self.store.push(lits)?;
-        let first = Watch {
+        let first = ShortWatch::of(Watch {
             clause,
             blocker: pair.second,
             is_binary,
-        };
-        let second = Watch {
+        });
+        let second = ShortWatch::of(Watch {
             clause,
             blocker: pair.first,
             is_binary,
-        };
+        });
         let Ok(()) = self.lists.push_two(pair.first, first, pair.second, second) else {
             self.store.pop();
             return Err(Memory);
@@ -176,14 +176,12 @@ impl WatchedClauses {
         ensures err { OnErr result (self.new ≡ self.old) }
     {
         let clause = self.lists.entries(code)[at].watch().clause;
-        self.lists.push(
-            fresh,
-            Watch {
-                clause,
-                blocker: other,
-                is_binary: false,
-            },
-        )?;
+        let entry = ShortWatch::of(Watch {
+            clause,
+            blocker: other,
+            is_binary: false,
+        });
+        self.lists.push(fresh, entry)?;
         self.lists.remove(code, at);
         let pair = &mut self.watched[clause as usize];
         pair.first = other;
