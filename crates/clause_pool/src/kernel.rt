@@ -5,7 +5,7 @@ ghost use Rattle.clause_pool.specs.Chain.{chain};
 ghost use Rattle.clause_pool.specs.Clause.{KeepsBounds};
 ghost use Rattle.clause_pool.specs.Derivation.{AllFollow, IsDerived, grown, kernel_of, placed};
 
-use crate::chain::{Pair, StepFault};
+use crate::chain::{Pair, ShortPair, StepFault};
 use crate::lit::Lit;
 use crate::pool::{Pool, Ref};
 use crate::run::run_chain;
@@ -85,7 +85,7 @@ impl Kernel {
     }
 
     /// The pairs of the chain of the clause at this place, or none for a given clause.
-    pub fn pairs_of(&self, at: Ref) -> &[Pair]
+    pub fn pairs_of(&self, at: Ref) -> &[ShortPair]
         requires { at < length self.now.clauses }
         ensures given { at < self.now.given → result.now ≡ [] }
         ensures derived { self.now.given ≤ at

@@ -11,7 +11,8 @@ mod run;
 mod running;
 mod steps;
 
-pub use chain::{Pair, StepFault};
+pub use chain::{Pair, ShortPair, StepFault};
 pub use kernel::Kernel;
 pub use lit::Lit;
 pub use pool::{Mark, Pool, Ref};
+pub use region::make_room;

@@ -3,7 +3,7 @@ ghost use Rattle.std.specs.Prelude.{◌≡◌, ◌+◌, ◌<◌, ◌≤◌, [], 
 ghost use Rattle.clause_pool.specs.Clause.{IsRising, clause_of};
 
 use crate::lit::Lit;
-use crate::region::{append, list_at};
+use crate::region::{append, list_at, make_room};
 use pb_base::Memory;
 use std::alloc::Global;
 use std::marker::Model;
@@ -94,8 +94,8 @@ impl Pool {
         ensures keeps_clauses { self.old.spare_clauses ≤ self.new.spare_clauses }
         ensures keeps_lits { self.old.spare_lits ≤ self.new.spare_lits }
     {
-        self.starts.reserve(clauses)?;
-        self.lits.reserve(lits)?;
+        make_room(&mut self.starts, clauses)?;
+        make_room(&mut self.lits, lits)?;
         self.scratch.clear();
         self.scratch.reserve(lits)?;
         Ok(())

@@ -1,6 +1,8 @@
 //! Lists that lie one after another in one vector, of which the places where they start are kept.
-ghost use Rattle.std.specs.Prelude.{◌≡◌, ◌+◌, ◌<◌, ◌≤◌, [], ◌∷◌, ◌++◌, length, slice_index_or, vec_capacity, vec_len};
+ghost use Rattle.std.specs.Prelude.{◌≡◌, ◌+◌, ◌<◌, ◌≤◌, [], ◌∷◌, ◌++◌, length, slice_index_or, vec_capacity, vec_len, OnOk};
 ghost use Rattle.clause_pool.specs.Region.{IsRegion, region};
+
+use std::alloc::AllocError;
 
 /// The list at this place, counted from 0.
 #[tactic(auto, using(crate::proofs::RegionLaws::start_within, crate::proofs::RegionLaws::start_below, crate::proofs::RegionLaws::region_get, crate::proofs::RegionLaws::region_last))]
@@ -15,6 +17,23 @@ pub(crate) fn list_at<'a, T>(items: &'a [T], starts: &[usize], at: usize) -> &'a
     } else {
         &items[start..]
     }
+}
+
+// From this length on a vector is long.
+const LONG: usize = 65_536;
+
+/// Makes room for so many further items. A long vector grows by a quarter, so that little of it is empty.
+pub fn make_room<T>(items: &mut Vec<T>, more: usize) -> Result<(), AllocError>
+    ensures items { items.new.items ≡ items.old.items }
+    ensures len { vec_len items.new ≡ vec_len items.old }
+    ensures ok { OnOk result (vec_len items.new + more ≤ vec_capacity items.new) }
+    ensures capacity { vec_capacity items.old ≤ vec_capacity items.new }
+{
+    let len = items.len();
+    if len < LONG || more <= items.capacity() - len {
+        return items.reserve(more);
+    }
+    items.reserve_exact(more.max(len / 4))
 }
 
 /// A further list at the end, in room that is there.

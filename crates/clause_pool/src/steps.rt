@@ -1,9 +1,9 @@
 //! The chains of the clauses that were derived.
 ghost use Rattle.std.specs.Prelude.{◌≡◌, ◌<◌, [], ◌∷◌, ◌++◌, length, slice_index, slice_index_or, OnOk, OnErr};
 
-use crate::chain::Pair;
+use crate::chain::{Pair, ShortPair};
 use crate::pool::Ref;
-use crate::region::{append, list_at};
+use crate::region::{append, list_at, make_room};
 use pb_base::Memory;
 use std::alloc::Global;
 use std::marker::Model;
@@ -12,8 +12,10 @@ use std::marker::Model;
 #[derive(Drop)]
 pub(crate) struct StepLog {
     starts: Vec<Ref>,
-    pairs: Vec<Pair>,
+    pairs: Vec<ShortPair>,
     pair_starts: Vec<usize>,
+    // Where the pairs of one chain are made short.
+    scratch: Vec<ShortPair>,
 }
 
 impl Model for StepLog {
@@ -39,6 +41,7 @@ impl StepLog {
             starts: Vec::new(alloc),
             pairs: Vec::new(alloc),
             pair_starts: Vec::new(alloc),
+            scratch: Vec::new(alloc),
         }
     }
 
@@ -51,7 +54,7 @@ impl StepLog {
     }
 
     /// The pairs of the n-th derived clause.
-    pub(crate) fn pairs(&self, n: usize) -> &[Pair]
+    pub(crate) fn pairs(&self, n: usize) -> &[ShortPair]
         requires { n < length self.now.starts }
         ensures { result.now ≡ slice_index_or self.now.pairs n [] }
     {
@@ -64,11 +67,24 @@ impl StepLog {
         ensures pairs { OnOk result (self.new.pairs ≡ self.old.pairs ++ pairs.now ∷ []) }
         ensures err { OnErr result (self.new ≡ self.old) }
     {
-        self.starts.reserve(1)?;
-        self.pair_starts.reserve(1)?;
-        self.pairs.reserve(pairs.len())?;
+        shorten(&mut self.scratch, pairs)?;
+        make_room(&mut self.starts, 1)?;
+        make_room(&mut self.pair_starts, 1)?;
+        make_room(&mut self.pairs, pairs.len())?;
         self.starts.push(start).unwrap();
-        append(&mut self.pairs, &mut self.pair_starts, pairs);
+        append(&mut self.pairs, &mut self.pair_starts, &self.scratch);
         Ok(())
     }
+}
+
+// Makes these pairs short.
+fn shorten(short: &mut Vec<ShortPair>, pairs: &[Pair]) -> Result<(), Memory>
+    ensures { OnOk result (short.new.items ≡ pairs.now) }
+{
+    short.clear();
+    short.reserve(pairs.len())?;
+    for pair in pairs {
+        short.push_reserved(ShortPair::of(*pair)?);
+    }
+    Ok(())
 }

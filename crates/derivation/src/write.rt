@@ -12,7 +12,7 @@ use crate::closing::Closing;
 use crate::laws::book_laws;
 use crate::slice_proof::SliceProof;
 use book_model::Book;
-use clause_pool::{Kernel, Lit, Pair, Ref};
+use clause_pool::{Kernel, Lit, Ref, ShortPair};
 use pb_base::{Body, CodeSet, CodeTable, Id, Memory, Text};
 use std::alloc::Global;
 
@@ -127,7 +127,7 @@ fn put_step(text: &mut Text, kernel: &Kernel, at: Ref) -> Result<(), Memory>
 }
 
 #[tactic(auto, using(crate::proofs::LineLaws::some_words, crate::proofs::LineLaws::more_words))]
-fn put_step_line(text: &mut Text, start: Ref, pairs: &[Pair]) -> Result<(), Memory>
+fn put_step_line(text: &mut Text, start: Ref, pairs: &[ShortPair]) -> Result<(), Memory>
     ensures text { OnOk result (text.new
         ≡ text.old ++ line_of (codes "step") (decimal start ∷ pair_words pairs.now)) }
     ensures fits { OnOk result ((start < 2 ^ 64) × All PairFits pairs.now) }
@@ -138,11 +138,12 @@ fn put_step_line(text: &mut Text, start: Ref, pairs: &[Pair]) -> Result<(), Memo
     text.put(b"\n")
 }
 
-fn put_pairs(text: &mut Text, pairs: &[Pair]) -> Result<(), Memory>
+fn put_pairs(text: &mut Text, pairs: &[ShortPair]) -> Result<(), Memory>
     ensures words { OnOk result (text.new ≡ text.old ++ spaced (pair_words pairs.now)) }
     ensures fit { OnOk result (All PairFits pairs.now) }
 {
     for pair in pairs {
+        let pair = pair.pair();
         put_literal(text, pair.lit)?;
         put_number(text, pair.with as u64)?;
     }

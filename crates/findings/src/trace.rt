@@ -1,5 +1,5 @@
 //! What a kernel derived, without its clauses. It takes half the room of the chains, and none of the clauses.
-use clause_pool::{Kernel, Lit, Pair, Ref};
+use clause_pool::{Kernel, Lit, Pair, Ref, ShortPair};
 use pb_base::Memory;
 use std::alloc::Global;
 
@@ -45,10 +45,11 @@ impl Trace {
         Ok(())
     }
 
-    fn put(&mut self, start: Ref, pairs: &[Pair]) -> Result<(), Memory> {
+    fn put(&mut self, start: Ref, pairs: &[ShortPair]) -> Result<(), Memory> {
         self.numbers.push(short(start))?;
         self.numbers.push(short(pairs.len()))?;
         for pair in pairs {
+            let pair = pair.pair();
             self.numbers.push(short(pair.lit.code() as usize))?;
             self.numbers.push(short(pair.with))?;
         }

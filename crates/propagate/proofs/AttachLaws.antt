@@ -144,6 +144,11 @@ pushed_back lists code e within =
 pub pushed_clause_back : (cs : List (List ℕ)) (c : List ℕ) → take (length (cs ++ c ∷ []) - 1) (cs ++ c ∷ []) ≡ cs
 pushed_clause_back cs c = ap (λ (n : ℕ). take n (cs ++ c ∷ [])) (omega (arith, length-append cs (c ∷ []))) ∙ take-append_seam cs (c ∷ [])
 
+-- the entries are pushed by what they are
+pub pushed_two : (lists : List (List Watch)) (i j : ℕ) (d e f g : Watch) → d ≡ f → e ≡ g
+    → pushed_at (pushed_at lists i d) j e ≡ pushed_at (pushed_at lists i f) j g
+pushed_two lists i j d e f g first second = rw (first, second) refl
+
 -- a clause with its two entries
 abbrev pub with_pair : Watching → List ℕ → Watched → Bool → Watching
 with_pair w c pair is_binary =

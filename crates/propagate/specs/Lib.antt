@@ -7,4 +7,5 @@ pub mod Visiting
 pub mod Running
 pub mod Attaching
 pub mod Joining
+pub mod Packing
 pub mod Plain

@@ -2,7 +2,7 @@
 ghost use Rattle.std.specs.Prelude.{◌≡◌, ◌+◌, ◌-◌, ◌<◌, ◌≤◌, ◌^◌, [], ◌∷◌, ◌++◌, length, take, slice_index_or, vec_len, vec_capacity, All, OnOk, OnErr};
 ghost use Rattle.clause_pool.specs.Region.{IsRegion, region};
 
-use clause_pool::Lit;
+use clause_pool::{Lit, make_room};
 use pb_base::Memory;
 use std::alloc::Global;
 use std::marker::Model;
@@ -72,8 +72,8 @@ impl ClauseStore {
         let Ok(start) = u32::try_from(self.codes.len()) else {
             return Err(Memory);
         };
-        self.starts.reserve(1)?;
-        self.codes.reserve(lits.len())?;
+        make_room(&mut self.starts, 1)?;
+        make_room(&mut self.codes, lits.len())?;
         self.starts.push(start).unwrap();
         append_codes(&mut self.codes, lits);
         Ok(())

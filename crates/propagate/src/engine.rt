@@ -151,7 +151,7 @@ impl Engine {
     }
 
     /// Attaches the next clause of a pool; a literal that it forces may become true at once. On want of
-    /// memory the engine is as before. There is no room for 2^32 clauses.
+    /// memory the engine is as before. There is no room for 2^31 clauses.
     pub fn attach(&mut self, pool: &Pool, at: Ref) -> Result<(), Memory>
         requires next { at ≡ length self.old.clauses }
         requires there { at < length pool.now.clauses }

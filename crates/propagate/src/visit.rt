@@ -120,7 +120,7 @@ fn next_place(
     let entries = watched.entries(code);
     let mut at = from;
     while at < entries.len() {
-        if !is_true_by(assignment, watched, code, entries[at]) {
+        if !is_true_by(assignment, watched, code, entries[at].watch()) {
             return Some(at);
         }
         at += 1;

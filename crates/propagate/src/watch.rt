@@ -1,5 +1,5 @@
 //! Which clauses are looked at when a literal becomes false.
-ghost use Rattle.std.specs.Prelude.{◌≡◌, ◌<◌, [], ℕ, length, slice_get, slice_index_or, slice_set, IfOk, OnOk, OnErr, Some};
+ghost use Rattle.std.specs.Prelude.{◌≡◌, ◌<◌, ◌^◌, [], ℕ, length, slice_get, slice_index_or, slice_set, IfOk, OnOk, OnErr, Some};
 ghost use Rattle.std.specs.List.{swap_remove};
 ghost use Rattle.propagate.specs.Attaching.{pushed_at, popped_at};
 ghost use Rattle.propagate.specs.Watching.{list_in};
@@ -18,6 +18,59 @@ pub(crate) struct Watch {
     pub(crate) is_binary: bool,
 }
 
+/// An entry in 8 bytes, as the lists keep it. Contracts see the entry.
+#[derive(Clone, Copy)]
+pub(crate) struct ShortWatch {
+    // Twice the place of the clause, plus one if it has two literals.
+    place: u32,
+    blocker: u32,
+}
+
+impl Model for ShortWatch {
+    ghost use Rattle.std.specs.Prelude.{◌+◌, ◌*◌, ◌/◌, ◌%◌, ◌==◌, if◌then◌else◌};
+    ghost use Rattle.propagate.specs.declared.watch.Watch.{Watch};
+    ghost use Rattle.propagate.specs.Packing.{place_back};
+
+    ghost Value = { Watch };
+
+    ghost view = { λ w.
+        record { clause = w.place / 2; blocker = w.blocker; is_binary = w.place % 2 == 1 } };
+
+    ghost inverse = { λ e. record {
+      place = 2 * e.clause + (if e.is_binary then 1 else 0);
+      blocker = e.blocker;
+    } };
+
+    ghost inverse_ok = { λ a h i. record { place = place_back a.place i; blocker = a.blocker } };
+}
+
+impl ShortWatch {
+    /// The entry in 8 bytes.
+    #[inline(always)]
+    pub(crate) fn of(watch: Watch) -> ShortWatch
+        requires { watch.clause < 2 ^ 31 }
+        ensures { result ≡ watch }
+    {
+        ShortWatch {
+            place: 2 * watch.clause + u32::from(watch.is_binary),
+            blocker: watch.blocker,
+        }
+    }
+
+    /// The entry itself.
+    #[inline(always)]
+    pub(crate) fn watch(&self) -> Watch
+        ensures value { result ≡ self.now }
+        ensures small { result.clause < 2 ^ 31 }
+    {
+        Watch {
+            clause: self.place / 2,
+            blocker: self.blocker,
+            is_binary: self.place % 2 == 1,
+        }
+    }
+}
+
 /// The two literals of a clause that it watches.
 #[derive(Clone, Copy)]
 pub(crate) struct Watched {
@@ -28,7 +81,7 @@ pub(crate) struct Watched {
 /// For each literal, by its code, the clauses that watch it. Contracts see a list of lists.
 #[derive(Drop)]
 pub(crate) struct WatchLists {
-    lists: Vec<Vec<Watch>>,
+    lists: Vec<Vec<ShortWatch>>,
 }
 
 impl Model for WatchLists {
@@ -55,7 +108,7 @@ impl WatchLists {
 
     /// The entries of a literal.
     #[inline(always)]
-    pub(crate) fn entries(&self, code: u32) -> &[Watch]
+    pub(crate) fn entries(&self, code: u32) -> &[ShortWatch]
         requires { code < length self.now }
         ensures { result.now ≡ list_in self.now code }
     {
@@ -69,12 +122,12 @@ impl WatchLists {
         requires there { at < length (list_in self.now code) }
         ensures { slice_get (list_in self.now code) at ≡ Some result }
     {
-        self.lists[code as usize][at]
+        self.lists[code as usize][at].watch()
     }
 
     /// A further entry of a literal. On want of memory the lists are as before.
     #[inline(always)]
-    pub(crate) fn push(&mut self, code: u32, watch: Watch) -> Result<(), Memory>
+    pub(crate) fn push(&mut self, code: u32, watch: ShortWatch) -> Result<(), Memory>
         requires { code < length self.old }
         ensures ok { OnOk result (self.new ≡ pushed_at self.old code watch) }
         ensures err { OnErr result (self.new ≡ self.old) }
@@ -97,9 +150,9 @@ impl WatchLists {
     pub(crate) fn push_two(
         &mut self,
         first: u32,
-        first_watch: Watch,
+        first_watch: ShortWatch,
         second: u32,
-        second_watch: Watch,
+        second_watch: ShortWatch,
     ) -> Result<(), Memory>
         requires first { first < length self.old }
         requires second { second < length self.old }
@@ -123,6 +176,6 @@ impl WatchLists {
         ensures entry { slice_index_or (list_in self.old code) at result ≡ result }
         ensures lists { self.new ≡ slice_set self.old code (swap_remove (list_in self.old code) at result) }
     {
-        self.lists[code as usize].swap_remove(at)
+        self.lists[code as usize].swap_remove(at).watch()
     }
 }

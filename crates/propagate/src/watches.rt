@@ -6,8 +6,8 @@ ghost use Rattle.propagate.specs.Watching.{Watches, IsListed, IsEntryAt, HasAt, 
 ghost use Rattle.propagate.specs.Attaching.{Attached};
 
 use crate::clause_store::ClauseStore;
-use crate::watch::{Watch, WatchLists, Watched};
-use clause_pool::Lit;
+use crate::watch::{ShortWatch, Watch, WatchLists, Watched};
+use clause_pool::{Lit, make_room};
 use pb_base::Memory;
 use std::alloc::Global;
 use std::marker::Model;
@@ -54,7 +54,7 @@ impl WatchedClauses {
 
     /// The entries of a literal.
     #[inline(always)]
-    pub(crate) fn entries(&self, code: u32) -> &[Watch]
+    pub(crate) fn entries(&self, code: u32) -> &[ShortWatch]
         requires { code < length self.now.lists }
         ensures entries { result.now ≡ list_of self.now code }
         ensures watching { IsWatching self.now }
@@ -106,7 +106,7 @@ impl WatchedClauses {
         ensures attached { OnOk result (Attached self.old self.new lits.now no_pair) }
         ensures err { OnErr result (self.new ≡ self.old) }
     {
-        self.watched.reserve(1)?;
+        make_room(&mut self.watched, 1)?;
         self.store.push(lits)?;
         let pair = Watched {
             first: 0,
@@ -128,19 +128,22 @@ impl WatchedClauses {
         ensures err { OnErr result (self.new ≡ self.old) }
     {
         let clause = self.store.len() as u32;
+        if clause >= 1 << 31 {
+            return Err(Memory);
+        }
         let is_binary = lits.len() == 2;
-        self.watched.reserve(1)?;
+        make_room(&mut self.watched, 1)?;
         self.store.push(lits)?;
-        let first = Watch {
+        let first = ShortWatch::of(Watch {
             clause,
             blocker: pair.second,
             is_binary,
-        };
-        let second = Watch {
+        });
+        let second = ShortWatch::of(Watch {
             clause,
             blocker: pair.first,
             is_binary,
-        };
+        });
         let Ok(()) = self.lists.push_two(pair.first, first, pair.second, second) else {
             self.store.pop();
             return Err(Memory);
@@ -172,15 +175,13 @@ impl WatchedClauses {
             → Watches self.old self.new e.clause other fresh) }
         ensures err { OnErr result (self.new ≡ self.old) }
     {
-        let clause = self.lists.entries(code)[at].clause;
-        self.lists.push(
-            fresh,
-            Watch {
-                clause,
-                blocker: other,
-                is_binary: false,
-            },
-        )?;
+        let clause = self.lists.entries(code)[at].watch().clause;
+        let entry = ShortWatch::of(Watch {
+            clause,
+            blocker: other,
+            is_binary: false,
+        });
+        self.lists.push(fresh, entry)?;
         self.lists.remove(code, at);
         let pair = &mut self.watched[clause as usize];
         pair.first = other;
