@@ -8,7 +8,6 @@ use clause_pool::Lit;
 use pb_base::Memory;
 use propagate::Engine;
 use std::alloc::Global;
-use std::cmp::Reverse;
 use std::collections::BinaryHeap;
 
 // Where the step by which activities grow reaches this, all of them are halved 32 times.
@@ -17,7 +16,7 @@ const STEP_LIMIT: u64 = 1 << 48;
 // Behind so many conflicts of a question its hints are forgotten.
 const HINTED_CONFLICTS: u32 = 50;
 
-// What a variable has in the order.
+// What a code has in the order.
 #[derive(Clone, Copy)]
 struct Standing {
     activity: u64,
@@ -26,13 +25,14 @@ struct Standing {
     phase: bool,
 }
 
-/// The variables by activity, those that were in conflicts lately first, and of equals the lower one. Each has the
-/// value that it had last.
+/// The codes by activity, those that were in conflicts lately first, and of equals the lower one. Each has the value
+/// that it had last. Other variables are not entered: once the codes have values, propagation gives them theirs.
 #[derive(Drop)]
 pub(crate) struct Order {
+    // By code.
     standings: Vec<Standing>,
-    // An entry counts if its variable's standing names it.
-    heap: BinaryHeap<(u64, Reverse<u32>), Global>,
+    // An entry counts if its code's standing names it.
+    heap: BinaryHeap<u128, Global>,
     step: u64,
     // What is decided first, the last one before the others.
     hints: Vec<Lit>,
@@ -41,49 +41,53 @@ pub(crate) struct Order {
     // They were given for a question that has been asked.
     are_old: bool,
     hinted_conflicts: u32,
-    // Variables from this on are not entered by themselves: once those before have values, propagation gives them theirs.
-    codes: u32,
+}
+
+// An entry of the heap: the activity, and for equals the complement of the code, so that the lower one is the greater.
+fn entry_of(activity: u64, code: u32) -> u128 {
+    (u128::from(activity) << 32) | u128::from(!code)
+}
+
+// The activity and the code of an entry.
+fn parts_of(entry: u128) -> (u64, u32) {
+    let activity = (entry >> 32) & u128::from(u64::MAX);
+    let others = entry & u128::from(u32::MAX);
+    (activity as u64, !(others as u32))
+}
+
+// Puts a code into the heap with its activity. Where there is no room, it is found without.
+fn enter(heap: &mut BinaryHeap<u128, Global>, standing: &mut Standing, code: u32) {
+    let activity = standing.activity;
+    if standing.entered == Some(activity) {
+        return;
+    }
+    if heap.push(entry_of(activity, code)).is_ok() {
+        standing.entered = Some(activity);
+    }
 }
 
 impl Order {
-    /// So many variables with the value false. Those that stand for codes are decided first, the lowest before the others.
-    pub(crate) fn new(alloc: Global, vars: u32, codes: u32) -> Result<Order, Memory> {
+    /// So many codes with the value false, the lowest first.
+    pub(crate) fn new(alloc: Global, codes: u32) -> Result<Order, Memory> {
         let standing = Standing {
             activity: 0,
             entered: None,
             phase: false,
         };
         let mut order = Order {
-            standings: vec![in alloc; standing; vars as usize]?,
+            standings: vec![in alloc; standing; codes as usize]?,
             heap: BinaryHeap::with_capacity(alloc, codes as usize)?,
             step: 1 << 10,
             hints: Vec::new(alloc),
             hints_left: 0,
             are_old: false,
             hinted_conflicts: HINTED_CONFLICTS,
-            codes,
         };
-        for var in 0..codes {
-            order.enter(var);
-        }
+        order.enter_all();
         Ok(order)
     }
 
-    // Puts a variable into the heap with its activity. Where there is no room, it is found without.
-    fn enter(&mut self, var: u32) {
-        let Some(standing) = self.standings.get_mut(var as usize) else {
-            return;
-        };
-        if standing.entered == Some(standing.activity) {
-            return;
-        }
-        if self.heap.push((standing.activity, Reverse(var))).is_ok() {
-            standing.entered = Some(standing.activity);
-        }
-    }
-
-    /// The variables of a clause were in a conflict. They have values, and are entered anew where these are taken
-    /// back.
+    /// The codes of a clause were in a conflict. They have values, and are entered anew where these are taken back.
     pub(crate) fn bump_all(&mut self, lits: &[Lit]) {
         for lit in lits {
             if let Some(standing) = self.standings.get_mut(lit.var() as usize) {
@@ -112,11 +116,11 @@ impl Order {
     // Puts all codes into the heap anew.
     fn enter_all(&mut self) {
         self.heap.clear();
+        let mut code: u32 = 0;
         for standing in self.standings.iter_mut() {
             standing.entered = None;
-        }
-        for var in 0..self.codes {
-            self.enter(var);
+            enter(&mut self.heap, standing, code);
+            code = code.wrapping_add(1);
         }
     }
 
@@ -127,9 +131,7 @@ impl Order {
             let lit = lits[place];
             if let Some(standing) = self.standings.get_mut(lit.var() as usize) {
                 standing.phase = lit.positive();
-            }
-            if lit.var() < self.codes {
-                self.enter(lit.var());
+                enter(&mut self.heap, standing, lit.var());
             }
         }
     }
@@ -167,11 +169,12 @@ impl Order {
         self.hints.get(self.hints_left).copied()
     }
 
-    // Takes the first variable from the heap.
+    // Takes the first code from the heap.
     fn pop(&mut self) -> Option<u32>
         ensures { OnSome result (heap_len self.new.heap < heap_len self.old.heap) }
     {
-        while let Some((activity, Reverse(var))) = self.heap.pop() {
+        while let Some(entry) = self.heap.pop() {
+            let (activity, var) = parts_of(entry);
             if let Some(standing) = self.standings.get_mut(var as usize)
                 && standing.entered == Some(activity)
             {
