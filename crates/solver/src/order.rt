@@ -1,14 +1,13 @@
 //! The order in which variables are decided, and the values that are tried first. No contract speaks of it.
 ghost use Rattle.std.specs.Prelude.{◌≡◌, ◌⊎◌, ℕ, ◌+◌, ◌*◌, ◌/◌, ◌<◌, IfSome, IfNone, OnSome, true, false};
-ghost use Rattle.std.specs.BinaryHeap.{heap_len};
 ghost use Rattle.clause_pool.specs.Literal.{complement};
 ghost use Rattle.clause_pool.specs.Clause.{has};
 
+use crate::ranking::Ranking;
 use clause_pool::Lit;
 use pb_base::Memory;
 use propagate::Engine;
 use std::alloc::Global;
-use std::collections::BinaryHeap;
 
 // Where the step by which activities grow reaches this, all of them are halved 32 times.
 const STEP_LIMIT: u64 = 1 << 48;
@@ -16,23 +15,11 @@ const STEP_LIMIT: u64 = 1 << 48;
 // Behind so many conflicts of a question its hints are forgotten.
 const HINTED_CONFLICTS: u32 = 50;
 
-// What a code has in the order.
-#[derive(Clone, Copy)]
-struct Standing {
-    activity: u64,
-    /// The activity of its entry in the heap, if it has one that counts.
-    entered: Option<u64>,
-    phase: bool,
-}
-
 /// The codes by activity, those that were in conflicts lately first, and of equals the lower one. Each has the value
 /// that it had last. Other variables are not entered: once the codes have values, propagation gives them theirs.
 #[derive(Drop)]
 pub(crate) struct Order {
-    // By code.
-    standings: Vec<Standing>,
-    // An entry counts if its code's standing names it.
-    heap: BinaryHeap<u128, Global>,
+    pub(crate) ranking: Ranking,
     step: u64,
     // What is decided first, the last one before the others.
     hints: Vec<Lit>,
@@ -43,57 +30,22 @@ pub(crate) struct Order {
     hinted_conflicts: u32,
 }
 
-// An entry of the heap: the activity, and for equals the complement of the code, so that the lower one is the greater.
-fn entry_of(activity: u64, code: u32) -> u128 {
-    (u128::from(activity) << 32) | u128::from(!code)
-}
-
-// The activity and the code of an entry.
-fn parts_of(entry: u128) -> (u64, u32) {
-    let activity = (entry >> 32) & u128::from(u64::MAX);
-    let others = entry & u128::from(u32::MAX);
-    (activity as u64, !(others as u32))
-}
-
-// Puts a code into the heap with its activity. Where there is no room, it is found without.
-fn enter(heap: &mut BinaryHeap<u128, Global>, standing: &mut Standing, code: u32) {
-    let activity = standing.activity;
-    if standing.entered == Some(activity) {
-        return;
-    }
-    if heap.push(entry_of(activity, code)).is_ok() {
-        standing.entered = Some(activity);
-    }
-}
-
 impl Order {
     /// So many codes with the value false, the lowest first.
     pub(crate) fn new(alloc: Global, codes: u32) -> Result<Order, Memory> {
-        let standing = Standing {
-            activity: 0,
-            entered: None,
-            phase: false,
-        };
-        let mut order = Order {
-            standings: vec![in alloc; standing; codes as usize]?,
-            heap: BinaryHeap::with_capacity(alloc, codes as usize)?,
+        Ok(Order {
+            ranking: Ranking::new(alloc, codes)?,
             step: 1 << 10,
             hints: Vec::new(alloc),
             hints_left: 0,
             are_old: false,
             hinted_conflicts: HINTED_CONFLICTS,
-        };
-        order.enter_all();
-        Ok(order)
+        })
     }
 
     /// The codes of a clause were in a conflict. They have values, and are entered anew where these are taken back.
     pub(crate) fn bump_all(&mut self, lits: &[Lit]) {
-        for lit in lits {
-            if let Some(standing) = self.standings.get_mut(lit.var() as usize) {
-                standing.activity = standing.activity.saturating_add(self.step);
-            }
-        }
+        self.ranking.bump_all(lits, self.step);
     }
 
     /// A conflict is over: those to come count more.
@@ -107,32 +59,14 @@ impl Order {
             return;
         }
         self.step >>= 32;
-        for standing in self.standings.iter_mut() {
-            standing.activity >>= 32;
-        }
-        self.enter_all();
-    }
-
-    // Puts all codes into the heap anew.
-    fn enter_all(&mut self) {
-        self.heap.clear();
-        let mut code: u32 = 0;
-        for standing in self.standings.iter_mut() {
-            standing.entered = None;
-            enter(&mut self.heap, standing, code);
-            code = code.wrapping_add(1);
-        }
+        self.ranking.halve();
     }
 
     /// The literals of the trail from this place on are taken back: each variable keeps its value to try it again.
     pub(crate) fn put_back(&mut self, lits: &[Lit], from: usize) {
         self.hints_left = self.hints.len();
         for place in from..lits.len() {
-            let lit = lits[place];
-            if let Some(standing) = self.standings.get_mut(lit.var() as usize) {
-                standing.phase = lit.positive();
-                enter(&mut self.heap, standing, lit.var());
-            }
+            self.ranking.put_back(lits[place]);
         }
     }
 
@@ -168,32 +102,6 @@ impl Order {
         self.hints_left -= 1;
         self.hints.get(self.hints_left).copied()
     }
-
-    // Takes the first code from the heap.
-    fn pop(&mut self) -> Option<u32>
-        ensures { OnSome result (heap_len self.new.heap < heap_len self.old.heap) }
-    {
-        while let Some(entry) = self.heap.pop() {
-            let (activity, var) = parts_of(entry);
-            if let Some(standing) = self.standings.get_mut(var as usize)
-                && standing.entered == Some(activity)
-            {
-                standing.entered = None;
-                return Some(var);
-            }
-        }
-        None
-    }
-
-    // The literal of a variable with the value to try.
-    fn literal(&self, var: u32) -> Lit
-        ensures { result / 2 ≡ var }
-    {
-        match self.standings.get(var as usize) {
-            Some(standing) => Lit::new(var, standing.phase),
-            None => Lit::new(var, false),
-        }
-    }
 }
 
 /// The next variable to decide with the value to try, or none where each has a value.
@@ -209,9 +117,8 @@ pub(crate) fn pick(order: &mut Order, engine: &Engine) -> Option<Lit>
             return Some(hint);
         }
     }
-    while let Some(var) = order.pop() {
-        let lit = order.literal(var);
-        if var < engine.vars() && engine.value(lit).is_none() {
+    while let Some(lit) = order.ranking.pop() {
+        if lit.var() < engine.vars() && engine.value(lit).is_none() {
             return Some(lit);
         }
     }
