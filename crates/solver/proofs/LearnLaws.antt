@@ -197,3 +197,11 @@ conflict_marks t clauses marks g at same marks_are c l m other = c.others_false 
 -- a marked place with no reason up to level 1 holds the assumption
 pub opened_here : (t : Trail) (g place : ℕ) → IsTrail t → level t ≤ 1 → IsSearch g t → place < length t.lits → get_or t.reasons place None ≡ None → get_or t.lits place 0 ≡ g
 opened_here t g place h low search within none = search.opened place (omega (arith, within, get_or-eq_default t.starts (length t.lits) low)) none
+
+-- an engine with the same clauses and variables
+pub kept_moved : (clauses : List (List ℕ)) (t u : Trail) (marks : List Bool) → IsKept clauses t marks → u.clauses ≡ t.clauses → u.vars ≡ t.vars → IsKept clauses u marks
+kept_moved clauses t u marks kept same vars = record {
+  attached = subst (λ (cs : List (List ℕ)). cs ≡ take (length cs) clauses) (sym same) kept.attached;
+  below = subst (λ (v : ℕ). AreBelow (2 * v) clauses) (sym vars) kept.below;
+  table = kept.table ∙ ap (λ (v : ℕ). 2 * v) (sym vars);
+}

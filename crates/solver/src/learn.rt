@@ -3,7 +3,7 @@ ghost use Rattle.std.specs.Prelude.{◌≡◌, ℕ, ◌+◌, ◌*◌, ◌-◌, �
 ghost use Rattle.clause_pool.specs.Literal.{complement};
 ghost use Rattle.clause_pool.specs.Clause.{KeepsBounds};
 ghost use Rattle.clause_pool.specs.Marks.{marked};
-ghost use Rattle.propagate.specs.Trail.{IsTrail, level};
+ghost use Rattle.propagate.specs.Trail.{IsTrail, AreBelow, level};
 ghost use Rattle.solver.specs.Marks.{IsChain, IsTop, IsUip, NoneMarked, AreFalse, AreClear, false_at, start_of};
 ghost use Rattle.solver.specs.Search.{IsReady, IsKept, IsLearning, IsAppended, IsLesson};
 ghost use Rattle.solver.specs.Solver.{Extends};
@@ -13,7 +13,7 @@ use crate::marks::{last_marked, unmark};
 use crate::minimize::minimize;
 use crate::order::Order;
 use crate::resolution::Resolution;
-use crate::way::Way;
+use crate::way::{Span, Way};
 use clause_pool::{Kernel, Lit, Pool, Ref};
 use pb_base::{Fail, Memory};
 use propagate::Engine;
@@ -55,6 +55,8 @@ pub(crate) fn find_uip(
 {
     let lits = engine.trail();
     let start = engine.end_of(engine.level() - 1);
+    let fixed = engine.end_of(0);
+    let span = Span { fixed, start };
     let Some(mut place) = last_marked(&resolution.marks, lits, start, lits.len()) else {
         unreachable!();
     };
@@ -65,7 +67,7 @@ pub(crate) fn find_uip(
         };
         let clause = pool.lits(reason);
         order.bump_all(clause);
-        way.look_ahead(engine, &resolution.marks, clause, start);
+        way.look_back(engine, &resolution.marks, clause, span);
         resolve_at(engine, pool, resolution, Resolvable { place, reason })?;
         let Some(next) = last_marked(&resolution.marks, lits, below, place) else {
             unreachable!();
@@ -92,6 +94,17 @@ pub(crate) fn append(kernel: &mut Kernel, resolution: &Resolution) -> Result<Ref
     }
 }
 
+// Begins the way with the literals of a clause that is false.
+fn begin_lesson(engine: &Engine, way: &mut Way, order: &mut Order, lits: &[Lit])
+    requires level { 0 < level engine.now }
+    requires below { AreBelow lits.now (2 * engine.now.vars) }
+{
+    let start = engine.end_of(engine.level() - 1);
+    let fixed = engine.end_of(0);
+    way.begin_lesson(engine, lits, Span { fixed, start });
+    order.bump_all(lits);
+}
+
 // Resolves a clause that is false down to one with a single literal of the current level, and gives the place of
 // the trail that stands against it.
 fn resolve_conflict(
@@ -111,10 +124,9 @@ fn resolve_conflict(
     ensures trail { IsTrail engine.now }
     ensures table { length resolution.new.marks.items ≡ 2 * engine.now.vars }
 {
-    let start = engine.end_of(engine.level() - 1);
-    way.begin(engine, pool.lits(at), start)?;
+    engine.level();
+    begin_lesson(engine, way, order, pool.lits(at));
     resolution.begin(pool, at);
-    order.bump_all(pool.lits(at));
     let place = find_uip(engine, pool, resolution, way, order)?;
     minimize(engine, pool, resolution, way, place)?;
     Ok(place)

@@ -13,6 +13,7 @@ mod learn;
 mod marks;
 mod minimize;
 mod order;
+mod ranking;
 mod refute;
 mod resolution;
 mod run;

@@ -30,18 +30,15 @@ pub(crate) fn minimize(
     engine.trail();
     let fixed = engine.end_of(0);
     let start = engine.end_of(engine.level() - 1);
+    way.between.sort_unstable();
     for _ in 0..start {
-        let Some(at) = next_needless(
-            engine,
-            pool,
-            &resolution.marks,
-            &mut way.ahead,
-            fixed,
-            start,
-        ) else {
+        let Some(at) = next_needless(engine, pool, &resolution.marks, way, start) else {
             return Ok(());
         };
-        way.look_ahead(engine, &resolution.marks, pool.lits(at.reason), at.place);
+        // From level 0 on all others of the reason are marked, so nothing comes ahead.
+        if at.place < fixed {
+            way.look_ahead(engine, &resolution.marks, pool.lits(at.reason), at.place);
+        }
         resolve_at(engine, pool, resolution, at)?;
     }
     Ok(())

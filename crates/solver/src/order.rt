@@ -1,15 +1,13 @@
 //! The order in which variables are decided, and the values that are tried first. No contract speaks of it.
 ghost use Rattle.std.specs.Prelude.{◌≡◌, ◌⊎◌, ℕ, ◌+◌, ◌*◌, ◌/◌, ◌<◌, IfSome, IfNone, OnSome, true, false};
-ghost use Rattle.std.specs.BinaryHeap.{heap_len};
 ghost use Rattle.clause_pool.specs.Literal.{complement};
 ghost use Rattle.clause_pool.specs.Clause.{has};
 
+use crate::ranking::Ranking;
 use clause_pool::Lit;
 use pb_base::Memory;
 use propagate::Engine;
 use std::alloc::Global;
-use std::cmp::Reverse;
-use std::collections::BinaryHeap;
 
 // Where the step by which activities grow reaches this, all of them are halved 32 times.
 const STEP_LIMIT: u64 = 1 << 48;
@@ -17,22 +15,11 @@ const STEP_LIMIT: u64 = 1 << 48;
 // Behind so many conflicts of a question its hints are forgotten.
 const HINTED_CONFLICTS: u32 = 50;
 
-// What a variable has in the order.
-#[derive(Clone, Copy)]
-struct Standing {
-    activity: u64,
-    /// The activity of its entry in the heap, if it has one that counts.
-    entered: Option<u64>,
-    phase: bool,
-}
-
-/// The variables by activity, those that were in conflicts lately first, and of equals the lower one. Each has the
-/// value that it had last.
+/// The codes by activity, those that were in conflicts lately first, and of equals the lower one. Each has the value
+/// that it had last. Other variables are not entered: once the codes have values, propagation gives them theirs.
 #[derive(Drop)]
 pub(crate) struct Order {
-    standings: Vec<Standing>,
-    // An entry counts if its variable's standing names it.
-    heap: BinaryHeap<(u64, Reverse<u32>), Global>,
+    pub(crate) ranking: Ranking,
     step: u64,
     // What is decided first, the last one before the others.
     hints: Vec<Lit>,
@@ -41,55 +28,24 @@ pub(crate) struct Order {
     // They were given for a question that has been asked.
     are_old: bool,
     hinted_conflicts: u32,
-    // Variables from this on are not entered by themselves: once those before have values, propagation gives them theirs.
-    codes: u32,
 }
 
 impl Order {
-    /// So many variables with the value false. Those that stand for codes are decided first, the lowest before the others.
-    pub(crate) fn new(alloc: Global, vars: u32, codes: u32) -> Result<Order, Memory> {
-        let standing = Standing {
-            activity: 0,
-            entered: None,
-            phase: false,
-        };
-        let mut order = Order {
-            standings: vec![in alloc; standing; vars as usize]?,
-            heap: BinaryHeap::with_capacity(alloc, codes as usize)?,
+    /// So many codes with the value false, the lowest first.
+    pub(crate) fn new(alloc: Global, codes: u32) -> Result<Order, Memory> {
+        Ok(Order {
+            ranking: Ranking::new(alloc, codes)?,
             step: 1 << 10,
             hints: Vec::new(alloc),
             hints_left: 0,
             are_old: false,
             hinted_conflicts: HINTED_CONFLICTS,
-            codes,
-        };
-        for var in 0..codes {
-            order.enter(var);
-        }
-        Ok(order)
+        })
     }
 
-    // Puts a variable into the heap with its activity. Where there is no room, it is found without.
-    fn enter(&mut self, var: u32) {
-        let Some(standing) = self.standings.get_mut(var as usize) else {
-            return;
-        };
-        if standing.entered == Some(standing.activity) {
-            return;
-        }
-        if self.heap.push((standing.activity, Reverse(var))).is_ok() {
-            standing.entered = Some(standing.activity);
-        }
-    }
-
-    /// The variables of a clause were in a conflict. They have values, and are entered anew where these are taken
-    /// back.
+    /// The codes of a clause were in a conflict. They have values, and are entered anew where these are taken back.
     pub(crate) fn bump_all(&mut self, lits: &[Lit]) {
-        for lit in lits {
-            if let Some(standing) = self.standings.get_mut(lit.var() as usize) {
-                standing.activity = standing.activity.saturating_add(self.step);
-            }
-        }
+        self.ranking.bump_all(lits, self.step);
     }
 
     /// A conflict is over: those to come count more.
@@ -103,34 +59,14 @@ impl Order {
             return;
         }
         self.step >>= 32;
-        for standing in self.standings.iter_mut() {
-            standing.activity >>= 32;
-        }
-        self.enter_all();
-    }
-
-    // Puts all codes into the heap anew.
-    fn enter_all(&mut self) {
-        self.heap.clear();
-        for standing in self.standings.iter_mut() {
-            standing.entered = None;
-        }
-        for var in 0..self.codes {
-            self.enter(var);
-        }
+        self.ranking.halve();
     }
 
     /// The literals of the trail from this place on are taken back: each variable keeps its value to try it again.
     pub(crate) fn put_back(&mut self, lits: &[Lit], from: usize) {
         self.hints_left = self.hints.len();
         for place in from..lits.len() {
-            let lit = lits[place];
-            if let Some(standing) = self.standings.get_mut(lit.var() as usize) {
-                standing.phase = lit.positive();
-            }
-            if lit.var() < self.codes {
-                self.enter(lit.var());
-            }
+            self.ranking.put_back(lits[place]);
         }
     }
 
@@ -166,31 +102,6 @@ impl Order {
         self.hints_left -= 1;
         self.hints.get(self.hints_left).copied()
     }
-
-    // Takes the first variable from the heap.
-    fn pop(&mut self) -> Option<u32>
-        ensures { OnSome result (heap_len self.new.heap < heap_len self.old.heap) }
-    {
-        while let Some((activity, Reverse(var))) = self.heap.pop() {
-            if let Some(standing) = self.standings.get_mut(var as usize)
-                && standing.entered == Some(activity)
-            {
-                standing.entered = None;
-                return Some(var);
-            }
-        }
-        None
-    }
-
-    // The literal of a variable with the value to try.
-    fn literal(&self, var: u32) -> Lit
-        ensures { result / 2 ≡ var }
-    {
-        match self.standings.get(var as usize) {
-            Some(standing) => Lit::new(var, standing.phase),
-            None => Lit::new(var, false),
-        }
-    }
 }
 
 /// The next variable to decide with the value to try, or none where each has a value.
@@ -206,9 +117,8 @@ pub(crate) fn pick(order: &mut Order, engine: &Engine) -> Option<Lit>
             return Some(hint);
         }
     }
-    while let Some(var) = order.pop() {
-        let lit = order.literal(var);
-        if var < engine.vars() && engine.value(lit).is_none() {
+    while let Some(lit) = order.ranking.pop() {
+        if lit.var() < engine.vars() && engine.value(lit).is_none() {
             return Some(lit);
         }
     }

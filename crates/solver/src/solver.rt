@@ -69,7 +69,7 @@ impl Solver {
             engine: Engine::new(alloc, vars)?,
             resolution: Resolution::new(alloc, vars as usize + vars as usize)?,
             way: Way::new(alloc),
-            order: Order::new(alloc, vars, codes)?,
+            order: Order::new(alloc, codes)?,
             shortcuts: Shortcuts::new(alloc, codes),
             walk: Walk::new(alloc),
             codes,

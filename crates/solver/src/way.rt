@@ -14,12 +14,22 @@ use propagate::Engine;
 use std::alloc::Global;
 use std::collections::BinaryHeap;
 
-/// The literals of the clauses that a chain was made of, and the places of the trail where they stand, the latest
-/// first. No contract speaks of the places.
+/// The literals of the clauses that a chain was made of, and the places of the trail where they stand. No contract
+/// speaks of the places.
 #[derive(Drop)]
 pub(crate) struct Way {
     pub(crate) touched: Vec<Lit>,
+    // For a closing, places of any level. For a learnt clause, those of level 0.
     pub(crate) ahead: BinaryHeap<usize, Global>,
+    // For a learnt clause, the places between level 0 and the current one, in any order.
+    pub(crate) between: Vec<usize>,
+}
+
+/// Where level 0 ends, and where the current level starts.
+#[derive(Clone, Copy)]
+pub(crate) struct Span {
+    pub(crate) fixed: usize,
+    pub(crate) start: usize,
 }
 
 impl Way {
@@ -28,7 +38,17 @@ impl Way {
         Way {
             touched: Vec::new(alloc),
             ahead: BinaryHeap::new(alloc),
+            between: Vec::new(alloc),
         }
+    }
+
+    /// Begins a learnt clause with the literals of one that is false.
+    pub(crate) fn begin_lesson(&mut self, engine: &Engine, lits: &[Lit], span: Span)
+        requires { AreBelow lits.now (2 * engine.now.vars) }
+    {
+        self.ahead.clear();
+        self.between.clear();
+        self.look_back(engine, &[], lits, span);
     }
 
     /// Begins with the literals of a clause, as far as they come before this place of the trail.
@@ -57,6 +77,35 @@ impl Way {
         ensures { self.new.touched.items ≡ self.old.touched.items }
     {
         put_ahead(engine, &mut self.ahead, marks, lits, end);
+    }
+
+    /// Puts the places of literals down that are not marked yet, as far as they come before the current level and have a
+    /// reason. What there is no room for stays in the learnt clause.
+    #[tactic(auto, using(propagate::proofs::TakeLaws::item_in))]
+    pub(crate) fn look_back(&mut self, engine: &Engine, marks: &[bool], lits: &[Lit], span: Span)
+        requires { AreBelow lits.now (2 * engine.now.vars) }
+    {
+        for lit in lits {
+            if lit.is_marked(marks) {
+                continue;
+            }
+            let Some(place) = engine.place_of(lit.var()) else {
+                continue;
+            };
+            if place >= span.start || engine.reason_at(place).is_none() {
+                continue;
+            }
+            self.put_down(place, span.fixed);
+        }
+    }
+
+    // Puts a place down.
+    fn put_down(&mut self, place: usize, fixed: usize) {
+        if place < fixed {
+            let _ = self.ahead.push(place);
+        } else {
+            let _ = self.between.push(place);
+        }
     }
 }
 
@@ -98,24 +147,57 @@ fn others_marked(marks: &[bool], lits: &[Lit], left_out: Lit) -> bool
     true
 }
 
-// Whether a false literal is needless: before `fixed`, or where all others of its reason are marked.
-fn is_needless(engine: &Engine, pool: &Pool, marks: &[bool], at: Resolvable, fixed: usize) -> bool
+// A place, if it is before `end`, is marked and has a reason.
+#[tactic(auto, using(crate::proofs::MarkLaws::false_below))]
+fn resolvable_at(engine: &Engine, marks: &[bool], place: usize, end: usize) -> Option<Resolvable>
+    requires table { length marks.now ≡ 2 * engine.now.vars }
+    ensures resolvable { IfSome result (IsResolvable engine.now marks.now) }
+    ensures before { IfSome result (λ at. at.place < end) }
+{
+    let lits = engine.trail();
+    if place >= end || place >= lits.len() || !is_marked(marks, lits, place) {
+        return None;
+    }
+    let reason = engine.reason_at(place)?;
+    Some(Resolvable { place, reason })
+}
+
+// The latest place ahead and before `end` that is marked and has a reason.
+fn next_ahead(
+    engine: &Engine,
+    marks: &[bool],
+    ahead: &mut BinaryHeap<usize, Global>,
+    end: usize,
+) -> Option<Resolvable>
+    requires table { length marks.now ≡ 2 * engine.now.vars }
+    ensures resolvable { IfSome result (IsResolvable engine.now marks.now) }
+    ensures before { IfSome result (λ at. at.place < end) }
+{
+    while let Some(place) = ahead.pop() {
+        let found = resolvable_at(engine, marks, place, end);
+        if found.is_some() {
+            return found;
+        }
+    }
+    None
+}
+
+// Whether all others of the reason of a false literal are marked.
+fn is_needless(engine: &Engine, pool: &Pool, marks: &[bool], at: Resolvable) -> bool
     requires attached { pool.now.clauses ≡ engine.now.clauses }
     requires resolvable { IsResolvable engine.now marks.now at }
     requires table { length marks.now ≡ 2 * engine.now.vars }
 {
     let lit = engine.trail()[at.place];
-    at.place < fixed || others_marked(marks, pool.lits(at.reason), lit)
+    others_marked(marks, pool.lits(at.reason), lit)
 }
 
-/// The latest place ahead and before `end` that is marked, has a reason and is needless.
-#[tactic(auto, using(crate::proofs::MarkLaws::false_below))]
-pub(crate) fn next_needless(
+// The last of these places that is before `end`, is marked and has a reason, of which all others are marked.
+fn next_between(
     engine: &Engine,
     pool: &Pool,
     marks: &[bool],
-    ahead: &mut BinaryHeap<usize, Global>,
-    fixed: usize,
+    between: &mut Vec<usize>,
     end: usize,
 ) -> Option<Resolvable>
     requires attached { pool.now.clauses ≡ engine.now.clauses }
@@ -123,20 +205,36 @@ pub(crate) fn next_needless(
     ensures resolvable { IfSome result (IsResolvable engine.now marks.now) }
     ensures before { IfSome result (λ at. at.place < end) }
 {
-    let lits = engine.trail();
-    while let Some(place) = ahead.pop() {
-        if place >= end || place >= lits.len() || !is_marked(marks, lits, place) {
-            continue;
-        }
-        let Some(reason) = engine.reason_at(place) else {
+    while let Some(place) = between.pop() {
+        let Some(at) = resolvable_at(engine, marks, place, end) else {
             continue;
         };
-        let at = Resolvable { place, reason };
-        if is_needless(engine, pool, marks, at, fixed) {
+        if is_needless(engine, pool, marks, at) {
             return Some(at);
         }
     }
     None
+}
+
+/// The latest place that is needless and before `end`: one from level 0 on where all others of the reason are marked, and
+/// behind those any that is ahead.
+pub(crate) fn next_needless(
+    engine: &Engine,
+    pool: &Pool,
+    marks: &[bool],
+    way: &mut Way,
+    end: usize,
+) -> Option<Resolvable>
+    requires attached { pool.now.clauses ≡ engine.now.clauses }
+    requires table { length marks.now ≡ 2 * engine.now.vars }
+    ensures resolvable { IfSome result (IsResolvable engine.now marks.now) }
+    ensures before { IfSome result (λ at. at.place < end) }
+{
+    let between = next_between(engine, pool, marks, &mut way.between, end);
+    if between.is_some() {
+        return between;
+    }
+    next_ahead(engine, marks, &mut way.ahead, end)
 }
 
 /// Resolves literals that have a reason away, the latest first, as far as the places ahead tell of them.
@@ -158,11 +256,8 @@ pub(crate) fn resolve_ahead(
     ensures touched { OnOk result (AreTouched resolution.new.marks.items way.new.touched.items) }
 {
     let end = engine.trail().len();
-    // Each literal that has a reason goes, whatever else is marked.
-    let fixed = end;
     for _ in 0..end {
-        let Some(at) = next_needless(engine, pool, &resolution.marks, &mut way.ahead, fixed, end)
-        else {
+        let Some(at) = next_ahead(engine, &resolution.marks, &mut way.ahead, end) else {
             return Ok(());
         };
         let clause = pool.lits(at.reason);
