@@ -31,9 +31,17 @@ impl Earlier {
         }
     }
 
-    /// Hands on what the kernel of a slice with this first day derived.
-    pub(crate) fn follow(&mut self, day: Day, kernel: &Kernel) -> Result<(), Memory> {
-        self.day = day;
+    /// Hands on what the kernel of a slice derived, unless it is the last one.
+    pub(crate) fn follow(
+        &mut self,
+        book: &Book,
+        slice: &Slice,
+        kernel: &Kernel,
+    ) -> Result<(), Memory> {
+        if slice.last >= book.term().last {
+            return Ok(());
+        }
+        self.day = slice.first;
         self.trace.follow(kernel)
     }
 }

@@ -70,7 +70,7 @@ pub(crate) fn check_slice(
                 question: Question::Void,
                 set: None,
             };
-            earlier.follow(slice.first, solver.kernel())?;
+            earlier.follow(book, slice, solver.kernel())?;
             return only_void(alloc, slice, note);
         }
         Answer::Spent(learnt) => {
@@ -78,7 +78,7 @@ pub(crate) fn check_slice(
                 question: Question::Void,
                 learnt,
             };
-            earlier.follow(slice.first, solver.kernel())?;
+            earlier.follow(book, slice, solver.kernel())?;
             return only_void(alloc, slice, note);
         }
     }
@@ -173,7 +173,7 @@ fn check_later(
     sets.hand_on(&mut earlier.sets)?;
     // The engine's tables are gone before the chains are copied.
     let kernel = solver.into_kernel();
-    earlier.follow(slice.first, &kernel)?;
+    earlier.follow(book, slice, &kernel)?;
     let Told { notes, closed } = told;
     let proof = SliceProof {
         set,

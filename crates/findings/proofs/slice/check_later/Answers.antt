@@ -15,5 +15,5 @@ returns c =
       proof =
           later_shown i s c.args.later.now c.args.set told c.args.solver.kernel c.ask_later.new.solver.kernel _ c.put_together.result
           c.requires.facts.order c.requires.void c.requires.counted c.requires.later c.requires.given c.ask_later.ensures.extends c.in_ok-told.ensures.told
-          c.into_kernel.ensures refl refl c.put_together.ensures.notes c.put_together.ensures.proof;
+          c.into_kernel-kernel.ensures refl refl c.put_together.ensures.notes c.put_together.ensures.proof;
     }
