@@ -28,7 +28,7 @@ pub(crate) fn shorten(
     ensures { IfOk result (ShowsSlice book.now slice.now) }
 {
     let needed = needed_of(alloc, &proof)?;
-    if are_most(&needed, proof.kernel.given()) {
+    if is_nearly_all(&needed, proof.kernel.given()) {
         return Ok(proof);
     }
     match derive_needed(alloc, book, slice, &proof, &needed)? {
@@ -90,15 +90,15 @@ fn is_marked(needed: &[bool], at: Ref) -> bool {
     }
 }
 
-// Whether all derived clauses are marked but for one in sixty-four.
-fn are_most(needed: &[bool], given: usize) -> bool {
-    let mut derived: usize = 0;
-    let mut marked: usize = 0;
+// Whether no more than one in sixty-four of the derived clauses is unmarked.
+fn is_nearly_all(needed: &[bool], given: usize) -> bool {
+    let mut unmarked: usize = 0;
     for at in given..needed.len() {
-        derived = derived.wrapping_add(1);
-        marked = marked.wrapping_add(usize::from(is_marked(needed, at)));
+        if !is_marked(needed, at) {
+            unmarked = unmarked.wrapping_add(1);
+        }
     }
-    derived.saturating_sub(marked) <= derived / 64
+    unmarked <= needed.len().saturating_sub(given) / 64
 }
 
 // Derives the marked clauses alone, and closes by them what the proof closes.
