@@ -116,7 +116,7 @@ closed_grown clauses more (w ∷ ws) (c ∷ cs) h = (
   closed_grown clauses more ws cs h.1,
 )
 
-closed_one : (clauses : List (List ℕ)) (n goal at : ℕ) → ClosedAt clauses goal at → Closes clauses (record { question = n; goal = goal }) (record { question = n; at = at })
+pub closed_one : (clauses : List (List ℕ)) (n goal at : ℕ) → ClosedAt clauses goal at → Closes clauses (record { question = n; goal = goal }) (record { question = n; at = at })
 closed_one clauses n goal at h = record {
   question = refl;
   place = slice_get_within clauses at h.clause h.there;

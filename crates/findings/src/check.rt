@@ -5,17 +5,18 @@ ghost use Rattle.std.specs.Option.{is_none, option_to_list};
 ghost use Rattle.pb_base.specs.Answers.{IfRefused};
 ghost use Rattle.book_model.specs.Slices.{IsOrdered, IsSteady};
 ghost use Rattle.book_model.specs.Sound.{IsReleasable};
-ghost use Rattle.derivation.specs.Limits.{AreWithin, slices_within};
+ghost use Rattle.derivation.specs.Limits.{AreWithin, asked_of, slices_within};
 ghost use Rattle.derivation.specs.Showing.{ShowsSlice};
 ghost use Rattle.findings.specs.Notes.{InParts, IsReport, SliceNotes, verdict_of};
-ghost use Rattle.findings.specs.Answering.{inquiry, stops};
+ghost use Rattle.findings.specs.Answering.{ShowsUnlessStopped, inquiry, stops};
 ghost use Rattle.findings.specs.Certified.{IsAccepted};
-ghost use Rattle.pb_base.specs.declared.limits.TheConstants.{MOST_BUDGET};
+ghost use Rattle.pb_base.specs.declared.limits.TheConstants.{MOST_BUDGET, MOST_QUESTIONS};
 
 use crate::earlier::Earlier;
 use crate::effort::Effort;
 use crate::laws::book_laws;
 use crate::report::{Ask, Note, Report, Verdict};
+use crate::short::shorten;
 use crate::slice::{SliceCheck, check_slice};
 use book_model::{Book, LimitFault, Slice};
 use derivation::{SliceProof, slices_within, write_cert};
@@ -144,9 +145,30 @@ fn check_slices(
     let mut earlier = Earlier::none(alloc);
     for slice in slices {
         let checked = check_slice(alloc, book, slice, effort, &mut earlier)?;
+        let checked = with_short_proof(alloc, book, slice, checked)?;
         all.put(checked)?;
     }
     Ok(all)
+}
+
+// The same with a proof of no more steps than its closings rest on.
+fn with_short_proof(
+    alloc: Global,
+    book: &Book,
+    slice: &Slice,
+    checked: SliceCheck,
+) -> Result<SliceCheck, Memory>
+    requires few { asked_of book.now slice.now ≤ MOST_QUESTIONS }
+    requires proof { ShowsUnlessStopped book.now slice.now checked.notes.items checked.proof }
+    ensures notes { IfOk result (λ c. c.notes.items ≡ checked.notes.items) }
+    ensures proof { IfOk result (λ c. ShowsUnlessStopped book.now slice.now c.notes.items c.proof) }
+{
+    let SliceCheck { notes, proof } = checked;
+    let Some(proof) = proof else {
+        return Ok(SliceCheck { notes, proof: None });
+    };
+    let proof = Some(shorten(alloc, book, slice, proof)?);
+    Ok(SliceCheck { notes, proof })
 }
 
 impl SliceChecks {

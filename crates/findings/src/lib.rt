@@ -15,6 +15,7 @@ mod outcome;
 mod pairs;
 mod report;
 mod sets;
+mod short;
 mod slice;
 mod trace;
 mod units;

@@ -20,17 +20,18 @@ loop-slice-preserved c =
     let below : k < length slices = omega arith in
     let next : take (k + 1) slices ≡ take k slices ++ s ∷ [] = take_more slices k none below in
     let all = c.loop-slice.all in
-    let own = c.in_ok-checked.checked in
+    let own = c.in_ok-checked-2.checked in
     let so_far = c.loop-slice.invariant in
     let stopped = c.in_ok-put.ensures.stopped in
     record {
       notes =
           subst (λ (ss : List Slice). InParts (SliceNotes i) ss c.put.new.self.notes.items) (sym next)
           (subst (InParts (SliceNotes i) (take k slices ++ s ∷ [])) (sym c.in_ok-put.ensures.notes)
-          (parts_more (SliceNotes i) (take k slices) s all.notes.items own.notes.items so_far.notes c.in_ok-checked.ensures.notes));
-      stopped = stopped ∙ stopped_more b s all.notes.items own.notes.items all.stopped own.proof so_far.stopped c.in_ok-checked.ensures.proof ∙ ap (list_any stops) (sym c.in_ok-put.ensures.notes);
+          (parts_more (SliceNotes i) (take k slices) s all.notes.items own.notes.items so_far.notes
+          (subst (SliceNotes i s) (sym c.in_ok-checked-2.ensures.notes) c.in_ok-checked.ensures.notes)));
+      stopped = stopped ∙ stopped_more b s all.notes.items own.notes.items all.stopped own.proof so_far.stopped c.in_ok-checked-2.ensures.proof ∙ ap (list_any stops) (sym c.in_ok-put.ensures.notes);
       proofs = λ free.
           subst (λ (ss : List Slice). AllZip (ShowsSlice b) ss c.put.new.self.proofs.items) (sym next)
           (subst (AllZip (ShowsSlice b) (take k slices ++ s ∷ [])) (sym c.in_ok-put.ensures.proofs)
-          (proofs_more b (take k slices) s all.proofs.items own.notes.items all.stopped own.proof so_far.proofs c.in_ok-checked.ensures.proof (sym stopped ∙ free)));
+          (proofs_more b (take k slices) s all.proofs.items own.notes.items all.stopped own.proof so_far.proofs c.in_ok-checked-2.ensures.proof (sym stopped ∙ free)));
     }
