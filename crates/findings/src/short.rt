@@ -9,7 +9,7 @@ ghost use Rattle.pb_base.specs.declared.limits.TheConstants.{MOST_QUESTIONS};
 ghost use Rattle.solver.specs.Solver.{Grows};
 
 use book_model::{Book, Slice};
-use clause_pool::{Kernel, Pair, Ref};
+use clause_pool::{Kernel, Pair, Ref, ShortPair};
 use clausify::coded_slice;
 use derivation::{Closing, SliceProof, ToClose, to_close};
 use pb_base::Memory;
@@ -72,7 +72,7 @@ fn mark_chain(needed: &mut [bool], kernel: &Kernel, at: Ref)
         mark(needed, start);
     }
     for pair in kernel.pairs_of(at) {
-        mark(needed, pair.with);
+        mark(needed, pair.pair().with);
     }
 }
 
@@ -199,9 +199,14 @@ fn start_now(before: &Kernel, places: &Places, at: Ref) -> Option<Ref>
 }
 
 // Leaves pairs as they are now, and says whether all of them are there.
-fn move_pairs(before: &[Pair], places: &Places, pairs: &mut Vec<Pair>) -> Result<bool, Memory> {
+fn move_pairs(
+    before: &[ShortPair],
+    places: &Places,
+    pairs: &mut Vec<Pair>,
+) -> Result<bool, Memory> {
     pairs.clear();
     for pair in before {
+        let pair = pair.pair();
         let Some(with) = places.place(pair.with) else {
             return Ok(false);
         };

@@ -35,7 +35,7 @@ pub(crate) fn minimize(
         let Some(at) = next_needless(engine, pool, &resolution.marks, way, start) else {
             return Ok(());
         };
-        // From level 0 on all others of the reason are marked, so nothing comes ahead.
+        // Above level 0 all others of the reason are marked, so nothing comes ahead.
         if at.place < fixed {
             way.look_ahead(engine, &resolution.marks, pool.lits(at.reason), at.place);
         }
