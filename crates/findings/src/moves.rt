@@ -26,7 +26,7 @@ struct There {
 #[derive(Drop)]
 pub(crate) struct Moves {
     vars: Vec<Option<u32>>,
-    clauses: Vec<Option<Ref>>,
+    clauses: Vec<Option<u32>>,
     // The variable and the clause that are made next now.
     next_var: u32,
     next_clause: usize,
@@ -68,7 +68,7 @@ impl Moves {
             }
             for k in 0..clauses {
                 let at = self.next_clause.wrapping_add(k);
-                self.clauses.push(there.now.then_some(at))?;
+                self.put(there.now.then_some(at))?;
             }
         }
         if there.now {
@@ -169,13 +169,17 @@ impl Moves {
     /// Where a clause stands now.
     pub(crate) fn place(&self, at: Ref) -> Option<Ref> {
         match self.clauses.get(at) {
-            Some(place) => *place,
-            None => None,
+            Some(Some(place)) => Some(*place as usize),
+            _ => None,
         }
     }
 
-    /// Notes where the next derived clause stands now.
+    /// Notes where the next clause stands now. A place of more than 32 bits isn't found again.
     pub(crate) fn put(&mut self, place: Option<Ref>) -> Result<(), Memory> {
+        let place = match place {
+            Some(at) => u32::try_from(at).ok(),
+            None => None,
+        };
         self.clauses.push(place)?;
         Ok(())
     }

@@ -37,6 +37,7 @@ impl Trace {
     /// Becomes the chains of a kernel.
     pub(crate) fn follow(&mut self, kernel: &Kernel) -> Result<(), Memory> {
         self.numbers.clear();
+        self.numbers.reserve_exact(numbers_of(kernel))?;
         for at in kernel.given()..kernel.pool().len() {
             if let Some(start) = kernel.start_of(at) {
                 self.put(start, kernel.pairs_of(at))?;
@@ -82,6 +83,17 @@ impl Trace {
             with: with as usize,
         })
     }
+}
+
+// How many numbers the chains of a kernel have.
+fn numbers_of(kernel: &Kernel) -> usize {
+    let mut count: usize = 0;
+    for at in kernel.given()..kernel.pool().len() {
+        count = count
+            .saturating_add(2)
+            .saturating_add(kernel.pairs_of(at).len().saturating_mul(2));
+    }
+    count
 }
 
 // A number that may be cut off. No kernel comes near it.

@@ -312,14 +312,13 @@ fn imply(
         return Ok(());
     }
     let lit = Lit::new(one.var, true);
-    pairs.clear();
-    let start = match whole {
-        Some(whole) => whole,
-        None => {
-            put_apart(kernel.pool(), gates, lit, pairs)?;
-            gates.place(lit).unwrap_or(0)
-        }
+    let Some(start) = whole.or(gates.place(lit)) else {
+        return Ok(());
     };
+    pairs.clear();
+    if whole.is_none() {
+        put_apart(kernel.pool(), gates, lit, pairs)?;
+    }
     put_together(kernel.pool(), gates, Lit::new(other.var, true), pairs)?;
     derive(kernel, start, pairs)?;
     Ok(())

@@ -124,14 +124,17 @@ fn a_question_without_a_search(rt: HostRuntime) -> Result<(), Fail> {
 // 6 and 7 are both `0/1`. The goal 9 is of 7 and 8, and 8 excludes 0 and 1.
 const SHARED: &[u8] = b"-6+0+1;+6-0;+6-1;-7+0+1;+7-0;+7-1;-8-0;-8-1;-9+7;-9+8;+9-7-8;";
 
-// Whether the last clause says that 7 implies 6.
+// Whether a clause says that a variable implies another one and nothing else.
+fn implies(clause: &[Lit], one: u32, other: u32) -> bool {
+    clause.len() == 2
+        && clause.contains(&Lit::new(one, false))
+        && clause.contains(&Lit::new(other, true))
+}
+
+// Whether the last two clauses say that 6 and 7 imply each other.
 fn is_shared(solver: &Solver) -> bool {
     let pool = solver.kernel().pool();
-    if pool.len() != 12 {
-        return false;
-    }
-    let clause = pool.lits(11);
-    clause.len() == 2 && clause[0] == Lit::new(6, true) && clause[1] == Lit::new(7, false)
+    pool.len() == 13 && implies(pool.lits(11), 7, 6) && implies(pool.lits(12), 6, 7)
 }
 
 // Whether a goal is refuted by what two literals come to together.
@@ -165,6 +168,35 @@ fn a_question_of_two_literals(rt: HostRuntime) -> Result<(), Fail> {
     };
     let both = is_refuted_by_both(&mut solver, Lit::new(9, true), first, second)?;
     assert!(rt; both);
+    Ok(())
+}
+
+// 0 excludes 8, which is `1/2/3/4`.
+const EXCLUDING: &[u8] = b"-6+1+2;+6-1;+6-2;-7+6+3;+7-6;+7-3;-8+7+4;+8-7;+8-4;-0-8;";
+
+// Whether a clause says that 0 excludes a code.
+fn is_excluded(solver: &Solver, code: u32) -> bool {
+    let pool = solver.kernel().pool();
+    for at in 0..pool.len() {
+        let clause = pool.lits(at);
+        if clause.len() == 2
+            && clause.contains(&Lit::new(0, false))
+            && clause.contains(&Lit::new(code, false))
+        {
+            return true;
+        }
+    }
+    false
+}
+
+#[test]
+fn a_code_that_excludes_four(rt: HostRuntime) -> Result<(), Fail> {
+    let mut solver = solver_of(rt.alloc(), EXCLUDING)?;
+    solver.share()?;
+    for code in 1..5 {
+        let excluded = is_excluded(&solver, code);
+        assert!(rt; excluded);
+    }
     Ok(())
 }
 
