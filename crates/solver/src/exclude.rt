@@ -128,7 +128,7 @@ fn exclude_leaves(
     if pieces.len() < FEWEST_PIECES || pieces.len() > MOST_PIECES {
         return Ok(());
     }
-    find_needed(gates, exclusion.code, codes, known, pieces);
+    find_needed(exclusion.code, codes, known, pieces);
     for n in 0..pieces.len() {
         exclude_piece(kernel, exclusion, pieces, n)?;
     }
@@ -175,7 +175,7 @@ fn put_parts(
 }
 
 // Says which pieces lead to a later code that isn't known to be excluded.
-fn find_needed(gates: &Gates, code: Lit, codes: u32, known: &[(u32, u32)], pieces: &mut [Piece]) {
+fn find_needed(code: Lit, codes: u32, known: &[(u32, u32)], pieces: &mut [Piece]) {
     for n in (0..pieces.len()).rev() {
         let Some(piece) = pieces.get_mut(n) else {
             return;
