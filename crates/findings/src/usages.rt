@@ -38,6 +38,7 @@ impl Usages {
                 continue;
             }
             let until = var.saturating_add(1);
+            // Nothing tells where the very first formula begins, so of that its own variable is taken alone.
             let span = Span {
                 from: made.unwrap_or(var),
                 until,
