@@ -77,6 +77,7 @@ impl Pool {
     }
 
     /// The literals of the clause at this place.
+    #[inline(always)]
     #[tactic(auto, using(crate::proofs::RegionLaws::length_region))]
     pub fn lits(&self, at: Ref) -> &[Lit]
         requires { at < length self.now.clauses }

@@ -5,6 +5,7 @@ ghost use Rattle.clause_pool.specs.Region.{IsRegion, region};
 use std::alloc::AllocError;
 
 /// The list at this place, counted from 0.
+#[inline(always)]
 #[tactic(auto, using(crate::proofs::RegionLaws::start_within, crate::proofs::RegionLaws::start_below, crate::proofs::RegionLaws::region_get, crate::proofs::RegionLaws::region_last))]
 pub(crate) fn list_at<'a, T>(items: &'a [T], starts: &[usize], at: usize) -> &'a [T]
     requires region { IsRegion starts.now (length items.now) }

@@ -1,6 +1,6 @@
 //! The running clause of a chain, as marks. So a resolution step takes as much work as the other clause has literals,
 //! however long the running one is.
-ghost use Rattle.std.specs.Prelude.{◌≡◌, ◌<◌, ℕ, [], ◌∷◌, ◌++◌, false, length, slice_set, IfOk, OnOk};
+ghost use Rattle.std.specs.Prelude.{◌≡◌, ◌+◌, ◌<◌, ◌≤◌, ℕ, [], ◌∷◌, ◌++◌, false, length, slice_set, vec_len, vec_capacity, IfOk, OnOk};
 ghost use Rattle.std.specs.List.{filter};
 ghost use Rattle.clause_pool.specs.Literal.{complement};
 ghost use Rattle.clause_pool.specs.Clause.{has, without, clause_of};
@@ -119,16 +119,19 @@ fn reach(marks: &mut Vec<bool>, lit: Lit) -> Result<(), AllocError>
     Ok(())
 }
 
-// Marks a literal.
+// Marks a literal, and notes it in room that is there.
 fn put(marks: &mut Vec<bool>, touched: &mut Vec<Lit>, lit: Lit) -> Result<(), AllocError>
-    requires { AreTouched marks.old.items touched.old.items }
+    requires touched { AreTouched marks.old.items touched.old.items }
+    requires room { vec_len touched.old < vec_capacity touched.old }
     ensures touched { AreTouched marks.new.items touched.new.items }
     ensures joined { OnOk result (IsJoined marks.old.items marks.new.items (lit ∷ [])) }
+    ensures one_more { vec_len touched.new ≤ vec_len touched.old + 1 }
+    ensures capacity { vec_capacity touched.new ≡ vec_capacity touched.old }
 {
     if lit.is_marked(marks) {
         return Ok(());
     }
-    touched.push(lit)?;
+    touched.push_reserved(lit);
     reach(marks, lit)?;
     set_mark(marks, lit, true);
     Ok(())
@@ -140,6 +143,7 @@ fn put_all(marks: &mut Vec<bool>, touched: &mut Vec<Lit>, lits: &[Lit]) -> Resul
     ensures touched { AreTouched marks.new.items touched.new.items }
     ensures joined { OnOk result (IsJoined marks.old.items marks.new.items lits.now) }
 {
+    touched.reserve(lits.len())?;
     for lit in lits {
         put(marks, touched, *lit)?;
     }
@@ -159,6 +163,7 @@ fn put_others(
         (IsJoined marks.old.items marks.new.items (without left_out lits.now)) }
     ensures found { IfOk result (λ found. found ≡ has lits.now left_out) }
 {
+    touched.reserve(lits.len())?;
     let mut found = false;
     for lit in lits {
         if *lit == left_out {

@@ -231,8 +231,8 @@ impl Assignment {
         self.values[lit.code() as usize] = Truth::Holds;
         self.values[lit.not().code() as usize] = Truth::Fails;
         self.places[lit.var() as usize] = self.lits.len() as u32;
-        self.lits.push(lit).unwrap();
-        self.reasons.push(reason).unwrap();
+        self.lits.push_reserved(lit);
+        self.reasons.push_reserved(reason);
     }
 
     /// Opens a level.

@@ -403,6 +403,13 @@ module _ (t : Trail) (c : List ℕ) (u n y m : ℕ) (h : IsTrail t) (j : IsJump 
     first = λ some. let f = j.first some in (f.0, push_has c y f.0 f.1, f.2, f.3);
   }
 
+-- a literal that is false was so behind the place of its variable
+pub false_behind : (t : Trail) (y k end : ℕ) → IsTrail t → IsFalse t.lits y → k < length t.lits → get_or t.lits k 0 / 2 ≡ y / 2 → k < end → IsFalse (take end t.lits) y
+false_behind t y k end h is_false within is before =
+    let p = placed_in t.lits (length t.lits) (complement y) (subst (λ (xs : List ℕ). has xs (complement y) ≡ true) (sym (take_all (length t.lits) t.lits (omega arith))) is_false) in
+    let same = same_place t k p.place h within p.within (is ∙ sym (complement-half y) ∙ sym (ap (λ (l : ℕ). l / 2) p.is)) in
+    has_placed t.lits end k (complement y) before within (ap (λ (j : ℕ). get_or t.lits j 0) same ∙ p.is)
+
 -- a literal that is false has a level
 pub false_has_level : (t : Trail) (y : ℕ) → IsFalse (take (start_of t) t.lits) y → IsOpen t (y / 2) → ⊥
 false_has_level t y is_false none =

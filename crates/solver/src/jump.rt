@@ -1,8 +1,9 @@
 //! Back to the level at which a learnt clause forces its literal.
 ghost use Rattle.std.specs.Prelude.{◌≡◌, ℕ, ◌*◌, ◌-◌, ◌<◌, length, take, OnOk, true};
+ghost use Rattle.std.specs.Bool.{OnTrue};
 ghost use Rattle.clause_pool.specs.Literal.{complement};
 ghost use Rattle.clause_pool.specs.Clause.{has, AreBelow};
-ghost use Rattle.propagate.specs.Trail.{IsTrail, level, OthersFalse};
+ghost use Rattle.propagate.specs.Trail.{IsTrail, level, upto, IsFalse, OthersFalse};
 ghost use Rattle.solver.specs.Marks.{start_of};
 ghost use Rattle.solver.specs.Search.{IsSearch, IsNext, IsAsserting, IsJump, next_of};
 
@@ -10,6 +11,23 @@ use crate::order::Order;
 use clause_pool::{Lit, Pool};
 use pb_base::Memory;
 use propagate::Engine;
+
+// Whether a false literal was false at this level already.
+#[inline(always)]
+fn was_false(engine: &Engine, lit: Lit, level: u32) -> bool
+    requires below { lit < 2 * engine.now.vars }
+    requires is_false { IsFalse engine.now.lits lit }
+    requires trail { IsTrail engine.now }
+    ensures { OnTrue result (IsFalse (upto engine.now level) lit) }
+{
+    let Some(place) = engine.place_of(lit.var()) else {
+        return false;
+    };
+    if place >= engine.end_of(level) {
+        return false;
+    }
+    true
+}
 
 // The first level at which all literals of a clause but one are false.
 fn jump_level(engine: &Engine, lits: &[Lit], forced: Lit) -> u32
@@ -22,6 +40,9 @@ fn jump_level(engine: &Engine, lits: &[Lit], forced: Lit) -> u32
     let mut jump: u32 = 0;
     for lit in lits {
         if *lit == forced {
+            continue;
+        }
+        if was_false(engine, *lit, jump) {
             continue;
         }
         let Some(level) = engine.level_of(lit.var()) else {

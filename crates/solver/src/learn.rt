@@ -66,8 +66,7 @@ pub(crate) fn find_uip(
             unreachable!();
         };
         let clause = pool.lits(reason);
-        order.bump_all(clause);
-        way.look_back(engine, &resolution.marks, clause, span);
+        way.look_back(engine, order, &resolution.marks, clause, span);
         resolve_at(engine, pool, resolution, Resolvable { place, reason })?;
         let Some(next) = last_marked(&resolution.marks, lits, below, place) else {
             unreachable!();
@@ -101,8 +100,7 @@ fn begin_lesson(engine: &Engine, way: &mut Way, order: &mut Order, lits: &[Lit])
 {
     let start = engine.end_of(engine.level() - 1);
     let fixed = engine.end_of(0);
-    way.begin_lesson(engine, lits, Span { fixed, start });
-    order.bump_all(lits);
+    way.begin_lesson(engine, order, lits, Span { fixed, start });
 }
 
 // Resolves a clause that is false down to one with a single literal of the current level, and gives the place of

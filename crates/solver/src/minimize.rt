@@ -30,6 +30,7 @@ pub(crate) fn minimize(
     engine.trail();
     let fixed = engine.end_of(0);
     let start = engine.end_of(engine.level() - 1);
+    way.fixed.sort_unstable();
     way.between.sort_unstable();
     for _ in 0..start {
         let Some(at) = next_needless(engine, pool, &resolution.marks, way, start) else {

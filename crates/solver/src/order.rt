@@ -43,9 +43,9 @@ impl Order {
         })
     }
 
-    /// The codes of a clause were in a conflict. They have values, and are entered anew where these are taken back.
-    pub(crate) fn bump_all(&mut self, lits: &[Lit]) {
-        self.ranking.bump_all(lits, self.step);
+    /// The code of a literal was in a conflict. It has a value, and is entered anew where that is taken back.
+    pub(crate) fn bump(&mut self, lit: Lit) {
+        self.ranking.bump(lit, self.step);
     }
 
     /// A conflict is over: those to come count more.

@@ -1,5 +1,6 @@
 //! The way of a closing: which marks to resolve away, without a walk over the whole trail.
-ghost use Rattle.std.specs.Prelude.{◌≡◌, ℕ, ◌*◌, ◌<◌, ◌++◌, length, IfSome, OnOk, true};
+ghost use Rattle.std.specs.Prelude.{◌≡◌, ℕ, ◌+◌, ◌*◌, ◌<◌, ◌++◌, length, IfSome, OnOk, OnSome, true};
+ghost use Rattle.std.specs.BinaryHeap.{heap_len};
 ghost use Rattle.clause_pool.specs.Clause.{has};
 ghost use Rattle.clause_pool.specs.Marks.{marked, AreTouched};
 ghost use Rattle.propagate.specs.Trail.{AreBelow};
@@ -7,6 +8,7 @@ ghost use Rattle.solver.specs.Marks.{IsChain, AreFalseBut, IsResolvable};
 
 use crate::conflict::{Resolvable, resolve_at};
 use crate::marks::is_marked;
+use crate::order::Order;
 use crate::resolution::Resolution;
 use clause_pool::{Lit, Pool};
 use pb_base::Memory;
@@ -19,9 +21,11 @@ use std::collections::BinaryHeap;
 #[derive(Drop)]
 pub(crate) struct Way {
     pub(crate) touched: Vec<Lit>,
-    // For a closing, places of any level. For a learnt clause, those of level 0.
+    // For a closing, places of any level. For a learnt clause, those that reasons at level 0 lead to.
     pub(crate) ahead: BinaryHeap<usize, Global>,
-    // For a learnt clause, the places between level 0 and the current one, in any order.
+    // For a learnt clause, its places at level 0, in any order.
+    pub(crate) fixed: Vec<usize>,
+    // And those between level 0 and the current one.
     pub(crate) between: Vec<usize>,
 }
 
@@ -38,17 +42,25 @@ impl Way {
         Way {
             touched: Vec::new(alloc),
             ahead: BinaryHeap::new(alloc),
+            fixed: Vec::new(alloc),
             between: Vec::new(alloc),
         }
     }
 
     /// Begins a learnt clause with the literals of one that is false.
-    pub(crate) fn begin_lesson(&mut self, engine: &Engine, lits: &[Lit], span: Span)
+    pub(crate) fn begin_lesson(
+        &mut self,
+        engine: &Engine,
+        order: &mut Order,
+        lits: &[Lit],
+        span: Span,
+    )
         requires { AreBelow lits.now (2 * engine.now.vars) }
     {
         self.ahead.clear();
+        self.fixed.clear();
         self.between.clear();
-        self.look_back(engine, &[], lits, span);
+        self.look_back(engine, order, &[], lits, span);
     }
 
     /// Begins with the literals of a clause, as far as they come before this place of the trail.
@@ -82,10 +94,18 @@ impl Way {
     /// Puts the places of literals down that are not marked yet, as far as they come before the current level and have a
     /// reason. What there is no room for stays in the learnt clause.
     #[tactic(auto, using(propagate::proofs::TakeLaws::item_in))]
-    pub(crate) fn look_back(&mut self, engine: &Engine, marks: &[bool], lits: &[Lit], span: Span)
+    pub(crate) fn look_back(
+        &mut self,
+        engine: &Engine,
+        order: &mut Order,
+        marks: &[bool],
+        lits: &[Lit],
+        span: Span,
+    )
         requires { AreBelow lits.now (2 * engine.now.vars) }
     {
         for lit in lits {
+            order.bump(*lit);
             if lit.is_marked(marks) {
                 continue;
             }
@@ -102,7 +122,7 @@ impl Way {
     // Puts a place down.
     fn put_down(&mut self, place: usize, fixed: usize) {
         if place < fixed {
-            let _ = self.ahead.push(place);
+            let _ = self.fixed.push(place);
         } else {
             let _ = self.between.push(place);
         }
@@ -216,8 +236,35 @@ fn next_between(
     None
 }
 
+// The later one of the last place here and the latest ahead.
+fn later(fixed: &mut Vec<usize>, ahead: &mut BinaryHeap<usize, Global>) -> Option<usize>
+    ensures { OnSome result (length fixed.new.items + heap_len ahead.new
+        < length fixed.old.items + heap_len ahead.old) }
+{
+    match (fixed.last(), ahead.peek()) {
+        (Some(place), Some(other)) if *place < *other => ahead.pop(),
+        (Some(_), _) => fixed.pop(),
+        (None, _) => ahead.pop(),
+    }
+}
+
+// The latest place of level 0 that is before `end`, is marked and has a reason.
+fn next_fixed(engine: &Engine, marks: &[bool], way: &mut Way, end: usize) -> Option<Resolvable>
+    requires table { length marks.now ≡ 2 * engine.now.vars }
+    ensures resolvable { IfSome result (IsResolvable engine.now marks.now) }
+    ensures before { IfSome result (λ at. at.place < end) }
+{
+    while let Some(place) = later(&mut way.fixed, &mut way.ahead) {
+        let found = resolvable_at(engine, marks, place, end);
+        if found.is_some() {
+            return found;
+        }
+    }
+    None
+}
+
 /// The latest place that is needless and before `end`: one from level 0 on where all others of the reason are marked, and
-/// behind those any that is ahead.
+/// behind those any of level 0.
 pub(crate) fn next_needless(
     engine: &Engine,
     pool: &Pool,
@@ -234,7 +281,7 @@ pub(crate) fn next_needless(
     if between.is_some() {
         return between;
     }
-    next_ahead(engine, marks, &mut way.ahead, end)
+    next_fixed(engine, marks, way, end)
 }
 
 /// Resolves literals that have a reason away, the latest first, as far as the places ahead tell of them.

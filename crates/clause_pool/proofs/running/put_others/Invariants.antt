@@ -1,4 +1,4 @@
-use Rattle.std.proofs.Common.{◌≡◌, take}
+use Rattle.std.proofs.Common.{◌≡◌, ◌+◌, ◌-◌, ◌≤◌, take, length, vec_len, vec_capacity}
 use Rattle.clause_pool.specs.Clause.{has, without}
 use Rattle.clause_pool.specs.Marks.{AreTouched, IsJoined}
 use Rattle.clause_pool.proofs.running.put_others.Given as goal
@@ -8,4 +8,5 @@ invariant-loop-lit l = record {
   touched : AreTouched l.marks.items l.touched.items;
   joined : IsJoined l.initial.marks.items l.marks.items (without l.left_out (take l.lit-index l.lits));
   found : l.found ≡ has (take l.lit-index l.lits) l.left_out;
+  room : vec_len l.touched + (length l.lits - l.lit-index) ≤ vec_capacity l.touched;
 }

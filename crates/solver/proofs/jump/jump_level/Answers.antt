@@ -4,6 +4,9 @@ use Rattle.std.proofs.lemmas.List.{take_more}
 use Rattle.propagate.specs.Trail.{Trail}
 use Rattle.propagate.specs.Engine.{IsLevelOf}
 use Rattle.propagate.proofs.TakeLaws.{item_in}
+use Rattle.propagate.proofs.QuietLaws.{has_take}
+use Rattle.clause_pool.specs.Literal.{complement}
+use Rattle.solver.specs.Marks.{start_of}
 use Rattle.solver.specs.Search.{IsJump}
 use Rattle.solver.proofs.SearchLaws.{jump_none, jump_rises, jump_stays, false_has_level}
 use Rattle.solver.proofs.jump.jump_level.Goals as goal
@@ -14,6 +17,16 @@ one_more t c i y u n within is j = subst (λ (cs : List ℕ). IsJump t cs u n) (
 
 pub loop-lit-init : goal.loop-lit-init
 loop-lit-init c = jump_none c.args.engine.now c.args.forced c.requires.level
+
+pub was_false-requires-clause-below : goal.was_false-requires-clause-below
+was_false-requires-clause-below c = c.requires.below c.lit-item.result (item_in c.args.lits.now c.loop-lit.lit-index c.lit-item.result (omega arith) c.lit-item.is)
+
+pub was_false-requires-clause-is_false : goal.was_false-requires-clause-is_false
+was_false-requires-clause-is_false c =
+    let t : Trail = c.args.engine.now in
+    let is_in = item_in c.args.lits.now c.loop-lit.lit-index c.lit-item.result (omega arith) c.lit-item.is in
+    let is_false = c.requires.others_false c.lit-item.result is_in (λ e. true≢false (sym (eq-eqb c.lit-item.result c.args.forced e) ∙ sym c.if-eq.ensures)) in
+    has_take (start_of t) t.lits (complement c.lit-item.result) is_false
 
 pub level_of-requires : goal.level_of-requires
 level_of-requires c =

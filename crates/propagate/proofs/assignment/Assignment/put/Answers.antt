@@ -1,6 +1,5 @@
-use Rattle.std.proofs.Common.{◌≡◌, ◌+◌, ◌<◌, false, [], ◌∷◌, length, sym, subst, refl, ◌∙◌, arith}
+use Rattle.std.proofs.Common.{◌≡◌, ◌+◌, ◌<◌, false, [], ◌∷◌, length, sym, subst, ◌∙◌, arith}
 use Rattle.std.proofs.lemmas.List.{length-set}
-use Rattle.std.proofs.lemmas.Slice.{pushed}
 use Rattle.clause_pool.specs.Literal.{complement}
 use Rattle.clause_pool.specs.Clause.{has}
 use Rattle.propagate.specs.Assignment.{Assigned}
@@ -15,22 +14,22 @@ overflow_cast-len c =
     let room : length c.self.inside.lits.items < length c.self.inside.places.items = room_for_one _ c.args.lit c.self.invariant.0 below not_true not_false in
     omega (arith, room)
 
-pub unwrap-requires : goal.unwrap-requires
-unwrap-requires c =
+pub push_reserved-requires : goal.push_reserved-requires
+push_reserved-requires c =
     let below = subst (λ (a : Assigned). c.args.lit < a.vars + a.vars) (sym c.self.view_is) c.requires.below in
     let not_true = subst (λ (a : Assigned). has a.lits c.args.lit ≡ false) (sym c.self.view_is) c.requires.not_true in
     let not_false = subst (λ (a : Assigned). has a.lits (complement c.args.lit) ≡ false) (sym c.self.view_is) c.requires.not_false in
     let room : length c.self.inside.lits.items < length c.self.inside.places.items = room_for_one _ c.args.lit c.self.invariant.0 below not_true not_false in
-    c.push.ensures.succeeds (omega (arith, room, c.self.inside.lits.ok.0))
+    omega (arith, room, c.self.inside.lits.ok.0)
 
-pub unwrap-requires-2 : goal.unwrap-requires-2
-unwrap-requires-2 c =
+pub push_reserved-requires-2 : goal.push_reserved-requires-2
+push_reserved-requires-2 c =
     let below = subst (λ (a : Assigned). c.args.lit < a.vars + a.vars) (sym c.self.view_is) c.requires.below in
     let not_true = subst (λ (a : Assigned). has a.lits c.args.lit ≡ false) (sym c.self.view_is) c.requires.not_true in
     let not_false = subst (λ (a : Assigned). has a.lits (complement c.args.lit) ≡ false) (sym c.self.view_is) c.requires.not_false in
     let room : length c.self.inside.lits.items < length c.self.inside.places.items = room_for_one _ c.args.lit c.self.invariant.0 below not_true not_false in
     let counted = c.self.invariant.0.reasons_counted in
-    c.push-2.ensures.succeeds (omega (arith, room, counted, c.self.inside.reasons.ok.0))
+    omega (arith, room, counted, c.self.inside.reasons.ok.0)
 
 pub invariant_of-self : goal.invariant_of-self
 invariant_of-self c =
@@ -39,14 +38,14 @@ invariant_of-self c =
     let not_true = subst (λ (a : Assigned). has a.lits c.args.lit ≡ false) (sym c.self.view_is) c.requires.not_true in
     let not_false = subst (λ (a : Assigned). has a.lits (complement c.args.lit) ≡ false) (sym c.self.view_is) c.requires.not_false in
     let vars = length-set c.self.inside.places.items c.var.result c.len.result in
-    let lits = pushed {was = c.self.inside.lits.items} {now = c.push.new.self.items} (c.args.lit ∷ []) refl c.unwrap.ensures c.push.ensures.items in
-    let reasons = pushed {was = c.self.inside.reasons.items} {now = c.push-2.new.self.items} (c.args.reason ∷ []) refl c.unwrap-2.ensures c.push-2.ensures.items in (
+    let lits = c.push_reserved.ensures.items in
+    let reasons = c.push_reserved-2.ensures.items in (
       put_assigned_by _ _ _ _ c.args.lit c.args.reason vars lits reasons c.self.invariant.0 below not_true not_false,
       put_tables_by c.self.inside.values.items c.self.inside.places.items _ c.code.result c.code-2.result c.var.result c.len.result _ _ _ c.args.lit c.args.reason
           c.code.ensures.code (c.code-2.ensures.code ∙ c.not.ensures) c.var.ensures (c.len.ensures ∙ c.self.inside.lits.ok.0) vars lits reasons c.self.invariant.1 below not_true not_false,
       omega (arith, vars),
-      omega (arith, vars, c.push.ensures.capacity),
-      omega (arith, vars, c.push-2.ensures.capacity),
+      omega (arith, vars, c.push_reserved.ensures.capacity),
+      omega (arith, vars, c.push_reserved-2.ensures.capacity),
       omega (arith, vars),
     )
 
@@ -56,6 +55,6 @@ returns-clause-assigned c =
     let not_true = subst (λ (a : Assigned). has a.lits c.args.lit ≡ false) (sym c.self.view_is) c.requires.not_true in
     let not_false = subst (λ (a : Assigned). has a.lits (complement c.args.lit) ≡ false) (sym c.self.view_is) c.requires.not_false in
     let vars = length-set c.self.inside.places.items c.var.result c.len.result in
-    let lits = pushed {was = c.self.inside.lits.items} {now = c.push.new.self.items} (c.args.lit ∷ []) refl c.unwrap.ensures c.push.ensures.items in
-    let reasons = pushed {was = c.self.inside.reasons.items} {now = c.push-2.new.self.items} (c.args.reason ∷ []) refl c.unwrap-2.ensures c.push-2.ensures.items in
+    let lits = c.push_reserved.ensures.items in
+    let reasons = c.push_reserved-2.ensures.items in
     put_assigned_by _ _ _ _ c.args.lit c.args.reason vars lits reasons c.self.invariant.0 below not_true not_false
