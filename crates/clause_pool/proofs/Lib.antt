@@ -2,7 +2,7 @@ pub mod LiteralLaws
 pub mod ClauseLaws
 pub mod ChainLaws
 pub mod RegionLaws
-mod MarkLaws
+pub mod MarkLaws
 mod SortLaws
 mod RunLaws
 mod WorkedCases

@@ -28,7 +28,8 @@ has-clause_marked marks lits touched l =
       go true h t = t refl
       go false h t = refl
 
-clause_marked_is : (marks : List Bool) (lits c : List ℕ) → AreTouched marks lits → IsRising c → ((l : ℕ) → marked marks l ≡ has c l) → clause_marked marks lits ≡ c
+-- the clause of the marked literals is each clause in order that has just them
+pub clause_marked_is : (marks : List Bool) (lits c : List ℕ) → AreTouched marks lits → IsRising c → ((l : ℕ) → marked marks l ≡ has c l) → clause_marked marks lits ≡ c
 clause_marked_is marks lits c touched rises same =
     same_clause (clause_marked marks lits) c (IsRising-clause_of (filter (λ x. marked marks x) lits)) rises
     (λ l. has-clause_marked marks lits touched l ∙ same l)

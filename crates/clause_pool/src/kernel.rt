@@ -2,7 +2,7 @@
 ghost use Rattle.std.specs.Prelude.{◌≡◌, ◌+◌, ◌-◌, ◌<◌, ◌≤◌, [], length, take, slice_index, slice_index_or, IfOk, OnOk, OnErr, Some, None, Ok};
 ghost use Rattle.pb_base.specs.Answers.{Answers};
 ghost use Rattle.clause_pool.specs.Chain.{chain};
-ghost use Rattle.clause_pool.specs.Clause.{KeepsBounds};
+ghost use Rattle.clause_pool.specs.Clause.{KeepsBounds, clause_of};
 ghost use Rattle.clause_pool.specs.Derivation.{AllFollow, IsDerived, grown, kernel_of, placed};
 
 use crate::chain::{Pair, ShortPair, StepFault};
@@ -11,7 +11,7 @@ use crate::pool::{Pool, Ref};
 use crate::run::run_chain;
 use crate::running::Running;
 use crate::steps::StepLog;
-use pb_base::Fail;
+use pb_base::{Fail, Memory};
 use std::alloc::Global;
 use std::marker::Model;
 
@@ -117,5 +117,20 @@ impl Kernel {
         self.pool.reserve(1, self.literals.len())?;
         self.log.push(start, pairs)?;
         Ok(self.pool.add_reserved(&self.literals))
+    }
+
+    /// The same where it is proved already that the chain has a resolvent, and that these are its literals, in any order
+    /// and with repeats: the chain is not run again.
+    pub fn append(&mut self, start: Ref, pairs: &[Pair], lits: &[Lit]) -> Result<Ref, Memory>
+        requires some { 0 < length pairs.now }
+        requires resolvent { chain self.old.clauses start pairs.now ≡ Ok (clause_of lits.now) }
+        ensures place { IfOk result (λ at. at ≡ length self.old.clauses) }
+        ensures ok { OnOk result (self.new ≡ grown self.old start pairs.now (clause_of lits.now)) }
+        ensures bounds { KeepsBounds self.old.clauses self.new.clauses }
+        ensures unchanged { OnErr result (self.new ≡ self.old) }
+    {
+        self.pool.reserve(1, lits.len())?;
+        self.log.push(start, pairs)?;
+        Ok(self.pool.add_reserved(lits))
     }
 }

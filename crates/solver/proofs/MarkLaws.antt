@@ -4,15 +4,16 @@ use Rattle.std.proofs.Math.ListN.{set, length-set}
 use Rattle.std.proofs.lemmas.Bool.{cases_eq, cases_Bool, cases_order, false≢true, true≢false, or_cases, or_left, or_right}
 use Rattle.std.proofs.lemmas.List.{get_or-set_same, get_or-set_other, take_more, take_all}
 use Rattle.std.proofs.lemmas.Option.{slice_get-get_or}
-use Rattle.std.specs.List.{slice_get}
+use Rattle.std.specs.List.{filter, slice_get}
 use Rattle.clause_pool.specs.Literal.{complement}
-use Rattle.clause_pool.specs.Clause.{has, without}
+use Rattle.clause_pool.specs.Clause.{has, without, clause_of}
 use Rattle.clause_pool.specs.Chain.{chain, resolved, step_on, started}
-use Rattle.clause_pool.specs.Marks.{marked}
+use Rattle.clause_pool.specs.Marks.{marked, AreTouched}
 use Rattle.clause_pool.specs.declared.chain.Pair.{Pair}
 use Rattle.clause_pool.proofs.LiteralLaws.{complement-complement, complement-other, complement-below}
 use Rattle.clause_pool.proofs.ClauseLaws.{has-without_other, has-without_same, all_found}
-use Rattle.clause_pool.proofs.ChainLaws.{chain-push, step_on-resolved, has-resolved}
+use Rattle.clause_pool.proofs.ChainLaws.{chain-push, chain_rises, step_on-resolved, has-resolved}
+use Rattle.clause_pool.proofs.MarkLaws.{clause_marked_is}
 use Rattle.propagate.specs.Trail.{Trail, IsTrail}
 use Rattle.propagate.specs.Quiet.{Quiet, IsQuietFor}
 use Rattle.propagate.proofs.QuietLaws.{has_take}
@@ -104,8 +105,8 @@ replaced old new x c was is low other_low h = record {
 
 -- one more pair makes a chain of the resolvent
 pub chain_resolved : (clauses : List (List ℕ)) (r s : Resolution) (x at : ℕ) → IsChain clauses r → at < length clauses → marked r.marks.items x ≡ true → has (get_or clauses at []) (complement x) ≡ true
-    → s.start ≡ r.start → s.pairs.items ≡ r.pairs.items ++ record { lit = x; with = at } ∷ [] → IsResolved r.marks.items s.marks.items x (get_or clauses at []) → IsChain clauses s
-chain_resolved clauses r s x at h low is_in pivot start pairs marks =
+    → s.start ≡ r.start → s.pairs.items ≡ r.pairs.items ++ record { lit = x; with = at } ∷ [] → IsResolved r.marks.items s.marks.items x (get_or clauses at []) → AreTouched s.marks.items s.touched.items → IsChain clauses s
+chain_resolved clauses r s x at h low is_in pivot start pairs marks touched =
     let c : List ℕ = get_or clauses at [] in
     let pair : Pair = record { lit = x; with = at } in
     record {
@@ -129,6 +130,7 @@ chain_resolved clauses r s x at h low is_in pivot start pairs marks =
                 let other : (l ≡ complement x → ⊥) = λ e. true≢false (sym second ∙ ap (has (without (complement x) c)) e ∙ has-without_same (complement x) c) in
                 marks.taken l (sym (has-without_other (complement x) c l other) ∙ second) other
           ]);
+      all_touched = touched;
     }
 
 le_or_lt : (a b : ℕ) → (a ≤ b) ⊎ (b < a)
@@ -284,12 +286,23 @@ pub none_is : (xs ys : List ℕ) (ms ns : List Bool) (f g e d : ℕ) → xs ≡ 
 none_is xs ys ms ns f g e d p q r s h =
     subst (λ (z : ℕ). NoneMarked ys ns g z) s (subst (λ (z : ℕ). NoneMarked ys ns z e) r (subst (λ (z : List Bool). NoneMarked ys z f e) q (subst (λ (z : List ℕ). NoneMarked z ms f e) p h)))
 
+-- what is written of a chain with a pair is its resolvent
+module _ (clauses : List (List ℕ)) (r : Resolution) (out : List ℕ) (h : IsChain clauses r) (some : 0 < length r.pairs.items) (written : out ≡ filter (λ l. marked r.marks.items l) r.touched.items) where
+  pub written_is : clause_of out ≡ h.running
+  written_is =
+      ap clause_of written
+      ∙ clause_marked_is r.marks.items r.touched.items h.running h.all_touched (chain_rises clauses r.start r.pairs.items h.running some h.is_running) h.marks_are
+
+  pub chain_written : chain clauses r.start r.pairs.items ≡ Ok (clause_of out)
+  chain_written = h.is_running ∙ ap Ok (sym written_is)
+
 -- the chain that is a clause alone
-pub chain_begins : (clauses : List (List ℕ)) (r : Resolution) (at : ℕ) → at < length clauses → r.start ≡ at → r.pairs.items ≡ [] → ((l : ℕ) → marked r.marks.items l ≡ has (get_or clauses at []) l) → IsChain clauses r
-chain_begins clauses r at low start pairs marks = record {
+pub chain_begins : (clauses : List (List ℕ)) (r : Resolution) (at : ℕ) → at < length clauses → r.start ≡ at → r.pairs.items ≡ [] → ((l : ℕ) → marked r.marks.items l ≡ has (get_or clauses at []) l) → AreTouched r.marks.items r.touched.items → IsChain clauses r
+chain_begins clauses r at low start pairs marks touched = record {
   running = get_or clauses at [];
   is_running = ap (λ (n : ℕ). chain clauses n r.pairs.items) start ∙ ap (chain clauses at) pairs ∙ ap started (slice_get-get_or clauses at [] low);
   marks_are = marks;
+  all_touched = touched;
 }
 
 pub nonempty : {X : Type 0} → (xs : List X) → (xs ≡ [] → ⊥) → 0 < length xs

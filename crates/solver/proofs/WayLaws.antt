@@ -1,14 +1,13 @@
 -- What holds of the marks of a closing.
 use Rattle.std.proofs.Common.{◌≡◌, inl, inr, ℕ, zero, suc, ◌+◌, ◌<◌, Bool, true, false, List, [], ◌∷◌, ◌++◌, length, take, get_or, refl, sym, subst, ◌∙◌, ap, arith}
 use Rattle.std.proofs.Math.ListN.{set, replicate}
-use Rattle.std.proofs.lemmas.Bool.{cases_eq, false≢true, or_left, or_right}
+use Rattle.std.proofs.lemmas.Bool.{cases_eq, false≢true}
 use Rattle.std.proofs.lemmas.List.{get_or-set_same, get_or-set_other, take_more, take_all}
 use Rattle.clause_pool.specs.Clause.{has}
 use Rattle.clause_pool.specs.Marks.{marked, AreTouched}
-use Rattle.clause_pool.proofs.ClauseLaws.{has-append}
 use Rattle.propagate.specs.Trail.{Trail}
-use Rattle.propagate.proofs.AssignmentLaws.{has_push}
-use Rattle.solver.specs.Marks.{AreClear, AreFalseBut, CameFrom, IsResolved, IsResolvedAt}
+use Rattle.propagate.proofs.AssignmentLaws.{has_push, push_has, push_here}
+use Rattle.solver.specs.Marks.{AreClear, AreFalseBut, IsResolvedAt}
 use Rattle.solver.proofs.MarkLaws.{is_false, resolved_before}
 
 pub none_left : (touched : List ℕ) (marks : List Bool) (x : ℕ) → AreTouched marks touched → ((l : ℕ) → has touched l ≡ true → marked marks l ≡ true → l ≡ x) → AreFalseBut [] marks x
@@ -25,14 +24,18 @@ none_marked zero l = refl
 none_marked (suc n) zero = refl
 none_marked (suc n) (suc l) = none_marked n l
 
-pub came_from : (old new : List Bool) (x : ℕ) (c : List ℕ) → IsResolved old new x c → CameFrom old new c
-came_from old new x c r l m = elim (r.origin l m) [ inl before ↦ inl before.0 | inr taken ↦ inr taken.0 ]
+-- the literals that are marked are noted: one that is marked already, and one more
+pub touched_same : (old new : List Bool) (touched : List ℕ) (x : ℕ) (b : Bool) → AreTouched old touched → marked old x ≡ true → new ≡ set old x b → AreTouched new touched
+touched_same old new touched x b t is_in is l m = elim (cases_eq l x) [
+  | inl e ↦ t l (ap (marked old) e ∙ is_in)
+  | inr other ↦ t l (sym (ap (λ (ms : List Bool). marked ms l) is ∙ get_or-set_other old x l b false other) ∙ m)
+]
 
-pub touched_more : (old new : List Bool) (before after c : List ℕ) → AreTouched old before → CameFrom old new c → after ≡ before ++ c → AreTouched new after
-touched_more old new before after c touched came is l m =
-    ap (λ (xs : List ℕ). has xs l) is ∙ has-append before c l ∙ elim (came l m) [
-      | inl was ↦ or_left (has before l) (has c l) (touched l was)
-      | inr taken ↦ or_right (has before l) (has c l) taken
+pub touched_one : (old new : List Bool) (before after : List ℕ) (x : ℕ) → AreTouched old before → after ≡ before ++ x ∷ [] → new ≡ set old x true → AreTouched new after
+touched_one old new before after x t more is l m =
+    ap (λ (xs : List ℕ). has xs l) more ∙ elim (cases_eq l x) [
+      | inl e ↦ ap (has (before ++ x ∷ [])) e ∙ push_here before x
+      | inr other ↦ push_has before x l (t l (sym (ap (λ (ms : List Bool). marked ms l) is ∙ get_or-set_other old x l true false other) ∙ m))
     ]
 
 -- what is marked stays false over the whole trail

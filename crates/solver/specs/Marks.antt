@@ -1,5 +1,5 @@
 -- A clause in the making: the chain so far, and a mark for each literal that its resolvent has.
---     IsChain clauses r             the chain has a resolvent, and just its literals are marked
+--     IsChain clauses r             the chain has a resolvent, just its literals are marked, and all of them are noted
 --     AreFalse lits marks           what is marked is false over these true literals
 --     AreFalseBut lits marks x      the same, but for one literal
 --     IsMarked old new c            the literals of a clause are marked besides
@@ -10,7 +10,7 @@ use Rattle.std.specs.Prelude.{◌≡◌, ◌⊎◌, ℕ, ◌+◌, ◌-◌, ◌<�
 use Rattle.clause_pool.specs.Literal.{complement}
 use Rattle.clause_pool.specs.Clause.{has}
 use Rattle.clause_pool.specs.Chain.{chain}
-use Rattle.clause_pool.specs.Marks.{marked}
+use Rattle.clause_pool.specs.Marks.{marked, AreTouched}
 use Rattle.propagate.specs.Trail.{Trail, level, end_of, IsFalse, IsReason}
 use Rattle.solver.specs.declared.resolution.Resolution.{Resolution}
 use Rattle.solver.specs.declared.conflict.Resolvable.{Resolvable}
@@ -22,16 +22,13 @@ pub record IsChain (clauses : List (List ℕ)) (r : Resolution) : Type 0 where
   pub running : List ℕ
   pub is_running : chain clauses r.start r.pairs.items ≡ Ok running
   pub marks_are : (l : ℕ) → marked r.marks.items l ≡ has running l
+  pub all_touched : AreTouched r.marks.items r.touched.items
 
 abbrev pub AreFalse : List ℕ → List Bool → Type 0
 AreFalse lits marks = (l : ℕ) → marked marks l ≡ true → IsFalse lits l
 
 abbrev pub AreFalseBut : List ℕ → List Bool → ℕ → Type 0
 AreFalseBut lits marks x = (l : ℕ) → marked marks l ≡ true → (l ≡ x → ⊥) → IsFalse lits l
-
--- what is marked was marked, or is of a clause
-abbrev pub CameFrom : List Bool → List Bool → List ℕ → Type 0
-CameFrom old new c = (l : ℕ) → marked new l ≡ true → (marked old l ≡ true) ⊎ (has c l ≡ true)
 
 pub record IsMarked (old new : List Bool) (c : List ℕ) : Type 0 where
   pub counted : length new ≡ length old

@@ -9,13 +9,13 @@ ghost use Rattle.solver.specs.Search.{IsReady, IsKept, IsLearning, IsAppended, I
 ghost use Rattle.solver.specs.Solver.{Extends};
 
 use crate::conflict::{Resolvable, resolve_at};
-use crate::marks::{last_marked, unmark};
+use crate::marks::{last_marked, unmark, write_marked};
 use crate::minimize::minimize;
 use crate::order::Order;
 use crate::resolution::Resolution;
 use crate::way::{Span, Way};
 use clause_pool::{Kernel, Lit, Pool, Ref};
-use pb_base::{Fail, Memory};
+use pb_base::Memory;
 use propagate::Engine;
 
 // The latest marked place before `end`, where a marked place from `from` on is known.
@@ -67,7 +67,13 @@ pub(crate) fn find_uip(
         };
         let clause = pool.lits(reason);
         way.look_back(engine, order, &resolution.marks, clause, span);
-        resolve_at(engine, pool, resolution, Resolvable { place, reason })?;
+        resolve_at(
+            engine,
+            pool,
+            resolution,
+            Resolvable { place, reason },
+            clause,
+        )?;
         let Some(next) = last_marked(&resolution.marks, lits, below, place) else {
             unreachable!();
         };
@@ -78,7 +84,11 @@ pub(crate) fn find_uip(
 }
 
 /// Appends the resolvent of a chain to a kernel.
-pub(crate) fn append(kernel: &mut Kernel, resolution: &Resolution) -> Result<Ref, Memory>
+pub(crate) fn append(
+    kernel: &mut Kernel,
+    resolution: &Resolution,
+    literals: &mut Vec<Lit>,
+) -> Result<Ref, Memory>
     requires chain { IsChain kernel.old.clauses resolution.now }
     requires some { 0 < length resolution.now.pairs.items }
     ensures place { IfOk result (λ at. at ≡ length kernel.old.clauses) }
@@ -86,11 +96,9 @@ pub(crate) fn append(kernel: &mut Kernel, resolution: &Resolution) -> Result<Ref
     ensures bounds { KeepsBounds kernel.old.clauses kernel.new.clauses }
     ensures err { OnErr result (kernel.new ≡ kernel.old) }
 {
-    match kernel.resolve(resolution.start, &resolution.pairs) {
-        Ok(at) => Ok(at),
-        Err(Fail::Memory) => Err(Memory),
-        Err(Fail::Refused(_)) => unreachable!(),
-    }
+    write_marked(&resolution.marks, &resolution.touched, literals)?;
+    let at = kernel.append(resolution.start, &resolution.pairs, literals)?;
+    Ok(at)
 }
 
 // Begins the way with the literals of a clause that is false.
@@ -124,7 +132,7 @@ fn resolve_conflict(
 {
     engine.level();
     begin_lesson(engine, way, order, pool.lits(at));
-    resolution.begin(pool, at);
+    resolution.begin(pool, at)?;
     let place = find_uip(engine, pool, resolution, way, order)?;
     minimize(engine, pool, resolution, way, place)?;
     Ok(place)
@@ -149,7 +157,7 @@ pub(crate) fn learn(
 {
     kernel.given();
     let place = resolve_conflict(engine, kernel.pool(), resolution, way, order, at)?;
-    let learnt = append(kernel, resolution)?;
+    let learnt = append(kernel, resolution, &mut way.literals)?;
     unmark(&mut resolution.marks, kernel.pool().lits(learnt));
     order.decay();
     Ok(place)

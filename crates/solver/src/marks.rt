@@ -1,19 +1,76 @@
 //! Marks of the literals of a clause in the making, by the code of the literal.
-ghost use Rattle.std.specs.Prelude.{◌≡◌, ℕ, ◌*◌, ◌<◌, ◌≤◌, [], length, IfSome, IfNone, true};
+ghost use Rattle.std.specs.Prelude.{◌≡◌, ℕ, ◌+◌, ◌*◌, ◌<◌, ◌≤◌, [], ◌∷◌, ◌++◌, length, slice_set, vec_len, vec_capacity, IfSome, IfNone, OnOk, true};
+ghost use Rattle.std.specs.List.{filter};
 ghost use Rattle.clause_pool.specs.Clause.{has};
-ghost use Rattle.clause_pool.specs.Marks.{marked};
+ghost use Rattle.clause_pool.specs.Marks.{marked, AreTouched};
 ghost use Rattle.solver.specs.Marks.{AreClear, AreFalseBut, IsMarked, IsUnmarked, IsTop, NoneMarked, false_at};
 
 use clause_pool::Lit;
+use pb_base::Memory;
 
-/// Marks the literals of a clause.
-pub(crate) fn mark(marks: &mut Vec<bool>, lits: &[Lit])
-    requires below { (l : ℕ) → has lits.now l ≡ true → l < length marks.old.items }
-    ensures { IsMarked marks.old.items marks.new.items lits.now }
+// Marks a literal, and notes it in room that is there, unless it is marked.
+#[tactic(auto, using(crate::proofs::WayLaws::touched_same, crate::proofs::WayLaws::touched_one))]
+#[inline(always)]
+fn mark_one(marks: &mut Vec<bool>, touched: &mut Vec<Lit>, lit: Lit)
+    requires below { lit < length marks.old.items }
+    requires touched { AreTouched marks.old.items touched.old.items }
+    requires room { vec_len touched.old < vec_capacity touched.old }
+    ensures marks { marks.new.items ≡ slice_set marks.old.items lit true }
+    ensures touched { AreTouched marks.new.items touched.new.items }
+    ensures one_more { vec_len touched.new ≤ vec_len touched.old + 1 }
+    ensures capacity { vec_capacity touched.new ≡ vec_capacity touched.old }
 {
-    for lit in lits {
-        marks[lit.code() as usize] = true;
+    let place = lit.code() as usize;
+    if !marks[place] {
+        touched.push_reserved(lit);
     }
+    marks[place] = true;
+}
+
+/// Marks the literals of a clause, and notes those that weren't marked.
+pub(crate) fn mark(
+    marks: &mut Vec<bool>,
+    touched: &mut Vec<Lit>,
+    lits: &[Lit],
+) -> Result<(), Memory>
+    requires below { (l : ℕ) → has lits.now l ≡ true → l < length marks.old.items }
+    requires touched { AreTouched marks.old.items touched.old.items }
+    ensures counted { length marks.new.items ≡ length marks.old.items }
+    ensures marked { OnOk result (IsMarked marks.old.items marks.new.items lits.now) }
+    ensures touched { OnOk result (AreTouched marks.new.items touched.new.items) }
+{
+    touched.reserve(lits.len())?;
+    for lit in lits {
+        mark_one(marks, touched, *lit);
+    }
+    Ok(())
+}
+
+/// Writes those of these literals that are marked.
+pub(crate) fn write_marked(
+    marks: &[bool],
+    touched: &[Lit],
+    out: &mut Vec<Lit>,
+) -> Result<(), Memory>
+    ensures { OnOk result (out.new.items ≡ filter (λ l. marked marks.now l) touched.now) }
+{
+    out.clear();
+    for lit in touched {
+        write_if_marked(marks, *lit, out)?;
+    }
+    Ok(())
+}
+
+// Writes a literal, if it is marked.
+fn write_if_marked(marks: &[bool], lit: Lit, out: &mut Vec<Lit>) -> Result<(), Memory>
+    ensures { OnOk result
+        (out.new.items ≡ out.old.items ++ filter (λ l. marked marks.now l) (lit ∷ [])) }
+{
+    if !lit.is_marked(marks) {
+        return Ok(());
+    }
+    out.push(lit)?;
+    Ok(())
 }
 
 /// Takes the marks of the literals of a clause away.

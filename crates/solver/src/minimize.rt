@@ -36,11 +36,12 @@ pub(crate) fn minimize(
         let Some(at) = next_needless(engine, pool, &resolution.marks, way, start) else {
             return Ok(());
         };
+        let reason = pool.lits(at.reason);
         // Above level 0 all others of the reason are marked, so nothing comes ahead.
-        if at.place < fixed {
-            way.look_ahead(engine, &resolution.marks, pool.lits(at.reason), at.place);
+        if at.place < fixed && reason.len() > 1 {
+            way.look_ahead(engine, &resolution.marks, reason, at.place);
         }
-        resolve_at(engine, pool, resolution, at)?;
+        resolve_at(engine, pool, resolution, at, reason)?;
     }
     Ok(())
 }

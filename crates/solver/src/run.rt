@@ -2,7 +2,6 @@
 ghost use Rattle.std.specs.Prelude.{◌≡◌, ℕ, ◌+◌, ◌*◌, ◌<◌, ◌≤◌, [], length, slice_index_or, IfOk, OnOk, Ok};
 ghost use Rattle.clause_pool.specs.Literal.{complement};
 ghost use Rattle.clause_pool.specs.Clause.{has};
-ghost use Rattle.clause_pool.specs.Marks.{AreTouched};
 ghost use Rattle.propagate.specs.Trail.{level};
 ghost use Rattle.solver.specs.Answer.{IsNew};
 ghost use Rattle.solver.specs.Marks.{IsChain, AreClear, AreFalseBut};
@@ -59,7 +58,14 @@ fn resolve_all(
         let Some(reason) = engine.reason_at(place) else {
             continue;
         };
-        resolve_at(engine, pool, resolution, Resolvable { place, reason })?;
+        let clause = pool.lits(reason);
+        resolve_at(
+            engine,
+            pool,
+            resolution,
+            Resolvable { place, reason },
+            clause,
+        )?;
     }
     Ok(())
 }
@@ -80,13 +86,12 @@ fn resolve_away(
     requires chain { IsChain pool.now.clauses resolution.old }
     requires table { length resolution.old.marks.items ≡ 2 * engine.now.vars }
     requires others_false { AreFalseBut engine.now.lits resolution.old.marks.items (complement g) }
-    requires touched { AreTouched resolution.old.marks.items way.old.touched.items }
     ensures chain { OnOk result (IsChain pool.now.clauses resolution.new) }
     ensures none { OnOk result (AreFalseBut [] resolution.new.marks.items (complement g)) }
     ensures table { length resolution.new.marks.items ≡ 2 * engine.now.vars }
 {
     resolve_ahead(engine, pool, resolution, way, g.not())?;
-    if are_unmarked_but(&resolution.marks, &way.touched, g.not()) {
+    if are_unmarked_but(&resolution.marks, &resolution.touched, g.not()) {
         return Ok(());
     }
     resolve_all(engine, pool, resolution, g)?;
@@ -113,13 +118,13 @@ fn derive_closing(
 {
     kernel.given();
     let end = engine.trail().len();
-    resolution.begin(kernel.pool(), at);
-    way.begin(engine, kernel.pool().lits(at), end)?;
+    resolution.begin(kernel.pool(), at)?;
+    way.begin(engine, kernel.pool().lits(at), end);
     resolve_away(engine, kernel.pool(), resolution, way, g)?;
     if resolution.pairs.is_empty() {
         return Ok(resolution.start);
     }
-    let closed = append(kernel, resolution)?;
+    let closed = append(kernel, resolution, &mut way.literals)?;
     Ok(closed)
 }
 

@@ -1,8 +1,8 @@
 //! The way of a closing: which marks to resolve away, without a walk over the whole trail.
-ghost use Rattle.std.specs.Prelude.{◌≡◌, ℕ, ◌+◌, ◌*◌, ◌<◌, ◌++◌, length, IfSome, OnOk, OnSome, true};
+ghost use Rattle.std.specs.Prelude.{◌≡◌, ℕ, ◌+◌, ◌*◌, ◌<◌, length, IfSome, OnOk, OnSome, true};
 ghost use Rattle.std.specs.BinaryHeap.{heap_len};
 ghost use Rattle.clause_pool.specs.Clause.{has};
-ghost use Rattle.clause_pool.specs.Marks.{marked, AreTouched};
+ghost use Rattle.clause_pool.specs.Marks.{marked};
 ghost use Rattle.propagate.specs.Trail.{AreBelow};
 ghost use Rattle.solver.specs.Marks.{IsChain, AreFalseBut, IsResolvable};
 
@@ -16,11 +16,11 @@ use propagate::Engine;
 use std::alloc::Global;
 use std::collections::BinaryHeap;
 
-/// The literals of the clauses that a chain was made of, and the places of the trail where they stand. No contract
-/// speaks of the places.
+/// The places of the trail where the literals of the clauses stand that a chain was made of. No contract speaks of them.
 #[derive(Drop)]
 pub(crate) struct Way {
-    pub(crate) touched: Vec<Lit>,
+    // Where the literals of a resolvent are written.
+    pub(crate) literals: Vec<Lit>,
     // For a closing, places of any level. For a learnt clause, those that reasons at level 0 lead to.
     pub(crate) ahead: BinaryHeap<usize, Global>,
     // For a learnt clause, its places at level 0, in any order.
@@ -40,7 +40,7 @@ impl Way {
     /// No literals. It takes no memory.
     pub(crate) fn new(alloc: Global) -> Way {
         Way {
-            touched: Vec::new(alloc),
+            literals: Vec::new(alloc),
             ahead: BinaryHeap::new(alloc),
             fixed: Vec::new(alloc),
             between: Vec::new(alloc),
@@ -64,35 +64,22 @@ impl Way {
     }
 
     /// Begins with the literals of a clause, as far as they come before this place of the trail.
-    pub(crate) fn begin(&mut self, engine: &Engine, lits: &[Lit], end: usize) -> Result<(), Memory>
+    pub(crate) fn begin(&mut self, engine: &Engine, lits: &[Lit], end: usize)
         requires { AreBelow lits.now (2 * engine.now.vars) }
-        ensures { OnOk result (self.new.touched.items ≡ lits.now) }
     {
         self.ahead.clear();
         self.look_ahead(engine, &[], lits, end);
-        self.touched.clear();
-        self.touch(lits)?;
-        Ok(())
-    }
-
-    /// Goes on with the literals of a clause.
-    pub(crate) fn touch(&mut self, lits: &[Lit]) -> Result<(), Memory>
-        ensures { OnOk result (self.new.touched.items ≡ self.old.touched.items ++ lits.now) }
-    {
-        self.touched.extend_from_slice(lits)?;
-        Ok(())
     }
 
     /// Puts the places of literals that are not marked yet ahead, as far as they come before this one.
     pub(crate) fn look_ahead(&mut self, engine: &Engine, marks: &[bool], lits: &[Lit], end: usize)
         requires { AreBelow lits.now (2 * engine.now.vars) }
-        ensures { self.new.touched.items ≡ self.old.touched.items }
     {
         put_ahead(engine, &mut self.ahead, marks, lits, end);
     }
 
-    /// Puts the places of literals down that are not marked yet, as far as they come before the current level and have a
-    /// reason. What there is no room for stays in the learnt clause.
+    /// Counts the literals of a clause as ones in a conflict, and puts the places of those down that are not marked yet, as
+    /// far as they come before the current level and have a reason. What there is no room for stays in the learnt clause.
     #[tactic(auto, using(propagate::proofs::TakeLaws::item_in))]
     pub(crate) fn look_back(
         &mut self,
@@ -296,11 +283,9 @@ pub(crate) fn resolve_ahead(
     requires chain { IsChain pool.now.clauses resolution.old }
     requires table { length resolution.old.marks.items ≡ 2 * engine.now.vars }
     requires others_false { AreFalseBut engine.now.lits resolution.old.marks.items left }
-    requires touched { AreTouched resolution.old.marks.items way.old.touched.items }
     ensures chain { OnOk result (IsChain pool.now.clauses resolution.new) }
     ensures table { length resolution.new.marks.items ≡ 2 * engine.now.vars }
     ensures others_false { OnOk result (AreFalseBut engine.now.lits resolution.new.marks.items left) }
-    ensures touched { OnOk result (AreTouched resolution.new.marks.items way.new.touched.items) }
 {
     let end = engine.trail().len();
     for _ in 0..end {
@@ -309,8 +294,7 @@ pub(crate) fn resolve_ahead(
         };
         let clause = pool.lits(at.reason);
         way.look_ahead(engine, &resolution.marks, clause, at.place);
-        way.touch(clause)?;
-        resolve_at(engine, pool, resolution, at)?;
+        resolve_at(engine, pool, resolution, at, clause)?;
     }
     Ok(())
 }

@@ -1,5 +1,5 @@
-use Rattle.std.proofs.Common.{◌≡◌, ℕ, ◌<◌, ◌∙◌, arith}
-use Rattle.propagate.specs.Trail.{Trail, end_of, IsFalse}
+use Rattle.std.proofs.Common.{◌<◌, ◌∙◌, arith}
+use Rattle.propagate.specs.Trail.{Trail, end_of}
 use Rattle.solver.proofs.SearchLaws.{false_behind}
 use Rattle.solver.proofs.jump.was_false.Goals as goal
 

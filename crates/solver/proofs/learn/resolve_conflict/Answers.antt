@@ -5,7 +5,7 @@ use Rattle.solver.proofs.learn.resolve_conflict.Goals as goal
 pub find_uip-requires-clause-chain : goal.find_uip-requires-clause-chain
 find_uip-requires-clause-chain c =
     chain_begins c.args.pool.now.clauses c.begin.new.self c.args.at (subst (λ (cs : List (List ℕ)). c.args.at < length cs) c.requires.ready.attached c.requires.conflict.attached)
-    c.begin.ensures.start c.begin.ensures.pairs c.begin.ensures.marks
+    c.begin.ensures.start c.begin.ensures.pairs c.in_ok-begin.ensures.marks c.in_ok-begin.ensures.touched
 
 pub returns-clause-some : goal.returns-clause-some
 returns-clause-some c =

@@ -1,5 +1,15 @@
+use Rattle.std.proofs.Common.{◌≡◌, ℕ, ◌<◌, List, [], length, get_or, ap, sym, subst, ◌∙◌}
+use Rattle.clause_pool.specs.Clause.{has}
+use Rattle.solver.proofs.MarkLaws.{chain_begins}
 use Rattle.solver.proofs.LearnLaws.{kept_after, closed_by_last}
 use Rattle.solver.proofs.run.derive_closing.Goals as goal
+
+pub resolve_away-requires-clause-chain : goal.resolve_away-requires-clause-chain
+resolve_away-requires-clause-chain c =
+    let clauses : List (List ℕ) = c.pool-3.result.now.clauses in
+    let same : c.pool.result.now.clauses ≡ clauses = c.pool.ensures.clauses ∙ sym c.pool-3.ensures.clauses in
+    chain_begins clauses c.begin.new.self c.args.at (subst (λ (cs : List (List ℕ)). c.args.at < length cs) (c.requires.ready.attached ∙ sym c.pool-3.ensures.clauses) c.requires.conflict.attached)
+    c.begin.ensures.start c.begin.ensures.pairs (λ l. c.in_ok-begin.ensures.marks l ∙ ap (λ (cs : List (List ℕ)). has (get_or cs c.args.at []) l) same) c.in_ok-begin.ensures.touched
 
 pub returns-clause-kept : goal.returns-clause-kept
 returns-clause-kept c =

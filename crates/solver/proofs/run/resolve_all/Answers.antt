@@ -3,7 +3,7 @@ use Rattle.std.proofs.lemmas.List.{take_all}
 use Rattle.clause_pool.specs.Literal.{complement}
 use Rattle.clause_pool.specs.Marks.{marked}
 use Rattle.solver.specs.Marks.{AreFalseBut, false_at}
-use Rattle.solver.proofs.MarkLaws.{skip_unmarked, skip_opened, step_resolved}
+use Rattle.solver.proofs.MarkLaws.{reason_attached, skip_unmarked, skip_opened, step_resolved}
 use Rattle.solver.proofs.LearnLaws.{opened_here}
 use Rattle.solver.proofs.run.resolve_all.Goals as goal
 
@@ -16,6 +16,12 @@ loop-place-init c =
       others_false = subst (λ (xs : List ℕ). AreFalseBut xs c.args.resolution.now.marks.items (complement c.args.g)) (sym (take_all (length c.trail-lits.result.now) c.args.engine.now.lits (omega (arith, len)))) c.requires.others_false;
       within = omega (arith, len);
     }
+
+pub lits-clause-requires : goal.lits-clause-requires
+lits-clause-requires c =
+    let within = c.loop-place.invariant.within in
+    let some : 0 < c.loop-place.place = c.loop-place-test.true in
+    reason_attached c.args.engine.now c.args.pool.now.clauses (c.loop-place.place - 1) c.in-Some.reason c.trail-lits.ensures.trail (omega (arith, within, some)) (sym c.reason_at.ensures ∙ c.in-Some.is) c.requires.attached
 
 pub loop-place-preserved-then-not-is_marked : goal.loop-place-preserved-then-not-is_marked
 loop-place-preserved-then-not-is_marked c =
