@@ -76,21 +76,16 @@ step_rises : (running : List ℕ) (place lit : ℕ) (found : Option (List ℕ)) 
 step_rises running place lit None c h = cc
 step_rises running place lit (Some other) c h = subst IsRising (chosen _ _ _ _ h) (IsRising-resolved running lit other)
 
-rest_rises : (clauses : List (List ℕ)) (pairs : List Pair) (place : ℕ) (before : Result (List ℕ) StepFault) → ((c : List ℕ) → before ≡ Ok c → IsRising c) → (c : List ℕ) → chain_from clauses place pairs before ≡ Ok c → IsRising c
-rest_rises clauses [] place before hb c h = hb c h
-rest_rises clauses (p ∷ ps) place (Err fault) hb c h = cc
-rest_rises clauses (p ∷ ps) place (Ok running) hb c h =
-    rest_rises clauses ps (place + 1) (step_on running place p.lit (slice_get clauses p.with)) (step_rises running place p.lit (slice_get clauses p.with)) c h
-
-begun_rises : (clauses : List (List ℕ)) (p : Pair) (ps : List Pair) (place : ℕ) (before : Result (List ℕ) StepFault) (c : List ℕ) → chain_from clauses place (p ∷ ps) before ≡ Ok c → IsRising c
-begun_rises clauses p ps place (Err fault) c h = cc
-begun_rises clauses p ps place (Ok running) c h =
-    rest_rises clauses ps (place + 1) (step_on running place p.lit (slice_get clauses p.with)) (step_rises running place p.lit (slice_get clauses p.with)) c h
+rest_rises : (clauses : List (List ℕ)) (p : Pair) (ps : List Pair) (place : ℕ) (before : Result (List ℕ) StepFault) (c : List ℕ) → chain_from clauses place (p ∷ ps) before ≡ Ok c → IsRising c
+rest_rises clauses p [] place (Err fault) c h = cc
+rest_rises clauses p [] place (Ok running) c h = step_rises running place p.lit (slice_get clauses p.with) c h
+rest_rises clauses p (q ∷ qs) place (Err fault) c h = cc
+rest_rises clauses p (q ∷ qs) place (Ok running) c h = rest_rises clauses q qs (place + 1) (step_on running place p.lit (slice_get clauses p.with)) c h
 
 -- the resolvent of a chain with a pair is in order, whatever the clauses
 pub chain_rises : (clauses : List (List ℕ)) (start : ℕ) (pairs : List Pair) (c : List ℕ) → 0 < length pairs → chain clauses start pairs ≡ Ok c → IsRising c
 chain_rises clauses start [] c some h = absurd (omega (arith, some))
-chain_rises clauses start (p ∷ ps) c some h = begun_rises clauses p ps 1 (started (slice_get clauses start)) c h
+chain_rises clauses start (p ∷ ps) c some h = rest_rises clauses p ps 1 (started (slice_get clauses start)) c h
 
 -- the resolvent of a chain over some clauses follows from them
 pub Follows-chain : (clauses : List (List ℕ)) (start : ℕ) (pairs : List Pair) (c : List ℕ) → chain clauses start pairs ≡ Ok c → Follows clauses c

@@ -16,3 +16,4 @@ pub use kernel::Kernel;
 pub use lit::Lit;
 pub use pool::{Mark, Pool, Ref};
 pub use region::make_room;
+pub use running::push_marked;

@@ -187,8 +187,9 @@ fn push_if_marked(marks: &[bool], lit: Lit, out: &mut Vec<Lit>) -> Result<(), Al
     Ok(())
 }
 
-// Appends those of these literals that are marked.
-fn push_marked(marks: &[bool], lits: &[Lit], out: &mut Vec<Lit>) -> Result<(), AllocError>
+/// Appends those of these literals that a table marks, in their order. The table is by the code of a literal. On want of
+/// memory only the first of them may be there.
+pub fn push_marked(marks: &[bool], lits: &[Lit], out: &mut Vec<Lit>) -> Result<(), AllocError>
     ensures { OnOk result
         (out.new.items ≡ out.old.items ++ filter (λ l. marked marks.now l) lits.now) }
 {

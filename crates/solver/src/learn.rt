@@ -9,12 +9,12 @@ ghost use Rattle.solver.specs.Search.{IsReady, IsKept, IsLearning, IsAppended, I
 ghost use Rattle.solver.specs.Solver.{Extends};
 
 use crate::conflict::{Resolvable, resolve_at};
-use crate::marks::{last_marked, unmark, write_marked};
+use crate::marks::{last_marked, unmark};
 use crate::minimize::minimize;
 use crate::order::Order;
 use crate::resolution::Resolution;
 use crate::way::{Span, Way};
-use clause_pool::{Kernel, Lit, Pool, Ref};
+use clause_pool::{Kernel, Lit, Pool, Ref, push_marked};
 use pb_base::Memory;
 use propagate::Engine;
 
@@ -67,13 +67,8 @@ pub(crate) fn find_uip(
         };
         let clause = pool.lits(reason);
         way.look_back(engine, order, &resolution.marks, clause, span);
-        resolve_at(
-            engine,
-            pool,
-            resolution,
-            Resolvable { place, reason },
-            clause,
-        )?;
+        let at = Resolvable { place, reason };
+        resolve_at(engine, pool, resolution, at, clause)?;
         let Some(next) = last_marked(&resolution.marks, lits, below, place) else {
             unreachable!();
         };
@@ -83,7 +78,7 @@ pub(crate) fn find_uip(
     Ok(place)
 }
 
-/// Appends the resolvent of a chain to a kernel.
+/// Appends the resolvent of a chain to a kernel. Its literals are written to the vector first.
 pub(crate) fn append(
     kernel: &mut Kernel,
     resolution: &Resolution,
@@ -96,7 +91,8 @@ pub(crate) fn append(
     ensures bounds { KeepsBounds kernel.old.clauses kernel.new.clauses }
     ensures err { OnErr result (kernel.new ≡ kernel.old) }
 {
-    write_marked(&resolution.marks, &resolution.touched, literals)?;
+    literals.clear();
+    push_marked(&resolution.marks, &resolution.touched, literals)?;
     let at = kernel.append(resolution.start, &resolution.pairs, literals)?;
     Ok(at)
 }

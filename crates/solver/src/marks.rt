@@ -1,6 +1,5 @@
 //! Marks of the literals of a clause in the making, by the code of the literal.
-ghost use Rattle.std.specs.Prelude.{◌≡◌, ℕ, ◌+◌, ◌*◌, ◌<◌, ◌≤◌, [], ◌∷◌, ◌++◌, length, slice_set, vec_len, vec_capacity, IfSome, IfNone, OnOk, true};
-ghost use Rattle.std.specs.List.{filter};
+ghost use Rattle.std.specs.Prelude.{◌≡◌, ℕ, ◌+◌, ◌*◌, ◌<◌, ◌≤◌, [], length, slice_set, vec_len, vec_capacity, IfSome, IfNone, OnOk, true};
 ghost use Rattle.clause_pool.specs.Clause.{has};
 ghost use Rattle.clause_pool.specs.Marks.{marked, AreTouched};
 ghost use Rattle.solver.specs.Marks.{AreClear, AreFalseBut, IsMarked, IsUnmarked, IsTop, NoneMarked, false_at};
@@ -43,33 +42,6 @@ pub(crate) fn mark(
     for lit in lits {
         mark_one(marks, touched, *lit);
     }
-    Ok(())
-}
-
-/// Writes those of these literals that are marked.
-pub(crate) fn write_marked(
-    marks: &[bool],
-    touched: &[Lit],
-    out: &mut Vec<Lit>,
-) -> Result<(), Memory>
-    ensures { OnOk result (out.new.items ≡ filter (λ l. marked marks.now l) touched.now) }
-{
-    out.clear();
-    for lit in touched {
-        write_if_marked(marks, *lit, out)?;
-    }
-    Ok(())
-}
-
-// Writes a literal, if it is marked.
-fn write_if_marked(marks: &[bool], lit: Lit, out: &mut Vec<Lit>) -> Result<(), Memory>
-    ensures { OnOk result
-        (out.new.items ≡ out.old.items ++ filter (λ l. marked marks.now l) (lit ∷ [])) }
-{
-    if !lit.is_marked(marks) {
-        return Ok(());
-    }
-    out.push(lit)?;
     Ok(())
 }
 

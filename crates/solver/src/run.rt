@@ -58,14 +58,8 @@ fn resolve_all(
         let Some(reason) = engine.reason_at(place) else {
             continue;
         };
-        let clause = pool.lits(reason);
-        resolve_at(
-            engine,
-            pool,
-            resolution,
-            Resolvable { place, reason },
-            clause,
-        )?;
+        let at = Resolvable { place, reason };
+        resolve_at(engine, pool, resolution, at, pool.lits(reason))?;
     }
     Ok(())
 }

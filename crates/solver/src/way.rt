@@ -37,7 +37,7 @@ pub(crate) struct Span {
 }
 
 impl Way {
-    /// No literals. It takes no memory.
+    /// No places. It takes no memory.
     pub(crate) fn new(alloc: Global) -> Way {
         Way {
             literals: Vec::new(alloc),

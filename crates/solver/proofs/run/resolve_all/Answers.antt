@@ -17,8 +17,8 @@ loop-place-init c =
       within = omega (arith, len);
     }
 
-pub lits-clause-requires : goal.lits-clause-requires
-lits-clause-requires c =
+pub lits-requires : goal.lits-requires
+lits-requires c =
     let within = c.loop-place.invariant.within in
     let some : 0 < c.loop-place.place = c.loop-place-test.true in
     reason_attached c.args.engine.now c.args.pool.now.clauses (c.loop-place.place - 1) c.in-Some.reason c.trail-lits.ensures.trail (omega (arith, within, some)) (sym c.reason_at.ensures ∙ c.in-Some.is) c.requires.attached
