@@ -2,4 +2,5 @@ pub mod Put
 pub mod Keys
 pub mod Rows
 pub mod Causes
+pub mod Counting
 pub mod MemoryKeeper

@@ -1,16 +1,15 @@
 //! The rows of the order desk in a file that sqlite3 reads: the statements over a connection, and a keeper over them.
 #![tactic(auto)]
 
+mod opens;
 mod reading;
 mod sql_keeper;
 mod stored;
 mod tables;
 mod writing;
 
+pub use opens::Opens;
 pub use reading::load;
 pub use sql_keeper::{FileKeeper, SqlKeeper};
 pub use tables::{begin, migrate};
 pub use writing::{put_book, put_draft, put_order, put_withdrawn};
-
-#[cfg(test)]
-mod tests;

@@ -1,10 +1,11 @@
 //! A keeper over a file.
 ghost use Rattle.std.specs.Prelude.{◌≡◌, None};
-ghost use Rattle.keeper.specs.Causes.{HasCause};
-ghost use Rattle.keeper_sql.specs.Answers.{answer_of, count_of};
+ghost use Rattle.keeper.specs.Counting.{fallible};
+ghost use Rattle.keeper_sql.specs.Kinds.{by_kind};
 
-use crate::{begin, load, migrate, put_book, put_draft, put_order, put_withdrawn};
-use keeper::{BookRow, DraftRow, Keeper, OrderRow, Rows};
+use crate::{Opens, begin, load, migrate, put_book, put_draft, put_order, put_withdrawn};
+use keeper::{BookRow, DraftRow, Keeper, OrderRow, Rows, counted};
+use pb_base::Fail;
 use pb_outside::{FaultCount, OutError};
 use sqlite::{Alter, Connection, Error, ErrorCode, File, FileStore};
 use std::fs;
@@ -62,8 +63,8 @@ impl SqlKeeper<FileStore<File>> {
 }
 
 // Opens the store, or makes it where there is none.
-fn opened(rt: &HostRuntime, name: &str) -> Result<(Connection<FileStore<File>>, String), Error> {
-    let mut connection = Connection::open(rt, name)?;
+fn opened<S: Opens>(rt: &HostRuntime, name: &str) -> Result<(Connection<S>, String), Error> {
+    let mut connection = S::open(rt, name)?;
     begin(&mut connection)?;
     let log = log_of(rt, name)?;
     Ok((connection, log))
@@ -84,25 +85,24 @@ fn log_of(rt: &HostRuntime, name: &str) -> Result<String, Error> {
     }
 }
 
-// What statements came to, with a fault counted where they failed.
-fn counted<T: Drop>(faults: &mut FaultCount, done: Result<T, Error>) -> Result<T, OutError>
-    ensures answer { result ≡ answer_of done }
-    ensures count { HasCause result (count_of faults.old) (count_of faults.new) }
+// What statements came to, with want of memory told apart from every other error.
+fn by_kind<T: Drop>(done: Result<T, Error>) -> Result<T, Fail<Error>>
+    ensures { result ≡ by_kind done }
 {
     match done {
         Ok(answer) => Ok(answer),
-        Err(Error::SqliteFailure(ErrorCode::OutOfMemory)) => Err(OutError::Memory),
-        Err(_) => faults.fail(),
+        Err(Error::SqliteFailure(ErrorCode::OutOfMemory)) => Err(Fail::Memory),
+        Err(error) => Err(Fail::Refused(error)),
     }
 }
 
-impl Keeper for SqlKeeper<FileStore<File>> {
+impl<S: Opens> Keeper for SqlKeeper<S> {
     ghost told = { λ _. None };
 
-    ghost failures = { λ k. count_of k.faults };
+    ghost failures = { λ k. fallible k.faults };
 
     fn begin(&mut self, name: &str) -> Result<(), OutError> {
-        let store = counted(&mut self.faults, opened(&self.rt, name))?;
+        let store = counted(&mut self.faults, by_kind(opened(&self.rt, name)))?;
         self.store = Some(store);
         Ok(())
     }
@@ -112,7 +112,7 @@ impl Keeper for SqlKeeper<FileStore<File>> {
             Some((connection, _)) => load(self.rt.alloc(), connection),
             None => Err(CANNOT_OPEN),
         };
-        counted(&mut self.faults, rows)
+        counted(&mut self.faults, by_kind(rows))
     }
 
     fn put_draft(&mut self, row: &DraftRow) -> Result<(), OutError> {
@@ -120,7 +120,7 @@ impl Keeper for SqlKeeper<FileStore<File>> {
             Some((connection, _)) => put_draft(connection, row),
             None => Err(CANNOT_OPEN),
         };
-        counted(&mut self.faults, done)
+        counted(&mut self.faults, by_kind(done))
     }
 
     fn put_book(&mut self, row: &BookRow) -> Result<(), OutError> {
@@ -128,7 +128,7 @@ impl Keeper for SqlKeeper<FileStore<File>> {
             Some((connection, _)) => put_book(connection, row),
             None => Err(CANNOT_OPEN),
         };
-        counted(&mut self.faults, done)
+        counted(&mut self.faults, by_kind(done))
     }
 
     fn put_order(&mut self, row: &OrderRow) -> Result<(), OutError> {
@@ -136,7 +136,7 @@ impl Keeper for SqlKeeper<FileStore<File>> {
             Some((connection, _)) => put_order(connection, row),
             None => Err(CANNOT_OPEN),
         };
-        counted(&mut self.faults, done)
+        counted(&mut self.faults, by_kind(done))
     }
 
     fn put_withdrawn(&mut self, number: u64) -> Result<(), OutError> {
@@ -144,7 +144,7 @@ impl Keeper for SqlKeeper<FileStore<File>> {
             Some((connection, _)) => put_withdrawn(connection, number),
             None => Err(CANNOT_OPEN),
         };
-        counted(&mut self.faults, done)
+        counted(&mut self.faults, by_kind(done))
     }
 
     fn migrate(&mut self) -> Result<(), OutError> {
@@ -152,7 +152,7 @@ impl Keeper for SqlKeeper<FileStore<File>> {
             Some((connection, _)) => migrate(connection),
             None => Err(CANNOT_OPEN),
         };
-        counted(&mut self.faults, done)
+        counted(&mut self.faults, by_kind(done))
     }
 
     fn faults(&self) -> u64 {
