@@ -1,9 +1,9 @@
 //! What opens a file.
 
-use sqlite::{Connection, Error, File, FileStore, Alter};
+use sqlite::{Alter, Connection, Error, File, FileStore};
 
-/// A store that lies in a file of the system. A keeper is proved over every such store, so that what it does is proved once
-/// and without what a real file brings along.
+/// A store in a file, which is opened by the file's name. A `SqlKeeper` is a keeper over every such store, so that its proof
+/// rests on nothing that only a real file has.
 pub trait Opens: Alter + Drop {
     /// Opens the file of this name, or makes it where there is none.
     fn open(rt: &HostRuntime, name: &str) -> Result<Connection<Self>, Error>;

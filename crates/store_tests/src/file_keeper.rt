@@ -1,0 +1,143 @@
+//! A keeper over a real file.
+
+use crate::row::{book, draft, is_book, is_draft, is_order, number, order};
+use keeper::{BookRow, DraftRow, Keeper, OrderRow, Rows};
+use keeper_sql::FileKeeper;
+use pb_outside::OutError;
+use std::alloc::Global;
+use std::fs;
+use std::process::Abort;
+use std::test::Fail;
+
+const FOLDER: &str = "store_test";
+
+const STORE: &str = "store_test/s.db";
+
+const LOG: &str = "store_test/s.db-wal";
+
+const NOTE: &str = "store_test/note";
+
+fn put_draft<K: Keeper>(
+    keeper: &mut K,
+    alloc: Global,
+    digit: u8,
+    says: u8,
+) -> Result<(), OutError> {
+    keeper.put_draft(&draft(alloc, digit, says)?)
+}
+
+fn put_book<K: Keeper>(keeper: &mut K, alloc: Global, digit: u8, says: u8) -> Result<(), OutError> {
+    keeper.put_book(&book(alloc, digit, says)?)
+}
+
+fn put_order<K: Keeper>(
+    keeper: &mut K,
+    alloc: Global,
+    digit: u8,
+    says: u8,
+) -> Result<(), OutError> {
+    keeper.put_order(&order(alloc, digit, says)?)
+}
+
+fn put_withdrawn<K: Keeper>(keeper: &mut K, digit: u8) -> Result<(), OutError> {
+    keeper.put_withdrawn(number(digit))
+}
+
+// A row of each kind, for each pair of a digit and what it says.
+fn put_rows<K: Keeper>(keeper: &mut K, alloc: Global, pairs: &[u8]) -> Result<(), OutError> {
+    for pair in pairs.chunks(2) {
+        if let [digit, says] = pair {
+            put_draft(keeper, alloc, *digit, *says)?;
+            put_book(keeper, alloc, *digit, *says)?;
+            put_order(keeper, alloc, *digit, *says)?;
+            put_withdrawn(keeper, *digit)?;
+        }
+    }
+    Ok(())
+}
+
+fn begin<K: Keeper>(keeper: &mut K, name: &str) -> Result<(), OutError> {
+    keeper.begin(name)
+}
+
+// The keeper may go to another thread. While it holds the store, no other one gets it.
+fn keeps<K: Keeper + Send>(
+    rt: &impl Abort,
+    alloc: Global,
+    keeper: &mut K,
+    other: &mut K,
+) -> Result<(), OutError> {
+    begin(keeper, STORE)?;
+    put_rows(keeper, alloc, b"2a1b2c")?;
+    assert_eq!(rt; begin(other, STORE), Err(OutError::Failed));
+    assert_eq!(rt; other.faults(), 1);
+    Ok(())
+}
+
+fn are_drafts(rows: &[DraftRow]) -> bool {
+    matches!(rows, [first, second] if is_draft(first, b'1', b'b') && is_draft(second, b'2', b'c'))
+}
+
+fn are_books(rows: &[BookRow]) -> bool {
+    matches!(rows, [first, second] if is_book(first, b'1', b'b') && is_book(second, b'2', b'c'))
+}
+
+fn are_orders(rows: &[OrderRow]) -> bool {
+    matches!(rows, [first, second, third]
+        if is_order(first, b'1', b'b') && is_order(second, b'2', b'a') && is_order(third, b'2', b'c'))
+}
+
+fn shows(rt: &impl Abort, rows: &Rows) {
+    assert_eq!(rt; rows.form, 2);
+    assert!(rt; are_drafts(&rows.drafts));
+    assert!(rt; are_books(&rows.books));
+    assert!(rt; are_orders(&rows.orders));
+    assert_eq!(rt; rows.withdrawn.as_slice(), [1, 2].as_slice());
+}
+
+// The next keeper finds what the last one kept.
+fn finds<K: Keeper>(rt: &impl Abort, keeper: &mut K) -> Result<(), OutError> {
+    begin(keeper, STORE)?;
+    let rows = keeper.load()?;
+    shows(rt, &rows);
+    Ok(())
+}
+
+// One keeper behind the other, and whether both were closed.
+fn keeps_and_finds(
+    rt: &impl Abort,
+    alloc: Global,
+    mut keeper: FileKeeper,
+    mut other: FileKeeper,
+) -> Result<bool, OutError> {
+    let kept = keeps(rt, alloc, &mut keeper, &mut other);
+    let is_closed = keeper.close();
+    let found = finds(rt, &mut other);
+    let is_other_closed = other.close();
+    kept.and(found)?;
+    Ok(is_closed && is_other_closed)
+}
+
+fn refuses_a_note<K: Keeper>(rt: &impl Abort, keeper: &mut K) {
+    assert_eq!(rt; begin(keeper, NOTE), Err(OutError::Failed));
+    assert_eq!(rt; keeper.faults(), 1);
+}
+
+fn refuses_and_closes(rt: &impl Abort, mut keeper: FileKeeper) -> bool {
+    refuses_a_note(rt, &mut keeper);
+    keeper.close()
+}
+
+#[test]
+fn a_file_keeps_the_rows(rt: HostRuntime) -> Result<(), Fail> {
+    let _ = fs::remove_dir_all(&rt, FOLDER);
+    fs::create_dir(&rt, FOLDER)?;
+    assert!(rt; keeps_and_finds(&rt, rt.alloc(), FileKeeper::new(rt), FileKeeper::new(rt))?);
+    // One file is left.
+    assert!(rt; fs::read(&rt, LOG).is_err());
+    fs::write(&rt, NOTE, b"no database")?;
+    assert!(rt; refuses_and_closes(&rt, FileKeeper::new(rt)));
+    assert_eq!(rt; fs::read(&rt, NOTE)?.as_slice(), b"no database".as_slice());
+    fs::remove_dir_all(&rt, FOLDER)?;
+    Ok(())
+}
