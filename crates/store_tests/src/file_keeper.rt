@@ -60,8 +60,8 @@ fn begin<K: Keeper>(keeper: &mut K, name: &str) -> Result<(), OutError> {
     keeper.begin(name)
 }
 
-// The keeper may go to another thread. While it holds the store, no other one gets it.
-fn keeps<K: Keeper + Send>(
+// While a keeper holds the store, no other one gets it.
+fn keeps<K: Keeper>(
     rt: &impl Abort,
     alloc: Global,
     keeper: &mut K,
@@ -103,40 +103,64 @@ fn finds<K: Keeper>(rt: &impl Abort, keeper: &mut K) -> Result<(), OutError> {
     Ok(())
 }
 
+// A keeper that is made and closed by itself, so that all else is proved over any keeper.
+trait Held: Keeper {
+    fn fresh(rt: HostRuntime) -> Self;
+
+    fn close_store(self) -> bool;
+}
+
+// What may go to another thread.
+fn moved<T: Send>(value: T) -> T {
+    value
+}
+
+impl Held for FileKeeper {
+    fn fresh(rt: HostRuntime) -> FileKeeper {
+        moved(FileKeeper::new(rt))
+    }
+
+    fn close_store(self) -> bool {
+        self.close()
+    }
+}
+
 // One keeper behind the other, and whether both were closed.
-fn keeps_and_finds(
-    rt: &impl Abort,
-    alloc: Global,
-    mut keeper: FileKeeper,
-    mut other: FileKeeper,
-) -> Result<bool, OutError> {
-    let kept = keeps(rt, alloc, &mut keeper, &mut other);
-    let is_closed = keeper.close();
+fn keeps_and_finds<K: Held>(rt: &impl Abort, host: HostRuntime) -> Result<bool, OutError> {
+    let mut keeper = K::fresh(host);
+    let mut other = K::fresh(host);
+    let kept = keeps(rt, host.alloc(), &mut keeper, &mut other);
+    let is_closed = keeper.close_store();
     let found = finds(rt, &mut other);
-    let is_other_closed = other.close();
+    let is_other_closed = other.close_store();
     kept.and(found)?;
     Ok(is_closed && is_other_closed)
 }
 
-fn refuses_a_note<K: Keeper>(rt: &impl Abort, keeper: &mut K) {
-    assert_eq!(rt; begin(keeper, NOTE), Err(OutError::Failed));
+fn refuses_a_note<K: Held>(rt: &impl Abort, host: HostRuntime) -> bool {
+    let mut keeper = K::fresh(host);
+    assert_eq!(rt; begin(&mut keeper, NOTE), Err(OutError::Failed));
     assert_eq!(rt; keeper.faults(), 1);
+    keeper.close_store()
 }
 
-fn refuses_and_closes(rt: &impl Abort, mut keeper: FileKeeper) -> bool {
-    refuses_a_note(rt, &mut keeper);
-    keeper.close()
+fn files_keep(rt: &impl Abort, host: HostRuntime) -> Result<bool, OutError> {
+    keeps_and_finds::<FileKeeper>(rt, host)
+}
+
+fn files_refuse(rt: &impl Abort, host: HostRuntime) -> bool {
+    refuses_a_note::<FileKeeper>(rt, host)
 }
 
 #[test]
 fn a_file_keeps_the_rows(rt: HostRuntime) -> Result<(), Fail> {
     let _ = fs::remove_dir_all(&rt, FOLDER);
     fs::create_dir(&rt, FOLDER)?;
-    assert!(rt; keeps_and_finds(&rt, rt.alloc(), FileKeeper::new(rt), FileKeeper::new(rt))?);
+    assert!(rt; files_keep(&rt, rt)?);
     // One file is left.
     assert!(rt; fs::read(&rt, LOG).is_err());
     fs::write(&rt, NOTE, b"no database")?;
-    assert!(rt; refuses_and_closes(&rt, FileKeeper::new(rt)));
+    assert!(rt; files_refuse(&rt, rt));
     assert_eq!(rt; fs::read(&rt, NOTE)?.as_slice(), b"no database".as_slice());
     fs::remove_dir_all(&rt, FOLDER)?;
     Ok(())
