@@ -12,6 +12,3 @@ mod sampler;
 pub use book::sample_book;
 pub use law::sample_law;
 pub use sampler::Sampler;
-
-#[cfg(test)]
-mod tests;

@@ -28,6 +28,17 @@ pub(crate) fn body_of(alloc: Global, bytes: &[u8]) -> Result<Body, Memory>
     Ok(Body::of(bytes))
 }
 
+// Two texts as bodies of their own.
+fn bodies_of(alloc: Global, first: &[u8], second: &[u8]) -> Result<(Body, Body), Memory>
+    ensures { IfOk result (λ bodies. (bodies.0 ≡ first.now) × (bodies.1 ≡ second.now)) }
+{
+    let first = body_of(alloc, first)?;
+    match body_of(alloc, second) {
+        Ok(second) => Ok((first, second)),
+        Err(Memory) => Err(Memory),
+    }
+}
+
 /// Keeps a draft under its name.
 pub(crate) fn write_draft<P: Keeper>(
     alloc: Global,
@@ -43,27 +54,9 @@ pub(crate) fn write_draft<P: Keeper>(
     ensures untold { OnErr result (P.told keeper.new ≡ P.told keeper.old) }
     ensures count { HasCause result (P.failures keeper.old) (P.failures keeper.new) }
 {
-    let row_name = body_of(alloc, name.bytes())?;
-    let row_owner = body_of(alloc, draft.owner.bytes())?;
-    let Draft {
-        owner,
-        revision,
-        text,
-    } = draft;
-    let row = DraftRow {
-        name: row_name,
-        owner: row_owner,
-        revision: u64::from(revision),
-        text,
-    };
     let entry = drafts.entry(name)?;
-    match keeper.put_draft(&row) {
-        Ok(()) => {
-            let draft = Draft {
-                owner,
-                revision,
-                text: row.text,
-            };
+    match write_draft_row(alloc, keeper, &name, draft) {
+        Ok(draft) => {
             entry.insert_entry(draft);
             Ok(())
         }
@@ -71,6 +64,45 @@ pub(crate) fn write_draft<P: Keeper>(
             Entry::Vacant(_) => Err(error),
             Entry::Occupied(_) => Err(error),
         },
+    }
+}
+
+// Writes the row of a draft, which takes its text meanwhile, and gives the draft back.
+fn write_draft_row<P: Keeper>(
+    alloc: Global,
+    keeper: &mut P,
+    name: &Id,
+    draft: Draft,
+) -> Result<Draft, OutError>
+    ensures same { IfOk result (λ same. same ≡ draft) }
+    ensures told { OnOk result (P.told keeper.new
+        ≡ option_map (kept.with_draft (draft_row (name.now, draft))) (P.told keeper.old)) }
+    ensures untold { OnErr result (P.told keeper.new ≡ P.told keeper.old) }
+    ensures count { HasCause result (P.failures keeper.old) (P.failures keeper.new) }
+{
+    let owner = draft.owner;
+    let revision = draft.revision;
+    let row = row_of_draft(alloc, name, draft)?;
+    keeper.put_draft(&row)?;
+    Ok(Draft {
+        owner,
+        revision,
+        text: row.text,
+    })
+}
+
+// The row of a draft, with the draft's own text.
+fn row_of_draft(alloc: Global, name: &Id, draft: Draft) -> Result<DraftRow, Memory>
+    ensures { IfOk result (λ row. row ≡ draft_row (name.now, draft)) }
+{
+    match bodies_of(alloc, name.bytes(), draft.owner.bytes()) {
+        Ok((name, owner)) => Ok(DraftRow {
+            name,
+            owner,
+            revision: u64::from(draft.revision),
+            text: draft.text,
+        }),
+        Err(Memory) => Err(Memory),
     }
 }
 
@@ -88,18 +120,47 @@ pub(crate) fn write_book<P: Keeper>(
     ensures untold { OnErr result (P.told keeper.new ≡ P.told keeper.old) }
     ensures count { HasCause result (P.failures keeper.old) (P.failures keeper.new) }
 {
-    let released = book.released.released();
-    let row = BookRow {
-        number: books.len() as u64 + 1,
-        draft: body_of(alloc, book.draft.bytes())?,
-        revision: u64::from(book.revision),
-        text: body_of(alloc, released.text())?,
-        cert: body_of(alloc, released.cert())?,
-    };
     books.reserve(1)?;
-    keeper.put_book(&row)?;
-    books.push(book).unwrap();
-    Ok(())
+    match write_book_row(alloc, keeper, books.len() as u64 + 1, &book) {
+        Ok(()) => {
+            books.push_reserved(book);
+            Ok(())
+        }
+        Err(error) => Err(error),
+    }
+}
+
+// Writes the row of the book of this number.
+fn write_book_row<P: Keeper>(
+    alloc: Global,
+    keeper: &mut P,
+    number: u64,
+    book: &KeptBook,
+) -> Result<(), OutError>
+    ensures told { OnOk result (P.told keeper.new
+        ≡ option_map (kept.with_book (book_row number book.now)) (P.told keeper.old)) }
+    ensures untold { OnErr result (P.told keeper.new ≡ P.told keeper.old) }
+    ensures count { HasCause result (P.failures keeper.old) (P.failures keeper.new) }
+{
+    let row = row_of_book(alloc, number, book)?;
+    keeper.put_book(&row)
+}
+
+fn row_of_book(alloc: Global, number: u64, book: &KeptBook) -> Result<BookRow, Memory>
+    ensures { IfOk result (λ row. row ≡ book_row number book.now) }
+{
+    let released = book.released.released();
+    let draft = body_of(alloc, book.draft.bytes())?;
+    match bodies_of(alloc, released.text(), released.cert()) {
+        Ok((text, cert)) => Ok(BookRow {
+            number,
+            draft,
+            revision: u64::from(book.revision),
+            text,
+            cert,
+        }),
+        Err(Memory) => Err(Memory),
+    }
 }
 
 /// Puts the book at a place, counted from 0, out of force.
@@ -137,15 +198,8 @@ pub(crate) fn write_order<P: Keeper>(
     ensures untold { OnErr result (P.told keeper.new ≡ P.told keeper.old) }
     ensures count { HasCause result (P.failures keeper.old) (P.failures keeper.new) }
 {
-    let row = OrderRow {
-        caller: body_of(alloc, key.caller.bytes())?,
-        number: u64::from(key.number),
-        book: u64::from(order.book),
-        day: u64::from(order.day),
-        codes: codes_body(alloc, order.codes.as_slice())?,
-    };
     let entry = orders.entry(key)?;
-    match keeper.put_order(&row) {
+    match write_order_row(alloc, keeper, &key, &order) {
         Ok(()) => {
             entry.insert_entry(order);
             Ok(())
@@ -154,6 +208,38 @@ pub(crate) fn write_order<P: Keeper>(
             Entry::Vacant(_) => Err(error),
             Entry::Occupied(_) => Err(error),
         },
+    }
+}
+
+// Writes the row of an order.
+fn write_order_row<P: Keeper>(
+    alloc: Global,
+    keeper: &mut P,
+    key: &OrderKey,
+    order: &OrderWords,
+) -> Result<(), OutError>
+    ensures told { OnOk result (P.told keeper.new
+        ≡ option_map (kept.with_order (order_row (key.now, order.now))) (P.told keeper.old)) }
+    ensures untold { OnErr result (P.told keeper.new ≡ P.told keeper.old) }
+    ensures count { HasCause result (P.failures keeper.old) (P.failures keeper.new) }
+{
+    let row = row_of_order(alloc, key, order)?;
+    keeper.put_order(&row)
+}
+
+fn row_of_order(alloc: Global, key: &OrderKey, order: &OrderWords) -> Result<OrderRow, Memory>
+    ensures { IfOk result (λ row. row ≡ order_row (key.now, order.now)) }
+{
+    let caller = body_of(alloc, key.caller.bytes())?;
+    match codes_body(alloc, order.codes.as_slice()) {
+        Ok(codes) => Ok(OrderRow {
+            caller,
+            number: u64::from(key.number),
+            book: u64::from(order.book),
+            day: u64::from(order.day),
+            codes,
+        }),
+        Err(Memory) => Err(Memory),
     }
 }
 

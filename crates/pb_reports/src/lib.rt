@@ -7,6 +7,3 @@ mod report;
 
 pub use order_text::outcome_text;
 pub use report::report_text;
-
-#[cfg(test)]
-mod tests;
