@@ -13,14 +13,20 @@ pub fn verified_text(alloc: Global, book: &Book, certified: Certified) -> Result
     ensures { IfOk result (λ text. text ≡ verified_text book.now certified) }
 {
     let mut text = Text::new(alloc);
+    put_verified(&mut text, book, certified)?;
+    Ok(text.into_body())
+}
+
+fn put_verified(text: &mut Text, book: &Book, certified: Certified) -> Result<(), Memory>
+    ensures { OnOk result (text.new ≡ text.old ++ verified_text book.now certified) }
+{
     text.put(b"verified ")?;
     text.put(book.name().bytes())?;
     text.put(b" slices")?;
-    put_number(&mut text, u64::from(certified.slices))?;
+    put_number(text, u64::from(certified.slices))?;
     text.put(b" steps")?;
-    put_number(&mut text, certified.steps)?;
-    text.put(b"\n")?;
-    Ok(text.into_body())
+    put_number(text, certified.steps)?;
+    text.put(b"\n")
 }
 
 /// `certificate fault LINE KIND`, and behind it what the kind has to add.
@@ -28,12 +34,18 @@ pub fn cert_fault_text(alloc: Global, fault: &CertFault) -> Result<Body, Memory>
     ensures { IfOk result (λ text. text ≡ cert_fault_text fault.now) }
 {
     let mut text = Text::new(alloc);
-    text.put(b"certificate fault")?;
-    put_number(&mut text, fault.line)?;
-    put_number(&mut text, cert_number(&fault.kind))?;
-    put_cert_detail(&mut text, &fault.kind)?;
-    text.put(b"\n")?;
+    put_cert_fault(&mut text, fault)?;
     Ok(text.into_body())
+}
+
+fn put_cert_fault(text: &mut Text, fault: &CertFault) -> Result<(), Memory>
+    ensures { OnOk result (text.new ≡ text.old ++ cert_fault_text fault.now) }
+{
+    text.put(b"certificate fault")?;
+    put_number(text, fault.line)?;
+    put_number(text, cert_number(&fault.kind))?;
+    put_cert_detail(text, &fault.kind)?;
+    text.put(b"\n")
 }
 
 fn cert_number(kind: &CertKind) -> u64

@@ -1,5 +1,5 @@
 //! The release of a generated book, and what its orders come to.
-ghost use Rattle.std.specs.Prelude.{◌≡◌, ◌≤◌, ◌++◌, IfOk, OnOk, None, Ok};
+ghost use Rattle.std.specs.Prelude.{◌≡◌, ◌≤◌, ◌++◌, IfOk, OnOk, None, Ok, codes};
 ghost use Rattle.book_sample.specs.Law.{MaySample};
 ghost use Rattle.book_sample.specs.Lines.{sample_text};
 ghost use Rattle.book_text.specs.BookText.{book_of};
@@ -58,11 +58,23 @@ fn released_text(
     ensures { IfOk result (λ text. text ≡ released_text size.now book.now) }
 {
     let mut text = Text::new(alloc);
-    put_size(&mut text, size)?;
-    put_counts(&mut text, book)?;
-    text.put(b"released\n")?;
-    put_tally(&mut text, tally)?;
+    put_released(&mut text, size, book, tally)?;
     Ok(text.into_body())
+}
+
+fn put_released(
+    text: &mut Text,
+    size: &SampleSize,
+    book: &Book,
+    tally: Tally,
+) -> Result<(), Memory>
+    requires { tally ≡ tally_of book.now size.now }
+    ensures { OnOk result (text.new ≡ text.old ++ released_text size.now book.now) }
+{
+    put_size(text, size)?;
+    put_counts(text, book)?;
+    text.put(b"released\n")?;
+    put_tally(text, tally)
 }
 
 // A generated book is one within all limits that can be released, so that only a question that was left keeps it back.
@@ -101,12 +113,26 @@ fn undecided_text(
 ) -> Result<Body, Memory>
     ensures { IfOk result (λ text. text ≡ undecided_text size.now book.now report.now) }
 {
+    let told = report_text(alloc, book, report)?;
     let mut text = Text::new(alloc);
-    put_size(&mut text, size)?;
-    put_counts(&mut text, book)?;
-    text.put(b"undecided\n")?;
-    text.put(report_text(alloc, book, report)?.as_slice())?;
+    put_undecided(&mut text, size, book, told.as_slice())?;
     Ok(text.into_body())
+}
+
+// The report is told behind the sizes.
+fn put_undecided(
+    text: &mut Text,
+    size: &SampleSize,
+    book: &Book,
+    told: &[u8],
+) -> Result<(), Memory>
+    ensures { let behind = counts_text book.now ++ (codes "undecided\n" ++ told.now) in
+        OnOk result (text.new ≡ text.old ++ (size_text size.now ++ behind)) }
+{
+    put_size(text, size)?;
+    put_counts(text, book)?;
+    text.put(b"undecided\n")?;
+    text.put(told)
 }
 
 // `sample START CODES ORDERS`.

@@ -45,30 +45,30 @@ pub fn run_store<S: Source, K: Sink, P: Keeper, G: Gate>(
 {
     let ended = run_desk(alloc, store.as_str(), source, sink, keeper, gate);
     RunEnd {
-        status: tell_end(alloc, ended.how, sink, log),
+        status: tell_end(alloc, &ended.how, sink, log),
         keeper: ended.keeper,
     }
 }
 
 // Tells how a desk's run ended, and gives the status. Where the session ended without a fault of its link nothing is told.
-fn tell_end<K: Sink>(alloc: Global, how: DeskEnd, sink: &mut K, log: &mut RunLog) -> u8
+fn tell_end<K: Sink>(alloc: Global, how: &DeskEnd, sink: &mut K, log: &mut RunLog) -> u8
     ensures { let before = outputs (K.output sink.old) log.old in
         let after = outputs (K.output sink.new) log.new in
-        EndsDesk how before after result }
+        EndsDesk how.now before after result }
 {
     match how {
-        DeskEnd::Served(end) => tell_session(alloc, end, sink, log),
+        DeskEnd::Served(end) => tell_session(alloc, *end, sink, log),
         DeskEnd::NotStarted(why) => tell_start(alloc, why, sink, log),
     }
 }
 
-fn tell_start<K: Sink>(alloc: Global, why: Fail<StartFault>, sink: &mut K, log: &mut RunLog) -> u8
+fn tell_start<K: Sink>(alloc: Global, why: &Fail<StartFault>, sink: &mut K, log: &mut RunLog) -> u8
     ensures { let before = outputs (K.output sink.old) log.old in
         let after = outputs (K.output sink.new) log.new in
-        EndsStart why before after result }
+        EndsStart why.now before after result }
 {
     match why {
-        Fail::Refused(fault) => tell_made(start_reply(alloc, fault), sink, log),
+        Fail::Refused(fault) => tell_made(start_reply(alloc, *fault), sink, log),
         Fail::Memory => tell_want_of_memory(sink, log),
     }
 }
