@@ -62,12 +62,7 @@ fn released_text(
     Ok(text.into_body())
 }
 
-fn put_released(
-    text: &mut Text,
-    size: &SampleSize,
-    book: &Book,
-    tally: Tally,
-) -> Result<(), Memory>
+fn put_released(text: &mut Text, size: &SampleSize, book: &Book, tally: Tally) -> Result<(), Memory>
     requires { tally ≡ tally_of book.now size.now }
     ensures { OnOk result (text.new ≡ text.old ++ released_text size.now book.now) }
 {
@@ -120,12 +115,7 @@ fn undecided_text(
 }
 
 // The report is told behind the sizes.
-fn put_undecided(
-    text: &mut Text,
-    size: &SampleSize,
-    book: &Book,
-    told: &[u8],
-) -> Result<(), Memory>
+fn put_undecided(text: &mut Text, size: &SampleSize, book: &Book, told: &[u8]) -> Result<(), Memory>
     ensures { let behind = counts_text book.now ++ (codes "undecided\n" ++ told.now) in
         OnOk result (text.new ≡ text.old ++ (size_text size.now ++ behind)) }
 {

@@ -12,8 +12,10 @@ use crate::desk::run_store;
 use crate::run_end::RunEnd;
 use crate::task::Task;
 use crate::words::task_in;
-use book_commands::{BookCommand, RunLog, SampleSize};
-use book_commands::{due_reply, sample_reply, tell_made, tell_usage, tell_want_of_memory};
+use book_commands::{
+    BookCommand, RunLog, SampleSize, due_reply, sample_reply, tell_made, tell_usage,
+    tell_want_of_memory,
+};
 use keeper::Keeper;
 use pb_base::Memory;
 use pb_gate::Gate;
