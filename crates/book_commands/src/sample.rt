@@ -9,7 +9,7 @@ ghost use Rattle.release.specs.Judged.{as_outcome};
 ghost use Rattle.release.specs.NotReleased.{IsRefusal};
 ghost use Rattle.book_commands.specs.Logged.{slices_told};
 ghost use Rattle.book_commands.specs.Sample.{RepliesToSample, undecided_reply};
-ghost use Rattle.book_commands.specs.Sample.{answer_to, counts_text, size_text, tally_of, released_text, undecided_text};
+ghost use Rattle.book_commands.specs.Sample.{answer_to, counts_text, size_text, tally_of, tally_text, released_text, undecided_text};
 ghost use Rattle.pb_base.specs.declared.limits.TheConstants.{DEFAULT_BUDGET};
 
 use crate::logged::logged;
@@ -63,8 +63,8 @@ fn released_text(
 }
 
 fn put_released(text: &mut Text, size: &SampleSize, book: &Book, tally: Tally) -> Result<(), Memory>
-    requires { tally ≡ tally_of book.now size.now }
-    ensures { OnOk result (text.new ≡ text.old ++ released_text size.now book.now) }
+    ensures { let behind = counts_text book.now ++ (codes "released\n" ++ tally_text tally) in
+        OnOk result (text.new ≡ text.old ++ (size_text size.now ++ behind)) }
 {
     put_size(text, size)?;
     put_counts(text, book)?;
