@@ -9,7 +9,7 @@ ghost use Rattle.release.specs.Judged.{as_outcome};
 ghost use Rattle.release.specs.NotReleased.{IsRefusal};
 ghost use Rattle.book_commands.specs.Logged.{slices_told};
 ghost use Rattle.book_commands.specs.Sample.{RepliesToSample, undecided_reply};
-ghost use Rattle.book_commands.specs.Sample.{answer_to, counts_text, size_text, tally_of, tally_text, released_text, undecided_text};
+ghost use Rattle.book_commands.specs.Sample.{answer_to, counts_text, size_text, tally_of, released_text, undecided_text};
 ghost use Rattle.pb_base.specs.declared.limits.TheConstants.{DEFAULT_BUDGET};
 
 use crate::logged::logged;
@@ -58,18 +58,11 @@ fn released_text(
     ensures { IfOk result (λ text. text ≡ released_text size.now book.now) }
 {
     let mut text = Text::new(alloc);
-    put_released(&mut text, size, book, tally)?;
-    Ok(text.into_body())
-}
-
-fn put_released(text: &mut Text, size: &SampleSize, book: &Book, tally: Tally) -> Result<(), Memory>
-    ensures { let behind = counts_text book.now ++ (codes "released\n" ++ tally_text tally) in
-        OnOk result (text.new ≡ text.old ++ (size_text size.now ++ behind)) }
-{
-    put_size(text, size)?;
-    put_counts(text, book)?;
+    put_size(&mut text, size)?;
+    put_counts(&mut text, book)?;
     text.put(b"released\n")?;
-    put_tally(text, tally)
+    put_tally(&mut text, tally)?;
+    Ok(text.into_body())
 }
 
 // A generated book is one within all limits that can be released, so that only a question that was left keeps it back.
