@@ -2,37 +2,28 @@
 use Rattle.std.proofs.Common.{◌≡◌, ◌∙◌, ℕ, List, refl, sym, subst, ap, inl, inr}
 use Rattle.std.specs.Prelude.{◌⊎◌}
 use Rattle.pb_outside.specs.Faults.{Rose}
-use Rattle.pb_outside.specs.Files.{FilesTold}
 use Rattle.command_words.specs.Parts.{Words}
-use Rattle.commands.specs.Size.{Size}
-use Rattle.commands.specs.Words.{Asks, AsksNothing}
 use Rattle.pb_base.specs.declared.answer.Fail.TheVariants.{Refused as RefusedStart, Memory as NoMemory}
 use Rattle.pb_outside.specs.Sink.{SinkTold}
 use Rattle.session.specs.declared.end.SessionEnd.TheVariants.{Done, Broken, ReadFault, WriteFault, Memory}
 use Rattle.desk_run.specs.declared.end.DeskEnd.{DeskEnd}
 use Rattle.desk_run.specs.declared.end.DeskEnd.TheVariants.{NotStarted, Served}
-use Rattle.commands.specs.Outside.{Outside, outputs}
+use Rattle.book_commands.specs.Due.{Due, answer, source_fault, file_fault, no_memory}
+use Rattle.book_commands.specs.RunReply.{RunReply, usage_reply, memory_reply, read_fault_reply}
+use Rattle.book_commands.specs.Size.{Size}
+use Rattle.book_commands.specs.Tells.{IsTold, outputs}
+use Rattle.book_commands.specs.declared.command.BookCommand.{BookCommand}
+use Rattle.book_commands.proofs.DueLaws.{file_rose}
+use Rattle.book_commands.proofs.Statuses.{IsReplyStatus, IsSampleStatus, replies-kind, sample-kind}
+use Rattle.book_commands.proofs.Told.{Ends, IsFailed, Ends-of_tells}
 use Rattle.commands.specs.DeskEnds.{RunsDesk, start_reply}
-use Rattle.commands.specs.RunReply.{RunReply, usage_reply, memory_reply, read_fault_reply}
-use Rattle.commands.specs.Replies.{FailsAtFile}
-use Rattle.commands.specs.Tells.{IsTold}
-use Rattle.commands.specs.Run.{Due, answer, source_fault, file_fault, no_memory, AnswersBook, AnswersSample, AnswersUsage, DoesTask, Does, IsDeskStatus, IsCaused, by_words, by_inputs, by_sink, by_memory, by_reply, by_sample, by_desk}
-use Rattle.commands.specs.declared.command.BookCommand.{BookCommand}
-use Rattle.commands.specs.declared.command.BookCommand.TheVariants.{Order, Check, Prove, Verify}
-use Rattle.commands.specs.declared.command.Task.{Task}
-use Rattle.commands.specs.declared.command.Task.TheVariants.{Book, Desk, Sample}
-use Rattle.commands.proofs.Statuses.{IsReplyStatus, IsSampleStatus, replies-kind, sample-kind}
-use Rattle.commands.proofs.Tasks.{asked_or_nothing}
-use Rattle.commands.proofs.Told.{Ends, IsFailed, Ends-of_tells}
+use Rattle.commands.specs.Outside.{Outside}
+use Rattle.commands.specs.Run.{AnswersBook, AnswersSample, AnswersUsage, DoesTask, Does, IsDeskStatus, IsCaused, by_words, by_inputs, by_sink, by_memory, by_reply, by_sample, by_desk}
+use Rattle.commands.specs.Words.{Asks, AsksNothing}
+use Rattle.commands.specs.declared.task.Task.{Task}
+use Rattle.commands.specs.declared.task.Task.TheVariants.{Book, Desk, Sample}
 use Rattle.commands.proofs.DeskTold.{Ran, ToldFrom, same_count, start_status}
-
--- files that failed
-pub file_rose : (command : BookCommand) (input : List ℕ) (files files' : FilesTold) → FailsAtFile command input files files' → Rose files.faults.count files'.faults.count
-unfolding FailsAtFile
-file_rose (Order day ordered) input files files' h = absurd h
-file_rose (Check budget) input files files' h = absurd h
-file_rose (Prove budget) input files files' h = absurd h
-file_rose (Verify file) input files files' h = h.fault.rose
+use Rattle.commands.proofs.Tasks.{asked_or_nothing}
 
 -- a command that was answered
 by_told : (words : Words) (command : BookCommand) (before after : Outside) (status : ℕ) (reply : RunReply) → Asks words (Book command)

@@ -14,12 +14,13 @@ use Rattle.session.specs.declared.end.SessionEnd.TheVariants.{Done, Broken, Read
 use Rattle.desk_run.specs.DeskRun.{DeskOutside, IsDeskRun, IsNotStarted}
 use Rattle.desk_run.specs.declared.end.DeskEnd.{DeskEnd}
 use Rattle.desk_run.specs.declared.end.DeskEnd.TheVariants.{NotStarted, Served}
-use Rattle.commands.specs.Outside.{Inputs, Outputs, Outside, inputs, outputs}
-use Rattle.commands.specs.RunReply.{RunReply, memory_reply, read_fault_reply}
-use Rattle.commands.specs.Tells.{IsWritten, Tells}
+use Rattle.book_commands.specs.Inputs.{Inputs, inputs}
+use Rattle.book_commands.specs.RunReply.{RunReply, memory_reply, read_fault_reply}
+use Rattle.book_commands.specs.Tells.{Outputs, outputs, IsWritten, Tells}
+use Rattle.book_commands.specs.declared.log.Note.{Note}
+use Rattle.book_commands.proofs.Told.{Ends-of_tells}
 use Rattle.commands.specs.DeskEnds.{EndsDesk, desk_outside, start_reply}
-use Rattle.commands.specs.declared.log.Note.{Note}
-use Rattle.commands.proofs.Told.{Ends-of_tells}
+use Rattle.commands.specs.Outside.{Outside}
 
 -- a run of a desk that left the sink in the middle
 abbrev pub Ran : DeskEnd → Outside → Outside → SinkTold → Type 0

@@ -1,13 +1,7 @@
 pub mod Ranges
 pub mod Tasks
-pub mod SlicesTold
-pub mod Statuses
-pub mod Told
 pub mod DeskTold
 pub mod Asked
 pub mod Caused
 pub mod Releasable
 pub mod Sure
-pub mod NeverBlocked
-pub mod SampleLaws
-pub mod ReportLaws

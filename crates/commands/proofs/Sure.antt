@@ -1,42 +1,34 @@
 -- Valid words and inputs have their answer where nothing fails, memory allowing.
 use Rattle.std.proofs.Common.{◌≡◌, ◌≤◌, ◌∙◌, ℕ, List, true, false, length, sym, subst, ap, inl, inr, take, arith}
-use Rattle.std.specs.Prelude.{◌⊎◌, Option, None, Some, Result, Ok, Err, IsOk, IfOk, IfSome, IsSomeAnd}
-use Rattle.book_model.specs.Contents.{Contents}
-use Rattle.book_text.specs.BookText.{book_of}
-use Rattle.book_text.specs.declared.fault.BookFault.{BookFault}
-use Rattle.pb_outside.specs.Source.{ReadsUpTo}
-use Rattle.pb_outside.specs.Files.{NamedBytes, FilesTold, content_of}
+use Rattle.std.specs.Prelude.{◌⊎◌, Option, None, Some, IsSomeAnd}
 use Rattle.command_words.specs.Parts.{Words}
 use Rattle.pb_base.specs.declared.answer.Fail.TheVariants.{Memory as NoMemory}
 use Rattle.pb_outside.specs.Faults.{Rose}
+use Rattle.pb_outside.specs.Files.{FilesTold}
 use Rattle.pb_outside.specs.Sink.{SinkTold}
 use Rattle.session.specs.declared.end.SessionEnd.TheVariants.{Done, Memory}
 use Rattle.desk_run.specs.Sure.{IsDoneOrMemory}
 use Rattle.desk_run.proofs.Sure.{run_sure, run_unfailing}
 use Rattle.desk_run.specs.declared.end.DeskEnd.{DeskEnd}
 use Rattle.desk_run.specs.declared.end.DeskEnd.TheVariants.{NotStarted, Served}
+use Rattle.book_commands.specs.Due.{Due, answer, source_fault, file_fault, no_memory}
+use Rattle.book_commands.specs.Inputs.{input_limit}
+use Rattle.book_commands.specs.Replies.{IsValidCommand, RepliesTo}
+use Rattle.book_commands.specs.RunReply.{RunReply, memory_reply, memory_text}
+use Rattle.book_commands.specs.Sample.{RepliesToSample}
+use Rattle.book_commands.specs.Size.{Size}
+use Rattle.book_commands.specs.Tells.{IsTold, IsWritten, outputs}
+use Rattle.book_commands.specs.declared.command.BookCommand.{BookCommand}
+use Rattle.book_commands.proofs.DueLaws.{file_rose}
+use Rattle.book_commands.proofs.Statuses.{IsAnswered, sample-answered}
+use Rattle.book_commands.proofs.Told.{Ends-of_tells, written_whole, told_whole}
+use Rattle.book_commands.proofs.Valid.{same_input, valid_answer, no_file_fault}
 use Rattle.commands.specs.DeskEnds.{RunsDesk, desk_outside}
-use Rattle.commands.specs.Outside.{Outside, input_limit, outputs}
-use Rattle.commands.specs.RunReply.{RunReply, memory_reply, memory_text}
-use Rattle.commands.specs.Sample.{RepliesToSample}
-use Rattle.commands.specs.Size.{Size}
-use Rattle.commands.specs.Replies.{IsCertificate, HasCertificate, IsValidCommand, RepliesTo, FailsAtFile}
-use Rattle.commands.specs.Tells.{IsTold, IsWritten}
-use Rattle.commands.specs.Run.{Due, answer, source_fault, file_fault, no_memory, AnswersBook, AnswersSample, DoesTask, Does, FitsReplies, FitsSample, IsValidTask, IsValid, IsServed, IsUnfailing, IsSureRead, IsSureDesk, IsSureTask, IsSure, IsValidDesk}
-use Rattle.commands.specs.declared.command.BookCommand.{BookCommand}
-use Rattle.commands.specs.declared.command.BookCommand.TheVariants.{Order, Check, Prove, Verify}
-use Rattle.commands.specs.declared.command.Task.{Task}
-use Rattle.commands.specs.declared.command.Task.TheVariants.{Book, Desk, Sample}
-use Rattle.commands.proofs.Statuses.{IsAnswered, valid-answered, sample-answered}
-use Rattle.commands.proofs.Told.{Ends-of_tells, written_whole, told_whole}
+use Rattle.commands.specs.Outside.{Outside}
+use Rattle.commands.specs.Run.{AnswersBook, AnswersSample, DoesTask, Does, FitsReplies, FitsSample, IsValidTask, IsValid, IsServed, IsUnfailing, IsSureRead, IsSureDesk, IsSureTask, IsSure, IsValidDesk}
+use Rattle.commands.specs.declared.task.Task.{Task}
+use Rattle.commands.specs.declared.task.Task.TheVariants.{Book, Desk, Sample}
 use Rattle.commands.proofs.DeskTold.{Ran, ToldFrom, same_sink, desk_rose}
-use Rattle.commands.proofs.Caused.{file_rose}
-
--- the input that was read is the one that was given
-same_input : (left left' : Option (List ℕ)) (input read : List ℕ) → IsSomeAnd left (λ all. input ≡ take input_limit all)
-    → ReadsUpTo input_limit left left' read → input ≡ read
-same_input None left' input read given h = absurd given
-same_input (Some all) left' input read given h = given ∙ sym h.0
 
 -- a reply that was told to a valid command
 told_answer : (reply : RunReply) (before after : Outside) (status : ℕ) → IsAnswered reply
@@ -45,35 +37,6 @@ told_answer reply before after status h told = elim h [
   | inl done ↦ inl (subst (λ (s : ℕ). s ≤ 1) (sym told.ends) done)
   | inr left ↦ inr (inl (record { ends = told.ends ∙ left.ends; notes = reply.notes; noted = told.notes; spent = left.spent }))
 ]
-
-valid_answer : (command : BookCommand) (input read : List ℕ) (files files' : FilesTold) (reply : RunReply) → input ≡ read
-    → IsValidCommand command input files.files → RepliesTo command read files files' reply → IsAnswered reply
-valid_answer command input read files files' reply e valid h =
-    valid-answered command read files files' reply (subst (λ (i : List ℕ). IsValidCommand command i files.files) e valid) h
-
--- a file with a certificate is there
-has_file : (found : Option (List ℕ)) (b : Contents) → IsSomeAnd found (IsCertificate b) → found ≡ None → ⊥
-has_file None b has none = has
-has_file (Some text) b has none = cc
-
-has_named : (files : Option (List NamedBytes)) (b : Contents) (file : List ℕ) → HasCertificate b files file
-    → IfSome files (λ all. content_of all file ≡ None) → ⊥
-has_named None b file has none = has
-has_named (Some all) b file has none = has_file (content_of all file) b has none
-
-has_certificate : (book : Result Contents BookFault) (files : Option (List NamedBytes)) (file : List ℕ) → IsOk book
-    → IfOk book (λ b. HasCertificate b files file) → IfSome files (λ all. content_of all file ≡ None) → ⊥
-has_certificate (Ok b) files file ok has none = has_named files b file has none
-has_certificate (Err fault) files file ok has none = let clash : false ≡ true = ok in cc
-
--- files that say that no call on them fails give the file of a valid command
-no_file_fault : (command : BookCommand) (input read : List ℕ) (files files' : FilesTold) → input ≡ read
-    → IsValidCommand command input files.files → files.faults.faultless ≡ true → FailsAtFile command read files files' → ⊥
-unfolding FailsAtFile IsValidCommand
-no_file_fault (Order day ordered) input read files files' e valid sure h = absurd h
-no_file_fault (Check budget) input read files files' e valid sure h = absurd h
-no_file_fault (Prove budget) input read files files' e valid sure h = absurd h
-no_file_fault (Verify file) input read files files' e valid sure h = has_certificate (book_of input) files.files file valid.book valid.certificate (h.fault.possible sure)
 
 -- nothing fails from here on
 sure : (command : BookCommand) (input : List ℕ) (before after : Outside) (status : ℕ) (reply : RunReply)

@@ -9,9 +9,9 @@ use Rattle.command_words.specs.declared.command.Command.{Command}
 use Rattle.command_words.specs.declared.command.Command.TheVariants as commands
 use Rattle.command_words.proofs.Meanings.{prepared_form, one_meaning, unprepared, unread}
 use Rattle.commands.specs.Words.{form_of, Asks, AsksNothing, Means, IsTaskOf}
-use Rattle.commands.specs.declared.command.BookCommand.TheVariants.{Order, Check, Prove, Verify}
-use Rattle.commands.specs.declared.command.Task.{Task}
-use Rattle.commands.specs.declared.command.Task.TheVariants.{Book, Desk, Sample}
+use Rattle.book_commands.specs.declared.command.BookCommand.TheVariants.{Order, Check, Prove, Verify}
+use Rattle.commands.specs.declared.task.Task.{Task}
+use Rattle.commands.specs.declared.task.Task.TheVariants.{Book, Desk, Sample}
 
 -- the task of a command, if the program has it
 abbrev task_of : Command → Option Task

@@ -2,7 +2,7 @@
 --     desk_outside o sink                    what the desk sees of the outside, where the sink stands so
 --     EndsDesk how before after status       how a desk's run that ended so is told, and its status
 --     RunsDesk before after status           a desk was run over the source and the sink, and its end was told
-use Rattle.std.specs.Prelude.{◌≡◌, ◌⊎◌, ℕ, List, [], ◌∷◌, ◌++◌}
+use Rattle.std.specs.Prelude.{◌≡◌, ℕ}
 use Rattle.pb_base.specs.declared.answer.Fail.{Fail}
 use Rattle.pb_base.specs.declared.answer.Fail.TheVariants.{Refused, Memory as NoMemory}
 use Rattle.pb_outside.specs.Sink.{SinkTold}
@@ -15,11 +15,9 @@ use Rattle.desk_run.specs.DeskRun.{DeskOutside, IsDeskRun}
 use Rattle.desk_run.specs.DeskRun as desks
 use Rattle.desk_run.specs.declared.end.DeskEnd.{DeskEnd}
 use Rattle.desk_run.specs.declared.end.DeskEnd.TheVariants.{NotStarted, Served}
-use Rattle.commands.specs.Outside.{Outputs, Outside, outputs}
-use Rattle.commands.specs.RunReply.{RunReply, memory_reply, read_fault_reply, store_fault_reply, bad_row_reply}
-use Rattle.commands.specs.Tells.{IsWritten, Tells}
-use Rattle.commands.specs.declared.log.Note.{Note}
-use Rattle.commands.specs.declared.log.Note.TheVariants.{Count}
+use Rattle.book_commands.specs.RunReply.{RunReply, memory_reply, read_fault_reply, store_fault_reply, bad_row_reply}
+use Rattle.book_commands.specs.Tells.{Outputs, outputs, IsWritten, Tells, NotesSink}
+use Rattle.commands.specs.Outside.{Outside}
 
 abbrev pub desk_outside : Outside → SinkTold → DeskOutside
 desk_outside o sink = desks.outside (told o.reads.source sink) o.keeper.rows o.keeper.faults
@@ -28,11 +26,6 @@ desk_outside o sink = desks.outside (told o.reads.source sink) o.keeper.rows o.k
 pub record EndsSilently (due : ℕ) (before after : Outputs) (status : ℕ) : Type 0 where
   pub untouched : after ≡ before
   pub ends : status ≡ due
-
--- a fault of the sink is noted with its counts, or there is no memory for the note
-abbrev pub NotesSink : ℕ → ℕ → List Note → List Note → ℕ → Type 0
-NotesSink first last log log' status =
-    ((log' ≡ log ++ Count 3 first last ∷ []) × (status ≡ 5)) ⊎ ((log' ≡ log) × (status ≡ 9))
 
 -- the sink failed in the session, so nothing more is written
 pub record EndsUnwritten (first last : ℕ) (before after : Outputs) (status : ℕ) : Type 0 where

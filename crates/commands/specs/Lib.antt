@@ -1,12 +1,4 @@
-pub mod Size
 pub mod Words
-pub mod CertText
 pub mod Outside
-pub mod Logged
-pub mod RunReply
-pub mod Checks
-pub mod Replies
-pub mod Sample
-pub mod Tells
 pub mod DeskEnds
 pub mod Run

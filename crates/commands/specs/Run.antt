@@ -1,10 +1,9 @@
 -- What a run does.
-use Rattle.std.specs.Prelude.{◌≡◌, ◌⊎◌, ℕ, ◌≤◌, Bool, true, false, List, ◌++◌, Option, IfSome, IsSomeAnd, IsOkAnd, IsTrue, All, length, take}
+use Rattle.std.specs.Prelude.{◌≡◌, ◌⊎◌, ℕ, ◌≤◌, true, List, ◌++◌, Option, IfSome, IsSomeAnd, IsOkAnd, IsTrue, All, length, take}
 use Rattle.std.specs.List.{list_any}
 use Rattle.book_model.specs.Sound.{IsReleasable}
 use Rattle.book_text.specs.BookText.{book_of}
 use Rattle.pb_outside.specs.Faults.{Rose, Fails, IsLater}
-use Rattle.pb_outside.specs.Source.{LosesFront}
 use Rattle.pb_outside.specs.Files.{FilesTold}
 use Rattle.command_words.specs.Parts.{Words}
 use Rattle.desk_run.specs.Released.{IsReleasedRow}
@@ -14,36 +13,21 @@ use Rattle.desk_run.specs.declared.end.DeskEnd.{DeskEnd}
 use Rattle.desk_run.specs.declared.end.DeskEnd.TheVariants.{NotStarted, Served}
 use Rattle.pb_base.specs.declared.answer.Fail.TheVariants.{Refused as RefusedStart}
 use Rattle.session.specs.declared.end.SessionEnd.TheVariants.{Done, Broken}
-use Rattle.commands.specs.Words.{Asks, AsksNothing}
-use Rattle.commands.specs.Outside.{Inputs, Outputs, Outside, input_limit, ReadsInput, FailsAtInput}
-use Rattle.commands.specs.RunReply.{RunReply, usage_reply, memory_reply, memory_text, read_fault_reply}
-use Rattle.commands.specs.Logged.{is_spent}
-use Rattle.commands.specs.Sample.{RepliesToSample}
-use Rattle.commands.specs.Size.{Size}
-use Rattle.commands.specs.Replies.{RepliesTo, FailsAtFile, KeepsFiles, IsValidCommand}
-use Rattle.commands.specs.Tells.{IsTold, Tells}
+use Rattle.book_commands.specs.Due.{Due}
+use Rattle.book_commands.specs.Inputs.{Inputs, input_limit, ReadsInput}
+use Rattle.book_commands.specs.Logged.{is_spent}
+use Rattle.book_commands.specs.Replies.{RepliesTo, KeepsFiles, IsValidCommand, asks_release}
+use Rattle.book_commands.specs.RunReply.{RunReply, usage_reply, memory_reply, memory_text}
+use Rattle.book_commands.specs.Sample.{RepliesToSample}
+use Rattle.book_commands.specs.Size.{Size}
+use Rattle.book_commands.specs.Tells.{Outputs, IsTold, Tells}
+use Rattle.book_commands.specs.declared.command.BookCommand.{BookCommand}
+use Rattle.book_commands.specs.declared.log.Note.{Note}
 use Rattle.commands.specs.DeskEnds.{RunsDesk, desk_outside}
-use Rattle.commands.specs.declared.log.Note.{Note}
-use Rattle.commands.specs.declared.command.BookCommand.{BookCommand}
-use Rattle.commands.specs.declared.command.BookCommand.TheVariants.{Order, Check, Prove, Verify}
-use Rattle.commands.specs.declared.command.Task.{Task}
-use Rattle.commands.specs.declared.command.Task.TheVariants.{Book, Desk, Sample}
-
--- the reply that is due to a command: to what it read, or to a fault of what it reads from; want of memory is free
-pub data Due (command : BookCommand) (before after : Inputs) (reply : RunReply) : Type 0 where
-  answer : (input : List ℕ) → ReadsInput before.source after.source input
-      → RepliesTo command input before.files after.files reply
-      → Due command before after reply
-  source_fault : FailsAtInput before.source after.source → after.files ≡ before.files
-      → reply ≡ read_fault_reply 1 before.source.faults.count after.source.faults.count
-      → Due command before after reply
-  file_fault : (input : List ℕ) → ReadsInput before.source after.source input
-      → FailsAtFile command input before.files after.files
-      → reply ≡ read_fault_reply 2 before.files.faults.count after.files.faults.count
-      → Due command before after reply
-  no_memory : LosesFront input_limit before.source.left after.source.left
-      → reply ≡ memory_reply
-      → Due command before after reply
+use Rattle.commands.specs.Outside.{Outside}
+use Rattle.commands.specs.Words.{Asks, AsksNothing}
+use Rattle.commands.specs.declared.task.Task.{Task}
+use Rattle.commands.specs.declared.task.Task.TheVariants.{Book, Desk, Sample}
 
 -- a command was answered: its reply is due, and was told; the keeper was not touched
 pub record AnswersBook (command : BookCommand) (before after : Outside) (status : ℕ) : Type 0 where
@@ -137,13 +121,6 @@ pub data IsCaused (words : Words) (before after : Outside) (status : ℕ) : Type
   by_reply : GivesReply words before after status → IsCaused words before after status
   by_sample : GivesSample words before after status → IsCaused words before after status
   by_desk : GivesDesk words before after status → IsCaused words before after status
-
--- the command asks whether the book can be released
-abbrev pub asks_release : BookCommand → Bool
-asks_release (Order day ordered) = false
-asks_release (Check budget) = true
-asks_release (Prove budget) = true
-asks_release (Verify file) = true
 
 -- the words ask whether the book can be released
 pub record AskRelease (words : Words) : Type 0 where

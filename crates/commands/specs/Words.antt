@@ -13,9 +13,9 @@ use Rattle.command_words.specs.Parts.{Words}
 use Rattle.command_words.specs.declared.command.Command.{Command}
 use Rattle.command_words.specs.declared.command.Command.TheVariants as commands
 use Rattle.pb_base.specs.declared.limits.TheConstants.{MOST_BUDGET}
-use Rattle.commands.specs.declared.command.BookCommand.TheVariants.{Order, Check, Prove, Verify}
-use Rattle.commands.specs.declared.command.Task.{Task}
-use Rattle.commands.specs.declared.command.Task.TheVariants.{Book, Desk, Sample}
+use Rattle.book_commands.specs.declared.command.BookCommand.TheVariants.{Order, Check, Prove, Verify}
+use Rattle.commands.specs.declared.task.Task.{Task}
+use Rattle.commands.specs.declared.task.Task.TheVariants.{Book, Desk, Sample}
 
 -- the command that has the task
 abbrev pub form_of : Task → Command

@@ -1,34 +1,27 @@
 //! The run of a desk over the source and the sink of a run.
 ghost use Rattle.std.specs.Prelude.{◌≡◌, IfOk};
 ghost use Rattle.pb_outside.specs.Files.{FilesTold};
+ghost use Rattle.book_commands.specs.Tells.{outputs};
 ghost use Rattle.commands.specs.DeskEnds.{EndsDesk, EndsSession, EndsStart, RunsDesk, start_reply};
-ghost use Rattle.commands.specs.Outside.{keeps, outputs, outside};
-ghost use Rattle.commands.specs.RunReply.{bad_row_reply, store_fault_reply};
+ghost use Rattle.commands.specs.Outside.{keeps, outside};
 
-use crate::log::{Note, RunLog};
 use crate::run_end::RunEnd;
-use crate::run_reply::RunReply;
-use crate::tell::{note_write_fault, tell_made, tell_want_of_memory};
+use book_commands::{RunLog, RunReply, note_write_fault, tell_made, tell_want_of_memory};
 use command_words::FileName;
 use desk_run::{DeskEnd, run_desk};
-use desk_words::put_number;
 use keeper::Keeper;
 use order_desk::StartFault;
-use pb_base::{Fail, Memory, Text};
+use pb_base::{Fail, Memory};
 use pb_gate::Gate;
 use pb_outside::{Sink, Source};
 use session::SessionEnd;
 use std::alloc::Global;
 
-// The numbers of the source and the keeper in the log.
+// The number of the source in the log.
 const SOURCE: u8 = 1;
-
-const KEEPER: u8 = 4;
 
 // How a session ends in which a message was refused or cut.
 const BROKEN: u8 = 3;
-
-const NOT_STARTED: u8 = 6;
 
 const WANT_OF_MEMORY: u8 = 9;
 
@@ -52,30 +45,30 @@ pub fn run_store<S: Source, K: Sink, P: Keeper, G: Gate>(
 {
     let ended = run_desk(alloc, store.as_str(), source, sink, keeper, gate);
     RunEnd {
-        status: tell_end(alloc, ended.how, sink, log),
+        status: tell_end(alloc, &ended.how, sink, log),
         keeper: ended.keeper,
     }
 }
 
 // Tells how a desk's run ended, and gives the status. Where the session ended without a fault of its link nothing is told.
-fn tell_end<K: Sink>(alloc: Global, how: DeskEnd, sink: &mut K, log: &mut RunLog) -> u8
+fn tell_end<K: Sink>(alloc: Global, how: &DeskEnd, sink: &mut K, log: &mut RunLog) -> u8
     ensures { let before = outputs (K.output sink.old) log.old in
         let after = outputs (K.output sink.new) log.new in
-        EndsDesk how before after result }
+        EndsDesk how.now before after result }
 {
     match how {
-        DeskEnd::Served(end) => tell_session(alloc, end, sink, log),
+        DeskEnd::Served(end) => tell_session(alloc, *end, sink, log),
         DeskEnd::NotStarted(why) => tell_start(alloc, why, sink, log),
     }
 }
 
-fn tell_start<K: Sink>(alloc: Global, why: Fail<StartFault>, sink: &mut K, log: &mut RunLog) -> u8
+fn tell_start<K: Sink>(alloc: Global, why: &Fail<StartFault>, sink: &mut K, log: &mut RunLog) -> u8
     ensures { let before = outputs (K.output sink.old) log.old in
         let after = outputs (K.output sink.new) log.new in
-        EndsStart why before after result }
+        EndsStart why.now before after result }
 {
     match why {
-        Fail::Refused(fault) => tell_made(start_reply(alloc, fault), sink, log),
+        Fail::Refused(fault) => tell_made(start_reply(alloc, *fault), sink, log),
         Fail::Memory => tell_want_of_memory(sink, log),
     }
 }
@@ -104,38 +97,7 @@ fn start_reply(alloc: Global, fault: StartFault) -> Result<RunReply, Memory>
     ensures { IfOk result (λ reply. reply ≡ start_reply fault) }
 {
     match fault {
-        StartFault::Store { before, after } => store_fault(alloc, before, after),
-        StartFault::BadRow { table, place } => bad_row(alloc, table, place),
+        StartFault::Store { before, after } => RunReply::store_fault(alloc, before, after),
+        StartFault::BadRow { table, place } => RunReply::bad_row(alloc, table, place),
     }
-}
-
-// The keeper failed while the desk was started, with its counts of faults.
-fn store_fault(alloc: Global, before: u64, after: u64) -> Result<RunReply, Memory>
-    ensures { IfOk result (λ reply. reply ≡ store_fault_reply before after) }
-{
-    let mut text = Text::new(alloc);
-    text.put(b"store fault\n")?;
-    let note = Note::Count {
-        which: KEEPER,
-        before,
-        after,
-    };
-    RunReply::noted(alloc, text.into_body(), NOT_STARTED, note)
-}
-
-// `bad row TABLE PLACE`.
-fn bad_row(alloc: Global, table: u32, place: u32) -> Result<RunReply, Memory>
-    ensures { IfOk result (λ reply. reply ≡ bad_row_reply table place) }
-{
-    let mut text = Text::new(alloc);
-    text.put(b"bad row")?;
-    put_number(&mut text, u64::from(table))?;
-    put_number(&mut text, u64::from(place))?;
-    text.put(b"\n")?;
-    RunReply::noted(
-        alloc,
-        text.into_body(),
-        NOT_STARTED,
-        Note::BadRow { table, place },
-    )
 }

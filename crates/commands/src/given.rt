@@ -2,15 +2,14 @@
 ghost use Rattle.std.specs.Prelude.{◌≡◌, ◌≢◌, IfOk, IfErr};
 ghost use Rattle.std.specs.IoError.{error_kind};
 ghost use Rattle.command_words.specs.Prepared.{texts_of};
-ghost use Rattle.commands.specs.Outside.{keeps, outputs, outside};
+ghost use Rattle.book_commands.specs.RunReply.{usage_reply, memory_reply};
+ghost use Rattle.book_commands.specs.Tells.{outputs, Tells};
+ghost use Rattle.commands.specs.Outside.{keeps, outside};
 ghost use Rattle.commands.specs.Run.{Does, AnswersUsage, AnswersMemory};
-ghost use Rattle.commands.specs.RunReply.{usage_reply, memory_reply};
-ghost use Rattle.commands.specs.Tells.{Tells};
 
-use crate::log::RunLog;
 use crate::run_end::RunEnd;
-use crate::tell::{tell_usage, tell_want_of_memory};
 use crate::top_call::run;
+use book_commands::{RunLog, tell_usage, tell_want_of_memory};
 use keeper::Keeper;
 use pb_gate::Gate;
 use pb_outside::{Files, Sink, Source};

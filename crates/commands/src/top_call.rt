@@ -1,21 +1,21 @@
 //! The top call: words, an input and files in, a text and a status out.
 ghost use Rattle.std.specs.Prelude.{◌≡◌, ◌⊎◌};
 ghost use Rattle.command_words.specs.Prepared.{texts_of};
-ghost use Rattle.commands.specs.Outside.{KeeperTold, keeps, outputs, outside};
+ghost use Rattle.book_commands.specs.Tells.{outputs};
+ghost use Rattle.commands.specs.Outside.{KeeperTold, keeps, outside};
 ghost use Rattle.commands.specs.Run.{AnswersBook, TellsSample, DoesTask, Does, IsCaused};
 ghost use Rattle.commands.specs.Run.{AskRelease, IsReleasableInput, AskDesk, KeepsReleased};
 ghost use Rattle.commands.specs.Run.{IsValid, IsSure, IsUnfailing, IsServed};
 ghost use Rattle.commands.specs.Words.{AsksNothing};
 
-use crate::command::{BookCommand, Task};
 use crate::desk::run_store;
-use crate::due::due_reply;
-use crate::log::RunLog;
 use crate::run_end::RunEnd;
-use crate::sample::sample_reply;
-use crate::sample_size::SampleSize;
-use crate::tell::{tell_made, tell_usage, tell_want_of_memory};
+use crate::task::Task;
 use crate::words::task_in;
+use book_commands::{
+    BookCommand, RunLog, SampleSize, due_reply, sample_reply, tell_made, tell_usage,
+    tell_want_of_memory,
+};
 use keeper::Keeper;
 use pb_base::Memory;
 use pb_gate::Gate;

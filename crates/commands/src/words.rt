@@ -3,9 +3,8 @@ ghost use Rattle.std.specs.Prelude.{IfOk};
 ghost use Rattle.command_words.specs.Prepared.{texts_of};
 ghost use Rattle.commands.specs.Words.{InRange, IsTaskOf, Means};
 
-use crate::budget::Budget;
-use crate::command::{BookCommand, Task};
-use crate::sample_size::SampleSize;
+use crate::task::Task;
+use book_commands::{BookCommand, Budget, SampleSize};
 use command_words::{Command, Usage, command_of};
 use pb_base::{Fail, Memory};
 use std::alloc::Global;

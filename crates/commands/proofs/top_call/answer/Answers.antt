@@ -1,5 +1,5 @@
 use Rattle.std.proofs.Common.{refl}
-use Rattle.commands.specs.RunReply.{due_of}
+use Rattle.book_commands.specs.RunReply.{due_of}
 use Rattle.commands.proofs.top_call.answer.Goals as goal
 
 pub returns : goal.returns

@@ -1,0 +1,9 @@
+pub mod SlicesTold
+pub mod Statuses
+pub mod Told
+pub mod DueLaws
+pub mod Releasable
+pub mod Valid
+pub mod NeverBlocked
+pub mod SampleLaws
+pub mod ReportLaws

@@ -1,0 +1,64 @@
+-- What the check of a whole book is answered.
+--     RepliesToCheck book budget reply    the report on all questions
+--     RepliesToProof book budget reply    a certificate, or the report on what keeps the book from its release
+use Rattle.std.specs.Prelude.{◌≡◌, ℕ, List, Result, Ok, Err, IsOk, IfOk}
+use Rattle.book_model.specs.Contents.{Contents}
+use Rattle.book_model.specs.Sound.{IsReleasable}
+use Rattle.book_model.specs.declared.record.Slice.{Slice}
+use Rattle.book_model.specs.declared.slicing.LimitFault.{LimitFault}
+use Rattle.book_text.specs.declared.fault.BookFault.{BookFault}
+use Rattle.derivation.specs.Limits.{slices_within}
+use Rattle.derivation.specs.Accepted.{IsAccepted}
+use Rattle.findings.specs.Notes.{Inquiry, IsReport, verdict_of}
+use Rattle.findings.specs.declared.report.Ask.{Ask}
+use Rattle.findings.specs.declared.report.Ask.TheVariants.{All, Blocking}
+use Rattle.findings.specs.declared.report.Note.{Note as Told}
+use Rattle.findings.specs.declared.report.Verdict.{Verdict}
+use Rattle.findings.specs.declared.report.Verdict.TheVariants.{Releasable, Blocked, Undecided}
+use Rattle.book_commands.specs.RunReply.{RunReply, book_fault_reply, limit_fault_reply, report_reply, certificate_reply}
+
+-- a right report, and where it says that the book can be released, the book can
+pub record IsReported (i : Inquiry) (reply : RunReply) : Type 0 where
+  pub report : List Told
+  pub is_right : IsReport i report
+  pub released : verdict_of report ≡ Releasable → IsReleasable i.book
+  pub answer : reply ≡ report_reply i.book report
+
+-- a certificate of the book
+pub record IsCertified (b : Contents) (reply : RunReply) : Type 0 where
+  pub text : List ℕ
+  pub accepted : IsAccepted b text
+  pub answer : reply ≡ certificate_reply text
+
+-- by a report's verdict: the certificate, or the report
+abbrev pub IsProvedBy : Verdict → Contents → List Told → RunReply → Type 0
+IsProvedBy Releasable b report reply = IsCertified b reply
+IsProvedBy Blocked b report reply = reply ≡ report_reply b report
+IsProvedBy Undecided b report reply = reply ≡ report_reply b report
+
+pub record IsProved (i : Inquiry) (reply : RunReply) : Type 0 where
+  pub report : List Told
+  pub is_right : IsReport i report
+  pub answer : IsProvedBy (verdict_of report) i.book report reply
+
+-- the answer to a book within the limits of a check, or the first limit that it exceeds
+abbrev pub RepliesWithin : Result (List Slice) LimitFault → (RunReply → Type 0) → RunReply → Type 0
+RepliesWithin (Ok slices) IsAnswer reply = IsAnswer reply
+RepliesWithin (Err fault) IsAnswer reply = reply ≡ limit_fault_reply fault
+
+-- what is asked of a book, and how many clauses may be learnt for a question
+abbrev pub inquiry : Ask → ℕ → Contents → Inquiry
+inquiry ask budget b = record { book = b; ask = ask; budget = budget }
+
+abbrev pub RepliesToCheck : Result Contents BookFault → ℕ → RunReply → Type 0
+RepliesToCheck (Ok b) budget reply = RepliesWithin (slices_within b) (IsReported (inquiry All budget b)) reply
+RepliesToCheck (Err fault) budget reply = reply ≡ book_fault_reply fault
+
+abbrev pub RepliesToProof : Result Contents BookFault → ℕ → RunReply → Type 0
+RepliesToProof (Ok b) budget reply = RepliesWithin (slices_within b) (IsProved (inquiry Blocking budget b)) reply
+RepliesToProof (Err fault) budget reply = reply ≡ book_fault_reply fault
+
+-- the text is a book that keeps the limits of a check
+pub record IsCheckable (book : Result Contents BookFault) : Type 0 where
+  pub no_fault : IsOk book
+  pub limits : IfOk book (λ b. IsOk (slices_within b))

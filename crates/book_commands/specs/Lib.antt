@@ -1,0 +1,10 @@
+pub mod Size
+pub mod CertText
+pub mod Logged
+pub mod RunReply
+pub mod Checks
+pub mod Replies
+pub mod Inputs
+pub mod Due
+pub mod Sample
+pub mod Tells

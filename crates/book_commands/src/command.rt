@@ -1,0 +1,18 @@
+//! What a command line asks of the book that is read.
+
+use crate::budget::Budget;
+use command_words::FileName;
+use pb_base::{CodeList, Day};
+
+/// What a command line asks of the book that is read.
+#[derive(Drop)]
+pub enum BookCommand {
+    /// What the order of these codes on this day comes to.
+    Order { day: Day, codes: CodeList },
+    /// What is wrong with the book, by all questions, each with this budget.
+    Check { budget: Budget },
+    /// A certificate that nothing keeps the book from its release, or what does, with this budget for each question.
+    Prove { budget: Budget },
+    /// Whether the certificate in this file shows that the book can be released.
+    Verify { file: FileName },
+}

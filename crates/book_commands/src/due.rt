@@ -1,0 +1,74 @@
+//! The reply that is due to a command that reads a book.
+ghost use Rattle.std.specs.Prelude.{◌≡◌, IfOk};
+ghost use Rattle.pb_outside.specs.Faults.{IsLater};
+ghost use Rattle.book_commands.specs.Inputs.{inputs};
+ghost use Rattle.book_commands.specs.RunReply.{due_of};
+ghost use Rattle.book_commands.specs.Replies.{RepliesTo, FailsAtFile, KeepsFiles};
+ghost use Rattle.book_commands.specs.Due.{Due};
+
+use crate::certify::verify_reply;
+use crate::check::{check_reply, proof_reply};
+use crate::command::BookCommand;
+use crate::judge::order_reply;
+use crate::run_reply::RunReply;
+use pb_base::Memory;
+use pb_base::limits::MOST_TEXT_BYTES;
+use pb_outside::{Files, OutError, Source, read_up_to};
+use std::alloc::Global;
+
+// One byte more than a book's text may have shows that it is too large.
+const INPUT_LIMIT: usize = MOST_TEXT_BYTES + 1;
+
+// The numbers of the source and the files in the log.
+const SOURCE: u8 = 1;
+
+const FILES: u8 = 2;
+
+/// Reads the input, and what else the command reads, and gives the reply.
+pub fn due_reply<S: Source, F: Files>(
+    alloc: Global,
+    command: &BookCommand,
+    source: &mut S,
+    files: &mut F,
+) -> Result<RunReply, Memory>
+    ensures due { let before = inputs (S.input source.old) (F.told files.old) in
+        let after = inputs (S.input source.new) (F.told files.new) in
+        Due command.now before after (due_of result) }
+    ensures source_later { IsLater (S.input source.old).faults (S.input source.new).faults }
+    ensures files_kept { KeepsFiles command.now (F.told files.old) (F.told files.new) }
+{
+    let source_before = source.read_faults();
+    let files_before = files.faults();
+    let input = match read_up_to(alloc, source, INPUT_LIMIT) {
+        Ok(input) => input,
+        Err(OutError::Failed) => {
+            return RunReply::read_fault(alloc, SOURCE, source_before, source.read_faults());
+        }
+        Err(OutError::Memory) => return Err(Memory),
+    };
+    match command_reply(alloc, command, &input, files) {
+        Ok(reply) => Ok(reply),
+        Err(OutError::Failed) => RunReply::read_fault(alloc, FILES, files_before, files.faults()),
+        Err(OutError::Memory) => Err(Memory),
+    }
+}
+
+#[tactic(auto, unfolding(crate::specs::Replies::RepliesTo, crate::specs::Replies::FailsAtFile, crate::specs::Replies::KeepsFiles))]
+fn command_reply<F: Files>(
+    alloc: Global,
+    command: &BookCommand,
+    input: &[u8],
+    files: &mut F,
+) -> Result<RunReply, OutError>
+    ensures reply { IfOk result (RepliesTo command.now input.now (F.told files.old) (F.told files.new)) }
+    ensures cause { let fails = FailsAtFile command.now input.now (F.told files.old) (F.told files.new) in
+        result ≡ Err OutError.Failed → fails }
+    ensures kept { KeepsFiles command.now (F.told files.old) (F.told files.new) }
+{
+    match command {
+        BookCommand::Order { day, codes } => Ok(order_reply(alloc, input, *day, codes)?),
+        BookCommand::Check { budget } => Ok(check_reply(alloc, input, budget)?),
+        BookCommand::Prove { budget } => Ok(proof_reply(alloc, input, budget)?),
+        BookCommand::Verify { file } => verify_reply(alloc, input, file, files),
+    }
+}

@@ -1,0 +1,109 @@
+//! What a run's status rests on.
+ghost use Rattle.std.specs.Prelude.{◌≡◌, ◌++◌, [], ◌∷◌, OnOk, OnErr};
+
+use book_model::LimitFault;
+use book_text::BookFault;
+use clause_pool::Pool;
+use clausify::Question;
+use derivation::CertFault;
+use parts_usage::OrderFault;
+use pb_base::{CodeSet, Memory};
+use std::alloc::Global;
+use std::marker::Model;
+
+/// One thing that a status rests on. Places in a book count from 0.
+#[derive(Drop)]
+pub enum Note {
+    /// The text of the book has this fault.
+    Text(BookFault),
+    /// The order has this fault.
+    Order(OrderFault),
+    /// The book exceeds this limit of checking.
+    Limit(LimitFault),
+    /// The constructibility rule at this place refuses the order.
+    Refused(u32),
+    /// The order selects so many variants of the position at this place, which may not be.
+    Unfit {
+        position: u32,
+        count: u32,
+    },
+    /// Something is wrong with the slice at this place: a question has no set that should have one, or this set meets a
+    /// question that should have none.
+    Finding {
+        slice: u32,
+        question: Question,
+        set: Option<CodeSet>,
+    },
+    /// A question of the slice at this place was left when these clauses had been learnt for it.
+    Spent {
+        slice: u32,
+        question: Question,
+        learnt: Pool,
+    },
+    /// The certificate has this fault.
+    Cert(CertFault),
+    /// A row that is kept is not right: its table, 0 form, 1 drafts, 2 books, 3 orders, 4 withdrawn, and its place in it, from
+    /// 1, or 0 for the form.
+    BadRow {
+        table: u32,
+        place: u32,
+    },
+    /// The count of faults of an object that was handed in rose: 1 for the source, 2 for the files, 3 for the sink, 4 for the
+    /// keeper.
+    Count {
+        which: u8,
+        before: u64,
+        after: u64,
+    },
+}
+
+/// The notes of one run, in the order in which they were made.
+#[derive(Drop)]
+pub struct RunLog {
+    notes: Vec<Note>,
+}
+
+impl Model for RunLog {
+    ghost use Rattle.std.specs.Prelude.{List};
+    ghost use Rattle.book_commands.specs.declared.log.Note.{Note};
+
+    ghost Value = { List Note };
+
+    ghost view = { λ l. l.notes.items };
+}
+
+impl RunLog {
+    /// The log without notes.
+    pub fn new(alloc: Global) -> RunLog
+        ensures { result ≡ [] }
+    {
+        RunLog {
+            notes: Vec::new(alloc),
+        }
+    }
+
+    /// Puts a note behind the others. On want of memory the log is as before.
+    pub fn push(&mut self, note: Note) -> Result<(), Memory>
+        ensures ok { OnOk result (self.new ≡ self.old ++ note ∷ []) }
+        ensures err { OnErr result (self.new ≡ self.old) }
+    {
+        self.notes.push(note)?;
+        Ok(())
+    }
+
+    /// Moves notes behind the others. On want of memory the log is as before.
+    pub fn append(&mut self, mut notes: Vec<Note>) -> Result<(), Memory>
+        ensures ok { OnOk result (self.new ≡ self.old ++ notes.items) }
+        ensures err { OnErr result (self.new ≡ self.old) }
+    {
+        self.notes.append(&mut notes)?;
+        Ok(())
+    }
+
+    /// The notes so far.
+    pub fn notes(&self) -> &[Note]
+        ensures { result.now ≡ self.now }
+    {
+        &self.notes
+    }
+}

@@ -1,4 +1,0 @@
-use Rattle.commands.proofs.judge.order_reply.Goals as goal
-
-pub returns-in-Ok : goal.returns-in-Ok
-returns-in-Ok c = rw (c.in-Ok.ensures, ← c.as_slice.ensures) c.judged_reply.ensures
