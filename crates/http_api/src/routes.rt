@@ -1,7 +1,7 @@
 //! The router that finds a path's route.
 ghost use Rattle.std.specs.Prelude.{◌≡◌, ℕ, List, [], Some, IfOk, IfSome, OnOk};
 ghost use Rattle.http_api.specs.Route.{Leads, kind_of};
-ghost use Rattle.http_api.specs.Routes.{CanTake, Knows, TakesRoute};
+ghost use Rattle.http_api.specs.Routes.{CanTake, Knows, TakesRoute, draft_routes};
 ghost use Rattle.http_api.specs.declared.route.Route.{Route};
 ghost use Rattle.matchit.specs.Route.{parse_route};
 
@@ -110,6 +110,14 @@ fn add_all(router: &mut Router<Kind>) -> Result<(), Memory>
     requires { router.old ≡ [] }
     ensures { OnOk result (Knows router.new) }
 {
+    add_drafts(router)?;
+    add_further(router)
+}
+
+fn add_drafts(router: &mut Router<Kind>) -> Result<(), Memory>
+    requires { router.old ≡ [] }
+    ensures { OnOk result (router.new ≡ draft_routes) }
+{
     add(router, "/drafts/{item}", Kind::Draft(DraftPage::Text))?;
     add(
         router,
@@ -126,6 +134,14 @@ fn add_all(router: &mut Router<Kind>) -> Result<(), Memory>
         "/drafts/{item}/release",
         Kind::Draft(DraftPage::Release),
     )?;
+    Ok(())
+}
+
+// Adds the routes of books and orders to those of drafts.
+fn add_further(router: &mut Router<Kind>) -> Result<(), Memory>
+    requires { router.old ≡ draft_routes }
+    ensures { OnOk result (Knows router.new) }
+{
     add(router, "/books/{item}", Kind::Book(BookPage::Text))?;
     add(
         router,
