@@ -1,12 +1,12 @@
 //! The grammar of the words, as the option parser is given it.
 ghost use Rattle.std.specs.Prelude.{◌≡◌, IfOk, false};
-ghost use Rattle.clap.specs.Words.{app_of};
+ghost use Rattle.clap.specs.Words.{AddsSubcommand, app_of, rule_of};
 ghost use Rattle.clap.specs.declared.builder.command.Command.TheViews.{out-Command};
-ghost use Rattle.command_words.specs.Grammar.{form, with_form, book_forms, grammar, top};
+ghost use Rattle.command_words.specs.Grammar.{form, with_form, book_forms, budget_rule, grammar, operands_rule, top};
 
 use clap::{Arg, ArgAction, Command};
 use pb_base::Memory;
-use std::alloc::Global;
+use std::alloc::{AllocError, Global};
 
 /// The grammar: a command word, and behind it operands with at most one option among them.
 pub fn grammar<'a>(alloc: Global) -> Result<Command<'a>, Memory>
@@ -40,15 +40,41 @@ fn top<'a>(alloc: Global) -> Command<'a>
 fn with_form<'a>(alloc: Global, command: Command<'a>, name: &'a str) -> Result<Command<'a>, Memory>
     ensures { IfOk result (λ r. app_of r ≡ with_form (app_of command.entry) name.entry.now) }
 {
-    let form = form(alloc, name)?;
-    Ok(command.subcommand(form)?)
+    match form(alloc, name) {
+        Ok(form) => with_subcommand(command, form),
+        Err(error) => Err(Memory::from(error)),
+    }
 }
 
-fn form<'a>(alloc: Global, name: &'a str) -> Result<Command<'a>, Memory>
+fn with_subcommand<'a>(command: Command<'a>, form: Command<'a>) -> Result<Command<'a>, Memory>
+    ensures { IfOk result (AddsSubcommand command.entry form.entry) }
+{
+    match command.subcommand(form) {
+        Ok(command) => Ok(command),
+        Err(error) => Err(Memory::from(error)),
+    }
+}
+
+fn form<'a>(alloc: Global, name: &'a str) -> Result<Command<'a>, AllocError>
     ensures app { IfOk result (λ r. app_of r ≡ form name.entry.now) }
     ensures local { IfOk result (λ r. (out-Command r).has_globals ≡ false) }
 {
-    let budget = Arg::new(alloc, "budget").long("budget");
-    let operands = Arg::new(alloc, "operands").action(ArgAction::Append);
-    Ok(Command::new(alloc, name).arg(budget)?.arg(operands)?)
+    match Command::new(alloc, name).arg(budget(alloc)) {
+        Ok(command) => command.arg(operands(alloc)),
+        Err(error) => Err(error),
+    }
+}
+
+fn budget<'a>(alloc: Global) -> Arg<'a>
+    ensures rule { rule_of result ≡ budget_rule }
+    ensures local { result.global ≡ false }
+{
+    Arg::new(alloc, "budget").long("budget")
+}
+
+fn operands<'a>(alloc: Global) -> Arg<'a>
+    ensures rule { rule_of result ≡ operands_rule }
+    ensures local { result.global ≡ false }
+{
+    Arg::new(alloc, "operands").action(ArgAction::Append)
 }

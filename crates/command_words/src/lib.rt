@@ -34,6 +34,3 @@ pub fn command_of(alloc: Global, words: &[String]) -> Result<Command, Fail<Usage
         None => Err(Fail::Refused(Usage)),
     }
 }
-
-#[cfg(test)]
-mod tests;

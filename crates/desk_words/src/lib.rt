@@ -12,6 +12,3 @@ pub use fault_text::{put_book_fault, put_limit, put_limit_fault, put_order_fault
 pub use lines::{put_number, put_optional};
 pub use order_words::{OrderWords, equal_orders};
 pub use reply::{FullOf, Missing, Reply};
-
-#[cfg(test)]
-mod tests;

@@ -1,5 +1,5 @@
 -- The routes, and the kind that each path finds.
-use Rattle.std.proofs.Common.{◌≡◌, ℕ, ◌+◌, List, [], ◌∷◌, ◌++◌, length, Some, refl, ap, ◌∙◌, option_map, codes, append-nil}
+use Rattle.std.proofs.Common.{◌≡◌, ℕ, List, [], ◌∷◌, ◌++◌, Some, refl, ap, ◌∙◌, option_map, codes, append-nil}
 use Rattle.matchit.specs.Rows.{RowsOf}
 use Rattle.matchit.specs.Seek.{seek}
 use Rattle.matchit.specs.Router.{RouteOf}
@@ -8,25 +8,13 @@ use Rattle.http_api.specs.declared.route.Kind.{Kind}
 use Rattle.http_api.specs.declared.route.Kind.TheVariants.{Draft, Book, Order}
 use Rattle.http_api.specs.declared.route.DraftPage.TheVariants.{Text as DraftText, Owner, Check, Release}
 use Rattle.http_api.specs.declared.route.BookPage.TheVariants.{Text as BookText, Certificate, Withdraw}
-use Rattle.http_api.specs.Routes.{Routes, Knows}
+use Rattle.http_api.specs.Routes.{Routes, Knows, entry, row, front_drafts}
 use Rattle.http_api.proofs.Seeking.{IsPlain, behind, next_byte}
 use Rattle.http_api.proofs.Items.{IsItem, name_item, number_item}
 use Rattle.http_api.proofs.Found.{behind_name, at_name, cuts-slash, cuts-plain}
 
--- a route with one parameter between two texts
-abbrev entry : List ℕ → List ℕ → Kind → RouteOf Kind
-entry front back kind = record {
-  pattern = front ++ 256 ∷ back;
-  text = front ++ codes "{item}" ++ back;
-  names = (length front + 1, length front + 5) ∷ [];
-  value = kind;
-}
-
 abbrev front_books : List ℕ
 front_books = codes "/books/"
-
-abbrev front_drafts : List ℕ
-front_drafts = codes "/drafts/"
 
 abbrev front_orders : List ℕ
 front_orders = codes "/orders/"
@@ -49,9 +37,6 @@ draft_rows =
 
 abbrev order_rows : RowsOf (RouteOf Kind)
 order_rows = ([], entry front_orders [] Order) ∷ []
-
-abbrev row : List ℕ → List ℕ → Kind → List ℕ × RouteOf Kind
-row front back kind = (front ++ 256 ∷ back, entry front back kind)
 
 abbrev pub table : Routes
 table =

@@ -18,6 +18,3 @@ pub use call::call_of;
 pub use denied::Denied;
 pub use response::{bad_response, denied_response, memory_response, response_of};
 pub use routes::Routes;
-
-#[cfg(test)]
-mod tests;

@@ -1,7 +1,7 @@
 //! The router that finds a path's route.
-ghost use Rattle.std.specs.Prelude.{◌≡◌, ℕ, List, Some, IfOk, IfSome, OnOk};
+ghost use Rattle.std.specs.Prelude.{◌≡◌, ℕ, List, [], Some, IfOk, IfSome, OnOk};
 ghost use Rattle.http_api.specs.Route.{Leads, kind_of};
-ghost use Rattle.http_api.specs.Routes.{CanTake, Knows, TakesRoute};
+ghost use Rattle.http_api.specs.Routes.{CanTake, Knows, TakesRoute, draft_routes};
 ghost use Rattle.http_api.specs.declared.route.Route.{Route};
 ghost use Rattle.matchit.specs.Route.{parse_route};
 
@@ -99,35 +99,62 @@ fn full_router(alloc: Global) -> Result<Router<Kind>, Memory>
     ensures { IfOk result (λ router. Knows router) }
 {
     let mut router = Router::new(alloc);
-    add(&mut router, "/drafts/{item}", Kind::Draft(DraftPage::Text))?;
+    match add_all(&mut router) {
+        Ok(()) => Ok(router),
+        Err(Memory) => Err(Memory),
+    }
+}
+
+// Adds each route to a router that has none.
+fn add_all(router: &mut Router<Kind>) -> Result<(), Memory>
+    requires { router.old ≡ [] }
+    ensures { OnOk result (Knows router.new) }
+{
+    add_drafts(router)?;
+    add_further(router)
+}
+
+fn add_drafts(router: &mut Router<Kind>) -> Result<(), Memory>
+    requires { router.old ≡ [] }
+    ensures { OnOk result (router.new ≡ draft_routes) }
+{
+    add(router, "/drafts/{item}", Kind::Draft(DraftPage::Text))?;
     add(
-        &mut router,
+        router,
         "/drafts/{item}/owner",
         Kind::Draft(DraftPage::Owner),
     )?;
     add(
-        &mut router,
+        router,
         "/drafts/{item}/check",
         Kind::Draft(DraftPage::Check),
     )?;
     add(
-        &mut router,
+        router,
         "/drafts/{item}/release",
         Kind::Draft(DraftPage::Release),
     )?;
-    add(&mut router, "/books/{item}", Kind::Book(BookPage::Text))?;
+    Ok(())
+}
+
+// Adds the routes of books and orders to those of drafts.
+fn add_further(router: &mut Router<Kind>) -> Result<(), Memory>
+    requires { router.old ≡ draft_routes }
+    ensures { OnOk result (Knows router.new) }
+{
+    add(router, "/books/{item}", Kind::Book(BookPage::Text))?;
     add(
-        &mut router,
+        router,
         "/books/{item}/certificate",
         Kind::Book(BookPage::Certificate),
     )?;
     add(
-        &mut router,
+        router,
         "/books/{item}/withdraw",
         Kind::Book(BookPage::Withdraw),
     )?;
-    add(&mut router, "/orders/{item}", Kind::Order)?;
-    Ok(router)
+    add(router, "/orders/{item}", Kind::Order)?;
+    Ok(())
 }
 
 fn add(router: &mut Router<Kind>, text: &str, kind: Kind) -> Result<(), Memory>

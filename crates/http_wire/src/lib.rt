@@ -25,6 +25,3 @@ pub use head::{Head, HeadStep};
 pub use law::one_reading;
 pub use message::{BodyStep, Message};
 pub use wire::Wire;
-
-#[cfg(test)]
-mod tests;

@@ -9,6 +9,3 @@ mod parts;
 pub use ids::position_id;
 pub use names::put_names;
 pub use outcome::{outcome_text, put_accepted, put_refused};
-
-#[cfg(test)]
-mod tests;

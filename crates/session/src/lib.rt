@@ -10,6 +10,3 @@ mod write;
 
 pub use end::{SessionEnd, WriteFault};
 pub use serving::session;
-
-#[cfg(test)]
-mod tests;

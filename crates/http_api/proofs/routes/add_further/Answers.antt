@@ -1,0 +1,28 @@
+use Rattle.std.proofs.Common.{◌≡◌, refl, sym, subst}
+use Rattle.http_api.specs.Routes.{Knows}
+use Rattle.http_api.proofs.Table.{table, knows}
+use Rattle.matchit.proofs.OnLiterals.{matchit_on_literals}
+use Rattle.http_api.proofs.routes.add_further.Goals as goal
+
+pub add-requires : goal.add-requires
+unfolding matchit_on_literals
+add-requires c = rw (c.requires) refl
+
+pub add-requires-2 : goal.add-requires-2
+unfolding matchit_on_literals
+add-requires-2 c = rw (c.in_ok-add.ensures, c.requires) refl
+
+pub add-requires-3 : goal.add-requires-3
+unfolding matchit_on_literals
+add-requires-3 c = rw (c.in_ok-add-2.ensures, c.in_ok-add.ensures, c.requires) refl
+
+pub add-requires-4 : goal.add-requires-4
+unfolding matchit_on_literals
+add-requires-4 c = rw (c.in_ok-add-3.ensures, c.in_ok-add-2.ensures, c.in_ok-add.ensures, c.requires) refl
+
+-- the rows are those of the table
+pub returns : goal.returns
+unfolding matchit_on_literals
+returns c =
+    let is_table : c.add-4.new.router ≡ table = rw (c.in_ok-add-4.ensures, c.in_ok-add-3.ensures, c.in_ok-add-2.ensures, c.in_ok-add.ensures, c.requires) refl in
+    subst Knows (sym is_table) knows
