@@ -26,6 +26,3 @@ pub use given::run_given;
 pub use log::{Note, RunLog};
 pub use run_end::RunEnd;
 pub use top_call::run;
-
-#[cfg(test)]
-mod tests;
