@@ -12,6 +12,3 @@ pub use book_commands::{Note, RunLog};
 pub use given::run_given;
 pub use run_end::RunEnd;
 pub use top_call::run;
-
-#[cfg(test)]
-mod tests;

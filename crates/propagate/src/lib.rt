@@ -5,10 +5,7 @@ mod assignment;
 mod attach;
 mod clause_store;
 mod engine;
-mod plain;
-#[cfg(test)]
-mod tests;
-mod visit;
+mod plain;mod visit;
 mod watch;
 mod watches;
 

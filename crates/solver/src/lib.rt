@@ -19,10 +19,7 @@ mod resolution;
 mod run;
 mod share;
 mod shortcut;
-mod solver;
-#[cfg(test)]
-mod tests;
-mod way;
+mod solver;mod way;
 
 pub use answer::Answer;
 pub use chain::{derive, refuting_unit};

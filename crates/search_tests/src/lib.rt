@@ -1,0 +1,11 @@
+//! Tests of the crates from `clause_pool` to `solver`: of what no contract of theirs says and no run of the program shows.
+#![tactic(auto)]
+
+#[cfg(test)]
+mod chains;
+#[cfg(test)]
+mod questions;
+#[cfg(test)]
+mod threads;
+#[cfg(test)]
+mod trails;
