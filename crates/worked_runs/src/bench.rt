@@ -1,19 +1,20 @@
 //! Goes through the sections of a text of cases, and does the runs of each case.
 
-use crate::case::{Case, Inputs};
+use crate::case::Case;
+use crate::line::put_lines;
 use crate::named_text::NamedText;
-use crate::outcome::{outcome_of, put_outcome};
-use crate::piece::{put_lines, put_piece};
+use crate::piece::put_piece;
+use crate::report::Report;
 use crate::rows::{no_rows, put_row, rows_of};
+use crate::runs::put_runs;
 use crate::said::{Goal, Said, said_by};
 use crate::section::{Section, sections_of};
-use crate::series::put_series;
 use keeper::{MemoryKeeper, Rows};
 use pb_base::{Memory, Text};
 use std::alloc::Global;
 use std::mem;
 
-// What was read so far, and what is to be answered to it.
+// What was read so far, and what is to be told of it.
 #[derive(Drop)]
 struct Bench<'a> {
     alloc: Global,
@@ -24,99 +25,87 @@ struct Bench<'a> {
     goal: Option<Goal<'a>>,
     /// What the sink took in the last run.
     taken: Vec<u8>,
-    /// What the store of the last run has.
+    /// What the store of the last case has.
     kept: Rows,
     /// What the store of the case has before its first run.
     rows: Rows,
-    answers: Text,
+    report: Report<'a>,
 }
 
-/// What came out of the runs of all cases.
-pub fn answers_to(alloc: Global, cases: &str) -> Result<Text, Memory> {
+/// What is told of the cases of a text, or of those of one name. The cases before it are run too, since it may take them up.
+pub fn report_on<'a>(
+    alloc: Global,
+    cases: &'a str,
+    only: Option<&'a str>,
+) -> Result<Report<'a>, Memory> {
+    let sections = sections_of(alloc, cases)?;
     let mut bench = Bench {
         alloc,
         texts: Vec::new(alloc),
-        case: Case::new(alloc),
+        case: Case::new(alloc, ""),
         written: Text::new(alloc),
         goal: None,
         taken: Vec::new(alloc),
         kept: no_rows(alloc),
         rows: no_rows(alloc),
-        answers: Text::new(alloc),
+        report: Report::new(alloc, only),
     };
-    let sections = sections_of(alloc, cases)?;
-    for section in &sections {
-        bench.take(section)?;
-    }
-    bench.end_case()?;
-    Ok(bench.answers)
+    bench.take_all(&sections)?;
+    Ok(bench.report)
 }
 
 impl<'a> Bench<'a> {
+    fn take_all(&mut self, sections: &[Section<'a>]) -> Result<(), Memory> {
+        for section in sections {
+            self.take(section)?;
+        }
+        self.end_case()?;
+        self.report.put_end()
+    }
+
     fn take(&mut self, section: &Section<'a>) -> Result<(), Memory> {
         if section.opens_case {
-            self.end_case()?;
-            self.case = Case::new(self.alloc);
-            self.rows = no_rows(self.alloc);
-            return self.put_line("=== ", section.head);
+            return self.open_case(section.head);
         }
         match said_by(section.head) {
-            Some(said) => self.take_said(said, &section.lines),
-            None => self.put_line("of no form: ", section.head),
+            Some(said) => self.take_said(&said, &section.lines),
+            None => Ok(self.case.unread.push(section.head)?),
         }
     }
 
-    fn take_said(&mut self, said: Said<'a>, lines: &[&'a str]) -> Result<(), Memory> {
+    fn open_case(&mut self, name: &'a str) -> Result<(), Memory> {
+        self.end_case()?;
+        self.case = Case::new(self.alloc, name);
+        self.rows = no_rows(self.alloc);
+        Ok(())
+    }
+
+    fn take_said(&mut self, said: &Said<'a>, lines: &[&'a str]) -> Result<(), Memory> {
         match said {
-            Said::Begins(goal) => {
-                self.end_text()?;
-                self.goal = Some(goal);
-                put_lines(&mut self.written, lines)
-            }
+            Said::Begins(goal) => self.begin_text(*goal, lines),
             Said::Piece(piece) => put_piece(
                 self.alloc,
                 &mut self.written,
-                &piece,
+                piece,
                 lines,
                 &self.texts,
                 &self.taken,
             ),
-            Said::Words => {
-                self.case.runs.extend_from_slice(lines)?;
-                Ok(())
-            }
-            Said::Fails(object, numbers) => self.case.fail(object, numbers),
-            Said::Pieces(lengths) => self.case.part(lengths),
-            Said::Room(room) => {
-                self.case.room = room;
-                Ok(())
-            }
-            Said::Shown(count) => {
-                self.case.shown = count;
-                Ok(())
-            }
-            Said::AnySet => {
-                self.case.shows_sets = false;
-                Ok(())
-            }
-            Said::AnyRest => {
-                self.case.shows_rest = false;
-                Ok(())
-            }
-            Said::CutEverywhere => {
-                self.case.inputs = Inputs::CutEverywhere;
-                Ok(())
-            }
-            Said::EndedEverywhere => {
-                self.case.inputs = Inputs::EndedEverywhere;
-                Ok(())
-            }
+            Said::Words => Ok(self.case.runs.extend_from_slice(lines)?),
+            Said::Comes => put_lines(&mut self.case.comes, lines),
             Said::KeptStore => {
                 self.rows = mem::replace(&mut self.kept, no_rows(self.alloc));
                 Ok(())
             }
-            Said::Row(row) => put_row(self.alloc, &mut self.rows, &row, &self.texts),
+            Said::Row(row) => put_row(self.alloc, &mut self.rows, row, &self.texts),
+            Said::Set(setting) => self.case.set(setting),
         }
+    }
+
+    fn begin_text(&mut self, goal: Goal<'a>, lines: &[&'a str]) -> Result<(), Memory> {
+        self.end_text()?;
+        self.goal = Some(goal);
+        put_lines(&mut self.written, lines)
     }
 
     // Hands the text that is being written to what it is for.
@@ -131,63 +120,21 @@ impl<'a> Bench<'a> {
         Ok(())
     }
 
-    // Does the runs of the case, and answers what came out of them.
+    // Does the runs of the case, and tells of what came out of them.
     fn end_case(&mut self) -> Result<(), Memory> {
         self.end_text()?;
+        if self.case.is_blank() {
+            return Ok(());
+        }
         let rows = mem::replace(&mut self.rows, no_rows(self.alloc));
-        let left = put_runs(self.alloc, &mut self.answers, &self.case, rows)?;
-        if let Some(left) = left {
-            self.taken = left.taken;
-            self.kept = left.rows;
-        }
-        Ok(())
+        let mut store = MemoryKeeper::new(rows, Vec::new(self.alloc));
+        let mut came = Text::new(self.alloc);
+        self.run_case(&mut store, &mut came)
     }
 
-    fn put_line(&mut self, front: &str, line: &str) -> Result<(), Memory> {
-        self.answers.put(front.as_bytes())?;
-        self.answers.put(line.as_bytes())?;
-        self.answers.put(b"\n")
+    fn run_case(&mut self, store: &mut MemoryKeeper, came: &mut Text) -> Result<(), Memory> {
+        put_runs(self.alloc, came, &self.case, store, &mut self.taken)?;
+        self.kept = rows_of(self.alloc, store)?;
+        self.report.put_case(&self.case, came.bytes())
     }
-}
-
-// What the last run of a case leaves: what its sink took, and the rows of its store.
-#[derive(Drop)]
-struct Left {
-    taken: Vec<u8>,
-    rows: Rows,
-}
-
-// Does the runs of a case, each over the rows that the one before it left, puts what came out of them behind a text, and gives
-// what the last one leaves.
-fn put_runs(
-    alloc: Global,
-    text: &mut Text,
-    case: &Case<'_>,
-    rows: Rows,
-) -> Result<Option<Left>, Memory> {
-    let mut store = MemoryKeeper::new(rows, Vec::new(alloc));
-    let mut taken = None;
-    for line in &case.runs {
-        put_words(text, line)?;
-        if case.inputs != Inputs::Whole {
-            put_series(alloc, text, case, line, &mut store)?;
-            continue;
-        }
-        let input = case.input.bytes();
-        let outcome = outcome_of(alloc, case, line, input, &case.pieces, &mut store)?;
-        put_outcome(text, case, &outcome)?;
-        taken = Some(outcome.taken().to_vec(alloc)?);
-        store = MemoryKeeper::new(outcome.into_rows(), Vec::new(alloc));
-    }
-    let Some(taken) = taken else {
-        return Ok(None);
-    };
-    let rows = rows_of(alloc, &mut store)?;
-    Ok(Some(Left { taken, rows }))
-}
-
-fn put_words(text: &mut Text, line: &str) -> Result<(), Memory> {
-    text.put(b"$ ")?;
-    text.put(line.as_bytes())?;
-    text.put(b"\n")
 }

@@ -8,7 +8,7 @@ use pb_outside::OutError;
 use std::alloc::Global;
 
 /// A row of a store, or its form. Texts are named.
-#[derive(Drop)]
+#[derive(Clone, Copy)]
 pub enum Row<'a> {
     Form(u64),
     Draft {
@@ -130,15 +130,11 @@ pub fn put_row(
             text,
         } => {
             let text = text_of(texts, text);
-            rows.drafts
-                .push(draft_row(alloc, name.as_bytes(), owner, *revision, text)?)?;
+            let row = draft_row(alloc, name.as_bytes(), owner, *revision, text)?;
+            rows.drafts.push(row)?;
         }
         Row::Drafts { from, until, owner } => {
-            for number in *from..*until {
-                let name = draft_name(alloc, number)?;
-                rows.drafts
-                    .push(draft_row(alloc, name.bytes(), owner, 1, b"")?)?;
-            }
+            put_drafts(alloc, &mut rows.drafts, *from, *until, owner)?;
         }
         Row::Book {
             number,
@@ -146,29 +142,43 @@ pub fn put_row(
             revision,
             text,
             cert,
-        } => rows.books.push(BookRow {
-            number: *number,
-            draft: body_of(alloc, draft.as_bytes())?,
-            revision: *revision,
-            text: body_of(alloc, text_of(texts, text))?,
-            cert: body_of(alloc, text_of(texts, cert))?,
-        })?,
+        } => {
+            let text = text_of(texts, text);
+            let cert = text_of(texts, cert);
+            let row = book_row(alloc, *number, draft, *revision, text, cert)?;
+            rows.books.push(row)?;
+        }
         Row::Order {
             caller,
             number,
             book,
             day,
             codes,
-        } => rows.orders.push(OrderRow {
-            caller: body_of(alloc, caller.as_bytes())?,
-            number: *number,
-            book: *book,
-            day: *day,
-            codes: body_of(alloc, codes.as_bytes())?,
-        })?,
+        } => {
+            let row = order_row(alloc, caller, *number, *book, *day, codes)?;
+            rows.orders.push(row)?;
+        }
         Row::Withdrawn(number) => rows.withdrawn.push(*number)?,
     }
     Ok(())
+}
+
+fn put_drafts(
+    alloc: Global,
+    drafts: &mut Vec<DraftRow>,
+    from: u64,
+    until: u64,
+    owner: &str,
+) -> Result<(), Memory> {
+    for number in from..until {
+        drafts.push(numbered_row(alloc, number, owner)?)?;
+    }
+    Ok(())
+}
+
+fn numbered_row(alloc: Global, number: u64, owner: &str) -> Result<DraftRow, Memory> {
+    let name = draft_name(alloc, number)?;
+    draft_row(alloc, name.bytes(), owner, 1, b"")
 }
 
 fn draft_row(
@@ -183,6 +193,40 @@ fn draft_row(
         owner: body_of(alloc, owner.as_bytes())?,
         revision,
         text: body_of(alloc, text)?,
+    })
+}
+
+fn book_row(
+    alloc: Global,
+    number: u64,
+    draft: &str,
+    revision: u64,
+    text: &[u8],
+    cert: &[u8],
+) -> Result<BookRow, Memory> {
+    Ok(BookRow {
+        number,
+        draft: body_of(alloc, draft.as_bytes())?,
+        revision,
+        text: body_of(alloc, text)?,
+        cert: body_of(alloc, cert)?,
+    })
+}
+
+fn order_row(
+    alloc: Global,
+    caller: &str,
+    number: u64,
+    book: u64,
+    day: u64,
+    codes: &str,
+) -> Result<OrderRow, Memory> {
+    Ok(OrderRow {
+        caller: body_of(alloc, caller.as_bytes())?,
+        number,
+        book,
+        day,
+        codes: body_of(alloc, codes.as_bytes())?,
     })
 }
 
