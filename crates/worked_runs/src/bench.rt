@@ -2,7 +2,7 @@
 
 use crate::case::Case;
 use crate::line::put_lines;
-use crate::named_text::NamedText;
+use crate::named_text::{NamedText, has_name};
 use crate::piece::put_piece;
 use crate::report::Report;
 use crate::rows::{no_rows, put_row, rows_of};
@@ -69,7 +69,7 @@ impl<'a> Bench<'a> {
         }
         match said_by(section.head) {
             Some(said) => self.take_said(&said, &section.lines),
-            None => Ok(self.case.unread.push(section.head)?),
+            None => Ok(self.case.wrong.push(section.head)?),
         }
     }
 
@@ -112,12 +112,21 @@ impl<'a> Bench<'a> {
     fn end_text(&mut self) -> Result<(), Memory> {
         let text = mem::replace(&mut self.written, Text::new(self.alloc));
         match self.goal.take() {
-            Some(Goal::Named(name)) => self.texts.push(NamedText { name, text })?,
-            Some(Goal::Input) => self.case.input = text,
-            Some(Goal::File(name)) => self.case.files.push(NamedText { name, text })?,
-            None => {}
+            Some(Goal::Named(name)) => self.end_named(name, text),
+            Some(Goal::Input) => {
+                self.case.input = text;
+                Ok(())
+            }
+            Some(Goal::File(name)) => Ok(self.case.files.push(NamedText { name, text })?),
+            None => Ok(()),
         }
-        Ok(())
+    }
+
+    fn end_named(&mut self, name: &'a str, text: Text) -> Result<(), Memory> {
+        if has_name(&self.texts, name) {
+            return Ok(self.case.wrong.push(name)?);
+        }
+        Ok(self.texts.push(NamedText { name, text })?)
     }
 
     // Does the runs of the case, and tells of what came out of them.

@@ -14,8 +14,8 @@ const AMPLE_ROOM: u64 = 1_000_000;
 pub struct Case<'a> {
     /// Empty before the first case, where only texts stand.
     pub name: &'a str,
-    /// The heads that are of no form.
-    pub unread: Vec<&'a str>,
+    /// The heads that are of no form, and the names of its texts that another text has.
+    pub wrong: Vec<&'a str>,
     /// What has to come out. A case that says nothing of it is never as it says.
     pub comes: Text,
     /// The words of each run, in a line.
@@ -32,7 +32,7 @@ pub struct Case<'a> {
     pub shown: u64,
     /// Whether the sets of findings are shown.
     pub shows_sets: bool,
-    /// Whether it is shown how much of the input was left unread.
+    /// Whether it is shown how much of the input was left wrong.
     pub shows_rest: bool,
     pub inputs: Inputs,
 }
@@ -53,7 +53,7 @@ impl<'a> Case<'a> {
     pub fn new(alloc: Global, name: &'a str) -> Case<'a> {
         Case {
             name,
-            unread: Vec::new(alloc),
+            wrong: Vec::new(alloc),
             comes: Text::new(alloc),
             runs: Vec::new(alloc),
             input: Text::new(alloc),
@@ -75,13 +75,13 @@ impl<'a> Case<'a> {
     pub fn is_blank(&self) -> bool {
         self.name.is_empty()
             && self.runs.is_empty()
-            && self.unread.is_empty()
+            && self.wrong.is_empty()
             && self.comes.bytes().is_empty()
     }
 
     /// Whether this is what it says of what has to come out.
     pub fn says(&self, came: &[u8]) -> bool {
-        self.unread.is_empty() && !came.is_empty() && self.comes.bytes() == came
+        self.wrong.is_empty() && !came.is_empty() && self.comes.bytes() == came
     }
 
     /// Takes what holds for all its runs.

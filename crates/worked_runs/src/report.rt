@@ -46,7 +46,7 @@ impl<'a> Report<'a> {
         }
         self.otherwise = self.otherwise.saturating_add(1);
         put_came(&mut self.text, case.name, came)?;
-        put_unread(&mut self.text, &case.unread)?;
+        put_wrong(&mut self.text, &case.wrong)?;
         put_difference(&mut self.text, case.comes.bytes(), came)
     }
 
@@ -87,9 +87,9 @@ fn put_came(text: &mut Text, name: &str, came: &[u8]) -> Result<(), Memory> {
     text.put(came)
 }
 
-fn put_unread(text: &mut Text, heads: &[&str]) -> Result<(), Memory> {
+fn put_wrong(text: &mut Text, heads: &[&str]) -> Result<(), Memory> {
     for head in heads {
-        put_line_with(text, "# of no form: ", head.as_bytes())?;
+        put_line_with(text, "# of no form, or a name that another text has: ", head.as_bytes())?;
     }
     Ok(())
 }
