@@ -89,7 +89,11 @@ fn put_came(text: &mut Text, name: &str, came: &[u8]) -> Result<(), Memory> {
 
 fn put_wrong(text: &mut Text, heads: &[&str]) -> Result<(), Memory> {
     for head in heads {
-        put_line_with(text, "# of no form, or a name that another text has: ", head.as_bytes())?;
+        put_line_with(
+            text,
+            "# of no form, or a name that another text has: ",
+            head.as_bytes(),
+        )?;
     }
     Ok(())
 }
