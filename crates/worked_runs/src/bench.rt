@@ -14,9 +14,9 @@ use pb_base::{Memory, Text};
 use std::alloc::Global;
 use std::mem;
 
-// What was read so far, and what is to be told of it.
+/// What was read of the cases so far, and what is to be told of them.
 #[derive(Drop)]
-struct Bench<'a> {
+pub struct Bench<'a> {
     alloc: Global,
     texts: Vec<NamedText<'a>>,
     case: Case<'a>,
@@ -32,29 +32,33 @@ struct Bench<'a> {
     report: Report<'a>,
 }
 
-/// What is told of the cases of a text, or of those of one name. The cases before it are run too, since it may take them up.
-pub fn report_on<'a>(
-    alloc: Global,
-    cases: &'a str,
-    only: Option<&'a str>,
-) -> Result<Report<'a>, Memory> {
-    let sections = sections_of(alloc, cases)?;
-    let mut bench = Bench {
-        alloc,
-        texts: Vec::new(alloc),
-        case: Case::new(alloc, ""),
-        written: Text::new(alloc),
-        goal: None,
-        taken: Vec::new(alloc),
-        kept: no_rows(alloc),
-        rows: no_rows(alloc),
-        report: Report::new(alloc, only),
-    };
-    bench.take_all(&sections)?;
-    Ok(bench.report)
-}
-
 impl<'a> Bench<'a> {
+    /// Nothing is read yet. One case alone is to be told of where its name is given.
+    pub fn new(alloc: Global, only: Option<&'a str>) -> Bench<'a> {
+        Bench {
+            alloc,
+            texts: Vec::new(alloc),
+            case: Case::new(alloc, ""),
+            written: Text::new(alloc),
+            goal: None,
+            taken: Vec::new(alloc),
+            kept: no_rows(alloc),
+            rows: no_rows(alloc),
+            report: Report::new(alloc, only),
+        }
+    }
+
+    /// Does all cases of a text, also where one alone is told of, since it may take up what those before it leave.
+    pub fn take_cases(&mut self, cases: &'a str) -> Result<(), Memory> {
+        let sections = sections_of(self.alloc, cases)?;
+        self.take_all(&sections)
+    }
+
+    /// What is told of the cases.
+    pub fn report(&self) -> &Report<'a> {
+        &self.report
+    }
+
     fn take_all(&mut self, sections: &[Section<'a>]) -> Result<(), Memory> {
         for section in sections {
             self.take(section)?;

@@ -20,7 +20,7 @@ mod section;
 mod series;
 mod setting;
 
-use crate::bench::report_on;
+use crate::bench::Bench;
 use pb_outside::{OutError, Sink, Source, StreamSink, StreamSource, read_up_to};
 use std::alloc::Global;
 use std::process::ExitCode;
@@ -66,7 +66,16 @@ fn tell<S: Source, K: Sink>(
     let only = if name.is_empty() { None } else { Some(name) };
     let cases = read_up_to(alloc, source, MOST_BYTES)?;
     let cases = str::from_utf8(&cases).unwrap_or("");
-    let report = report_on(alloc, cases, only)?;
-    sink.write(report.bytes())?;
-    Ok(report.is_good())
+    let mut bench = Bench::new(alloc, only);
+    tell_of(&mut bench, cases, sink)
+}
+
+fn tell_of<'a, K: Sink>(
+    bench: &mut Bench<'a>,
+    cases: &'a str,
+    sink: &mut K,
+) -> Result<bool, OutError> {
+    bench.take_cases(cases)?;
+    sink.write(bench.report().bytes())?;
+    Ok(bench.report().is_good())
 }

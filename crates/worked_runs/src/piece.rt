@@ -127,6 +127,10 @@ fn put_with(text: &mut Text, other: &[u8], lines: &[&str]) -> Result<(), Memory>
             put_line(text, own)?;
         }
     }
+    put_added(text, lines)
+}
+
+fn put_added(text: &mut Text, lines: &[&str]) -> Result<(), Memory> {
     for line in lines {
         if let Some(added) = line.strip_prefix("+ ") {
             put_line(text, added.as_bytes())?;

@@ -33,21 +33,25 @@ impl<'a> Report<'a> {
 
     /// Takes what came out of a case.
     pub fn put_case(&mut self, case: &Case<'_>, came: &[u8]) -> Result<(), Memory> {
-        if self.only.is_some_and(|name| name != case.name) {
+        if !self.asks_for(case.name) {
             return Ok(());
         }
         self.has_case = true;
-        if case.says(came) {
-            if self.only.is_none() {
-                return Ok(());
-            }
-            put_came(&mut self.text, case.name, came)?;
-            return self.text.put(b"# as it says\n");
+        if !case.says(came) {
+            self.otherwise = self.otherwise.saturating_add(1);
+            return put_otherwise(&mut self.text, case, came);
         }
-        self.otherwise = self.otherwise.saturating_add(1);
-        put_came(&mut self.text, case.name, came)?;
-        put_wrong(&mut self.text, &case.wrong)?;
-        put_difference(&mut self.text, case.comes.bytes(), came)
+        match self.only {
+            Some(name) => put_as_said(&mut self.text, name, came),
+            None => Ok(()),
+        }
+    }
+
+    fn asks_for(&self, name: &str) -> bool {
+        match self.only {
+            Some(only) => only == name,
+            None => true,
+        }
     }
 
     /// Tells at the end how many cases come out otherwise, or that none does.
@@ -78,6 +82,17 @@ impl<'a> Report<'a> {
     pub fn is_good(&self) -> bool {
         self.has_case && self.otherwise == 0
     }
+}
+
+fn put_as_said(text: &mut Text, name: &str, came: &[u8]) -> Result<(), Memory> {
+    put_came(text, name, came)?;
+    text.put(b"# as it says\n")
+}
+
+fn put_otherwise(text: &mut Text, case: &Case<'_>, came: &[u8]) -> Result<(), Memory> {
+    put_came(text, case.name, came)?;
+    put_wrong(text, &case.wrong)?;
+    put_difference(text, case.comes.bytes(), came)
 }
 
 // Puts the name of a case and what came out of it, as they stand in the text of cases.

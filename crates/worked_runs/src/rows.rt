@@ -122,7 +122,10 @@ pub fn put_row(
     texts: &[NamedText<'_>],
 ) -> Result<(), Memory> {
     match row {
-        Row::Form(form) => rows.form = *form,
+        Row::Form(form) => {
+            rows.form = *form;
+            Ok(())
+        }
         Row::Draft {
             name,
             owner,
@@ -130,11 +133,10 @@ pub fn put_row(
             text,
         } => {
             let text = text_of(texts, text);
-            let row = draft_row(alloc, name.as_bytes(), owner, *revision, text)?;
-            rows.drafts.push(row)?;
+            put_draft(alloc, &mut rows.drafts, name, owner, *revision, text)
         }
         Row::Drafts { from, until, owner } => {
-            put_drafts(alloc, &mut rows.drafts, *from, *until, owner)?;
+            put_drafts(alloc, &mut rows.drafts, *from, *until, owner)
         }
         Row::Book {
             number,
@@ -145,8 +147,15 @@ pub fn put_row(
         } => {
             let text = text_of(texts, text);
             let cert = text_of(texts, cert);
-            let row = book_row(alloc, *number, draft, *revision, text, cert)?;
-            rows.books.push(row)?;
+            put_book(
+                alloc,
+                &mut rows.books,
+                *number,
+                draft,
+                *revision,
+                text,
+                cert,
+            )
         }
         Row::Order {
             caller,
@@ -154,13 +163,21 @@ pub fn put_row(
             book,
             day,
             codes,
-        } => {
-            let row = order_row(alloc, caller, *number, *book, *day, codes)?;
-            rows.orders.push(row)?;
-        }
-        Row::Withdrawn(number) => rows.withdrawn.push(*number)?,
+        } => put_order(alloc, &mut rows.orders, caller, *number, *book, *day, codes),
+        Row::Withdrawn(number) => Ok(rows.withdrawn.push(*number)?),
     }
-    Ok(())
+}
+
+fn put_draft(
+    alloc: Global,
+    drafts: &mut Vec<DraftRow>,
+    name: &str,
+    owner: &str,
+    revision: u64,
+    text: &[u8],
+) -> Result<(), Memory> {
+    let row = draft_row(alloc, name.as_bytes(), owner, revision, text)?;
+    Ok(drafts.push(row)?)
 }
 
 fn put_drafts(
@@ -196,38 +213,42 @@ fn draft_row(
     })
 }
 
-fn book_row(
+fn put_book(
     alloc: Global,
+    books: &mut Vec<BookRow>,
     number: u64,
     draft: &str,
     revision: u64,
     text: &[u8],
     cert: &[u8],
-) -> Result<BookRow, Memory> {
-    Ok(BookRow {
+) -> Result<(), Memory> {
+    let row = BookRow {
         number,
         draft: body_of(alloc, draft.as_bytes())?,
         revision,
         text: body_of(alloc, text)?,
         cert: body_of(alloc, cert)?,
-    })
+    };
+    Ok(books.push(row)?)
 }
 
-fn order_row(
+fn put_order(
     alloc: Global,
+    orders: &mut Vec<OrderRow>,
     caller: &str,
     number: u64,
     book: u64,
     day: u64,
     codes: &str,
-) -> Result<OrderRow, Memory> {
-    Ok(OrderRow {
+) -> Result<(), Memory> {
+    let row = OrderRow {
         caller: body_of(alloc, caller.as_bytes())?,
         number,
         book,
         day,
         codes: body_of(alloc, codes.as_bytes())?,
-    })
+    };
+    Ok(orders.push(row)?)
 }
 
 fn draft_name(alloc: Global, number: u64) -> Result<Text, Memory> {
