@@ -1,21 +1,22 @@
 //! Goes through the sections of a text of cases, and does the runs of each case.
 
-use crate::case::{Case, Inputs};
-use crate::named_text::NamedText;
-use crate::outcome::{outcome_of, put_outcome};
-use crate::piece::{put_lines, put_piece};
+use crate::case::Case;
+use crate::line::put_lines;
+use crate::named_text::{NamedText, has_name};
+use crate::piece::put_piece;
+use crate::report::Report;
 use crate::rows::{no_rows, put_row, rows_of};
+use crate::runs::put_runs;
 use crate::said::{Goal, Said, said_by};
 use crate::section::{Section, sections_of};
-use crate::series::put_series;
 use keeper::{MemoryKeeper, Rows};
 use pb_base::{Memory, Text};
 use std::alloc::Global;
 use std::mem;
 
-// What was read so far, and what is to be answered to it.
+/// What was read of the cases so far, and what is to be told of them.
 #[derive(Drop)]
-struct Bench<'a> {
+pub struct Bench<'a> {
     alloc: Global,
     texts: Vec<NamedText<'a>>,
     case: Case<'a>,
@@ -24,170 +25,129 @@ struct Bench<'a> {
     goal: Option<Goal<'a>>,
     /// What the sink took in the last run.
     taken: Vec<u8>,
-    /// What the store of the last run has.
+    /// What the store of the last case has.
     kept: Rows,
     /// What the store of the case has before its first run.
     rows: Rows,
-    answers: Text,
-}
-
-/// What came out of the runs of all cases.
-pub fn answers_to(alloc: Global, cases: &str) -> Result<Text, Memory> {
-    let mut bench = Bench {
-        alloc,
-        texts: Vec::new(alloc),
-        case: Case::new(alloc),
-        written: Text::new(alloc),
-        goal: None,
-        taken: Vec::new(alloc),
-        kept: no_rows(alloc),
-        rows: no_rows(alloc),
-        answers: Text::new(alloc),
-    };
-    let sections = sections_of(alloc, cases)?;
-    for section in &sections {
-        bench.take(section)?;
-    }
-    bench.end_case()?;
-    Ok(bench.answers)
+    report: Report<'a>,
 }
 
 impl<'a> Bench<'a> {
-    fn take(&mut self, section: &Section<'a>) -> Result<(), Memory> {
-        if section.opens_case {
-            self.end_case()?;
-            self.case = Case::new(self.alloc);
-            self.rows = no_rows(self.alloc);
-            return self.put_line("=== ", section.head);
-        }
-        match said_by(section.head) {
-            Some(said) => self.take_said(said, &section.lines),
-            None => self.put_line("of no form: ", section.head),
+    /// Nothing is read yet. One case alone is to be told of where its name is given.
+    pub fn new(alloc: Global, only: Option<&'a str>) -> Bench<'a> {
+        Bench {
+            alloc,
+            texts: Vec::new(alloc),
+            case: Case::new(alloc, ""),
+            written: Text::new(alloc),
+            goal: None,
+            taken: Vec::new(alloc),
+            kept: no_rows(alloc),
+            rows: no_rows(alloc),
+            report: Report::new(alloc, only),
         }
     }
 
-    fn take_said(&mut self, said: Said<'a>, lines: &[&'a str]) -> Result<(), Memory> {
+    /// Does all cases of a text, also where one alone is told of, since it may take up what those before it leave.
+    pub fn take_cases(&mut self, cases: &'a str) -> Result<(), Memory> {
+        let sections = sections_of(self.alloc, cases)?;
+        self.take_all(&sections)
+    }
+
+    /// What is told of the cases.
+    pub fn report(&self) -> &Report<'a> {
+        &self.report
+    }
+
+    fn take_all(&mut self, sections: &[Section<'a>]) -> Result<(), Memory> {
+        for section in sections {
+            self.take(section)?;
+        }
+        self.end_case()?;
+        self.report.put_end()
+    }
+
+    fn take(&mut self, section: &Section<'a>) -> Result<(), Memory> {
+        if section.opens_case {
+            return self.open_case(section.head);
+        }
+        match said_by(section.head) {
+            Some(said) => self.take_said(&said, &section.lines),
+            None => Ok(self.case.wrong.push(section.head)?),
+        }
+    }
+
+    fn open_case(&mut self, name: &'a str) -> Result<(), Memory> {
+        self.end_case()?;
+        self.case = Case::new(self.alloc, name);
+        self.rows = no_rows(self.alloc);
+        Ok(())
+    }
+
+    fn take_said(&mut self, said: &Said<'a>, lines: &[&'a str]) -> Result<(), Memory> {
         match said {
-            Said::Begins(goal) => {
-                self.end_text()?;
-                self.goal = Some(goal);
-                put_lines(&mut self.written, lines)
-            }
+            Said::Begins(goal) => self.begin_text(*goal, lines),
             Said::Piece(piece) => put_piece(
                 self.alloc,
                 &mut self.written,
-                &piece,
+                piece,
                 lines,
                 &self.texts,
                 &self.taken,
             ),
-            Said::Words => {
-                self.case.runs.extend_from_slice(lines)?;
-                Ok(())
-            }
-            Said::Fails(object, numbers) => self.case.fail(object, numbers),
-            Said::Pieces(lengths) => self.case.part(lengths),
-            Said::Room(room) => {
-                self.case.room = room;
-                Ok(())
-            }
-            Said::Shown(count) => {
-                self.case.shown = count;
-                Ok(())
-            }
-            Said::AnySet => {
-                self.case.shows_sets = false;
-                Ok(())
-            }
-            Said::AnyRest => {
-                self.case.shows_rest = false;
-                Ok(())
-            }
-            Said::CutEverywhere => {
-                self.case.inputs = Inputs::CutEverywhere;
-                Ok(())
-            }
-            Said::EndedEverywhere => {
-                self.case.inputs = Inputs::EndedEverywhere;
-                Ok(())
-            }
+            Said::Words => Ok(self.case.runs.extend_from_slice(lines)?),
+            Said::Comes => put_lines(&mut self.case.comes, lines),
             Said::KeptStore => {
                 self.rows = mem::replace(&mut self.kept, no_rows(self.alloc));
                 Ok(())
             }
-            Said::Row(row) => put_row(self.alloc, &mut self.rows, &row, &self.texts),
+            Said::Row(row) => put_row(self.alloc, &mut self.rows, row, &self.texts),
+            Said::Set(setting) => self.case.set(setting),
         }
+    }
+
+    fn begin_text(&mut self, goal: Goal<'a>, lines: &[&'a str]) -> Result<(), Memory> {
+        self.end_text()?;
+        self.goal = Some(goal);
+        put_lines(&mut self.written, lines)
     }
 
     // Hands the text that is being written to what it is for.
     fn end_text(&mut self) -> Result<(), Memory> {
         let text = mem::replace(&mut self.written, Text::new(self.alloc));
         match self.goal.take() {
-            Some(Goal::Named(name)) => self.texts.push(NamedText { name, text })?,
-            Some(Goal::Input) => self.case.input = text,
-            Some(Goal::File(name)) => self.case.files.push(NamedText { name, text })?,
-            None => {}
+            Some(Goal::Named(name)) => self.end_named(name, text),
+            Some(Goal::Input) => {
+                self.case.input = text;
+                Ok(())
+            }
+            Some(Goal::File(name)) => Ok(self.case.files.push(NamedText { name, text })?),
+            None => Ok(()),
         }
-        Ok(())
     }
 
-    // Does the runs of the case, and answers what came out of them.
+    fn end_named(&mut self, name: &'a str, text: Text) -> Result<(), Memory> {
+        if has_name(&self.texts, name) {
+            return Ok(self.case.wrong.push(name)?);
+        }
+        Ok(self.texts.push(NamedText { name, text })?)
+    }
+
+    // Does the runs of the case, and tells of what came out of them.
     fn end_case(&mut self) -> Result<(), Memory> {
         self.end_text()?;
+        if self.case.is_blank() {
+            return Ok(());
+        }
         let rows = mem::replace(&mut self.rows, no_rows(self.alloc));
-        let left = put_runs(self.alloc, &mut self.answers, &self.case, rows)?;
-        if let Some(left) = left {
-            self.taken = left.taken;
-            self.kept = left.rows;
-        }
-        Ok(())
+        let mut store = MemoryKeeper::new(rows, Vec::new(self.alloc));
+        let mut came = Text::new(self.alloc);
+        self.run_case(&mut store, &mut came)
     }
 
-    fn put_line(&mut self, front: &str, line: &str) -> Result<(), Memory> {
-        self.answers.put(front.as_bytes())?;
-        self.answers.put(line.as_bytes())?;
-        self.answers.put(b"\n")
+    fn run_case(&mut self, store: &mut MemoryKeeper, came: &mut Text) -> Result<(), Memory> {
+        put_runs(self.alloc, came, &self.case, store, &mut self.taken)?;
+        self.kept = rows_of(self.alloc, store)?;
+        self.report.put_case(&self.case, came.bytes())
     }
-}
-
-// What the last run of a case leaves: what its sink took, and the rows of its store.
-#[derive(Drop)]
-struct Left {
-    taken: Vec<u8>,
-    rows: Rows,
-}
-
-// Does the runs of a case, each over the rows that the one before it left, puts what came out of them behind a text, and gives
-// what the last one leaves.
-fn put_runs(
-    alloc: Global,
-    text: &mut Text,
-    case: &Case<'_>,
-    rows: Rows,
-) -> Result<Option<Left>, Memory> {
-    let mut store = MemoryKeeper::new(rows, Vec::new(alloc));
-    let mut taken = None;
-    for line in &case.runs {
-        put_words(text, line)?;
-        if case.inputs != Inputs::Whole {
-            put_series(alloc, text, case, line, &mut store)?;
-            continue;
-        }
-        let input = case.input.bytes();
-        let outcome = outcome_of(alloc, case, line, input, &case.pieces, &mut store)?;
-        put_outcome(text, case, &outcome)?;
-        taken = Some(outcome.taken().to_vec(alloc)?);
-        store = MemoryKeeper::new(outcome.into_rows(), Vec::new(alloc));
-    }
-    let Some(taken) = taken else {
-        return Ok(None);
-    };
-    let rows = rows_of(alloc, &mut store)?;
-    Ok(Some(Left { taken, rows }))
-}
-
-fn put_words(text: &mut Text, line: &str) -> Result<(), Memory> {
-    text.put(b"$ ")?;
-    text.put(line.as_bytes())?;
-    text.put(b"\n")
 }

@@ -1,16 +1,23 @@
 //! What is said of a case.
 
 use crate::named_text::NamedText;
-use crate::said::{Object, number_in};
+use crate::said::number_in;
+use crate::setting::{Object, Setting};
 use pb_base::{Memory, Text};
 use std::alloc::Global;
 
 // Room for whatever a run writes.
 const AMPLE_ROOM: u64 = 1_000_000;
 
-/// What is said of a case: what its runs are handed, and what of them is shown.
+/// What is said of a case: what its runs are handed, what of them is shown, and what has to come out.
 #[derive(Drop)]
 pub struct Case<'a> {
+    /// Empty before the first case, where only texts stand.
+    pub name: &'a str,
+    /// The heads that are of no form, and the names of its texts that another text has.
+    pub wrong: Vec<&'a str>,
+    /// What has to come out. A case that says nothing of it is never as it says.
+    pub comes: Text,
     /// The words of each run, in a line.
     pub runs: Vec<&'a str>,
     pub input: Text,
@@ -25,7 +32,7 @@ pub struct Case<'a> {
     pub shown: u64,
     /// Whether the sets of findings are shown.
     pub shows_sets: bool,
-    /// Whether it is shown how much of the input was left unread.
+    /// Whether it is shown how much of the input was left wrong.
     pub shows_rest: bool,
     pub inputs: Inputs,
 }
@@ -43,8 +50,11 @@ pub enum Inputs {
 
 impl<'a> Case<'a> {
     /// No run yet, over an empty input, no files, and a sink with ample room, of which no call fails.
-    pub fn new(alloc: Global) -> Case<'a> {
+    pub fn new(alloc: Global, name: &'a str) -> Case<'a> {
         Case {
+            name,
+            wrong: Vec::new(alloc),
+            comes: Text::new(alloc),
             runs: Vec::new(alloc),
             input: Text::new(alloc),
             pieces: Vec::new(alloc),
@@ -61,8 +71,36 @@ impl<'a> Case<'a> {
         }
     }
 
-    /// Has calls of an object fail.
-    pub fn fail(&mut self, object: Object, numbers: &str) -> Result<(), Memory> {
+    /// Whether it says nothing but texts.
+    pub fn is_blank(&self) -> bool {
+        self.name.is_empty()
+            && self.runs.is_empty()
+            && self.wrong.is_empty()
+            && self.comes.bytes().is_empty()
+    }
+
+    /// Whether this is what it says of what has to come out.
+    pub fn says(&self, came: &[u8]) -> bool {
+        self.wrong.is_empty() && !came.is_empty() && self.comes.bytes() == came
+    }
+
+    /// Takes what holds for all its runs.
+    pub fn set(&mut self, setting: &Setting<'_>) -> Result<(), Memory> {
+        match setting {
+            Setting::Fails(object, numbers) => return self.fail(*object, numbers),
+            Setting::Pieces(lengths) => return self.part(lengths),
+            Setting::Room(room) => self.room = *room,
+            Setting::Shown(count) => self.shown = *count,
+            Setting::AnySet => self.shows_sets = false,
+            Setting::AnyRest => self.shows_rest = false,
+            Setting::CutEverywhere => self.inputs = Inputs::CutEverywhere,
+            Setting::EndedEverywhere => self.inputs = Inputs::EndedEverywhere,
+        }
+        Ok(())
+    }
+
+    // Has calls of an object fail.
+    fn fail(&mut self, object: Object, numbers: &str) -> Result<(), Memory> {
         match object {
             Object::Source => put_numbers(&mut self.source_fails, numbers),
             Object::Files => put_numbers(&mut self.files_fails, numbers),
@@ -71,8 +109,8 @@ impl<'a> Case<'a> {
         }
     }
 
-    /// Has the source give its bytes in pieces.
-    pub fn part(&mut self, lengths: &str) -> Result<(), Memory> {
+    // Has the source give its bytes in pieces.
+    fn part(&mut self, lengths: &str) -> Result<(), Memory> {
         for word in lengths.split(' ') {
             if let Some(length) = number_in(word) {
                 self.pieces.push(length as usize)?;

@@ -18,3 +18,8 @@ pub fn text_of<'t>(texts: &'t [NamedText<'_>], name: &str) -> &'t [u8] {
     }
     b""
 }
+
+/// Whether a text has this name.
+pub fn has_name(texts: &[NamedText<'_>], name: &str) -> bool {
+    texts.iter().any(|named| named.name == name)
+}

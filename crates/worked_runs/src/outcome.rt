@@ -1,33 +1,25 @@
 //! A run of a case, and what came out of it.
 
 use crate::case::Case;
-use crate::escape::{put_shown, put_unescaped};
-use crate::named_text::NamedText;
+use crate::escape::put_shown;
 use crate::note_line::put_note;
+use crate::outside::{Outside, bytes_left, outside_of};
 use crate::rows::{put_rows_line, rows_of};
-use commands::{RunEnd, RunLog, run_given};
+use crate::run_words::words_of;
+use commands::{Note, RunEnd, run_given};
 use keeper::{Keeper, MemoryKeeper, Rows};
 use pb_base::{Memory, Text};
 use pb_gate::NoGate;
-use pb_outside::{
-    Files, MemoryFiles, MemorySink, MemorySource, NamedFile, OutError, Sink, Source, read_up_to,
-};
+use pb_outside::{Files, Sink, Source};
 use std::alloc::Global;
-use std::io;
 
-// More than any source has left.
-const ALL: usize = 100_000_000;
-
-/// What came out of a run: its status, what the sink took, the log, the counts of faults of source, files, sink and keeper, how
-/// many bytes of the input were left unread, and the rows of the store.
+/// What came out of a run: its status, how often its keeper failed, the rows of the store, and how what it was handed is left.
 #[derive(Drop)]
 pub struct Outcome {
     status: u8,
-    taken: Vec<u8>,
-    log: RunLog,
-    faults: [u64; 4],
-    left: usize,
+    keeper_faults: u64,
     rows: Rows,
+    outside: Outside,
 }
 
 /// Does a run of the case with the words of this line, on this input in these pieces, over the rows of the store.
@@ -39,100 +31,72 @@ pub fn outcome_of(
     pieces: &[usize],
     store: &mut MemoryKeeper,
 ) -> Result<Outcome, Memory> {
-    let input = input.to_vec(alloc)?;
-    let pieces = pieces.to_vec(alloc)?;
-    let mut source = MemorySource::new(input, pieces, case.source_fails.to_vec(alloc)?);
-    let files = files_of(alloc, &case.files)?;
-    let mut files = MemoryFiles::new(files, case.files_fails.to_vec(alloc)?);
-    let fails = case.sink_fails.to_vec(alloc)?;
-    let mut sink = MemorySink::new(alloc, case.room as usize, fails)?;
-    let mut log = RunLog::new(alloc);
+    let mut outside = outside_of(alloc, case, input, pieces)?;
+    let end = end_of(alloc, case, line, &mut outside, store)?;
+    outcome_from(alloc, outside, end)
+}
+
+fn end_of(
+    alloc: Global,
+    case: &Case<'_>,
+    line: &str,
+    outside: &mut Outside,
+    store: &mut MemoryKeeper,
+) -> Result<RunEnd<MemoryKeeper>, Memory> {
     let words = words_of(alloc, line)?;
-    let rows = rows_of(alloc, store)?;
-    let keeper = MemoryKeeper::new(rows, case.keeper_fails.to_vec(alloc)?);
-    let end = run_given(
+    let keeper = keeper_of(alloc, case, store)?;
+    Ok(run_given(
         alloc,
         words,
-        &mut source,
-        &mut sink,
-        &mut files,
+        &mut outside.source,
+        &mut outside.sink,
+        &mut outside.files,
         keeper,
         &NoGate,
-        &mut log,
-    );
+        &mut outside.log,
+    ))
+}
+
+fn keeper_of(
+    alloc: Global,
+    case: &Case<'_>,
+    store: &mut MemoryKeeper,
+) -> Result<MemoryKeeper, Memory> {
+    let fails = case.keeper_fails.to_vec(alloc)?;
+    let rows = rows_of(alloc, store)?;
+    Ok(MemoryKeeper::new(rows, fails))
+}
+
+fn outcome_from(
+    alloc: Global,
+    outside: Outside,
+    end: RunEnd<MemoryKeeper>,
+) -> Result<Outcome, Memory> {
     let RunEnd { status, mut keeper } = end;
-    let faults = [
-        source.read_faults(),
-        files.faults(),
-        sink.write_faults(),
-        keeper.faults(),
-    ];
-    let rows = rows_of(alloc, &mut keeper)?;
-    let taken = sink.taken().to_vec(alloc)?;
-    let left = bytes_left(alloc, &mut source)?;
     Ok(Outcome {
         status,
-        taken,
-        log,
-        faults,
-        left,
-        rows,
+        keeper_faults: keeper.faults(),
+        rows: rows_of(alloc, &mut keeper)?,
+        outside,
     })
 }
 
-// The words of a line, as a system gives them: words that are no text can't be given.
-fn words_of(alloc: Global, line: &str) -> Result<io::Result<Vec<String>>, Memory> {
-    let mut words = Vec::new(alloc);
-    if line.is_empty() {
-        return Ok(Ok(words));
-    }
-    for word in line.split(' ') {
-        let mut bytes = Text::new(alloc);
-        put_unescaped(&mut bytes, word)?;
-        let Ok(word) = str::from_utf8(bytes.bytes()) else {
-            return Ok(Err(io::Error::from(io::ErrorKind::InvalidData)));
-        };
-        words.push(String::from_str(alloc, word)?)?;
-    }
-    Ok(Ok(words))
-}
-
-fn files_of(alloc: Global, files: &[NamedText<'_>]) -> Result<Vec<NamedFile>, Memory> {
-    let mut copies = Vec::new(alloc);
-    for file in files {
-        copies.push(NamedFile {
-            name: String::from_str(alloc, file.name)?,
-            content: file.text.bytes().to_vec(alloc)?,
-        })?;
-    }
-    Ok(copies)
-}
-
-fn bytes_left(alloc: Global, source: &mut MemorySource) -> Result<usize, Memory> {
-    match read_up_to(alloc, source, ALL) {
-        Ok(rest) => Ok(rest.len()),
-        Err(OutError::Failed) => Ok(0),
-        Err(OutError::Memory) => Err(Memory),
-    }
-}
-
-/// Puts what came out of a run of the case behind a text.
-pub fn put_outcome(text: &mut Text, case: &Case<'_>, outcome: &Outcome) -> Result<(), Memory> {
+/// Puts what came out of a run of the case behind a text. What is left of the input is read by this.
+pub fn put_outcome(
+    alloc: Global,
+    text: &mut Text,
+    case: &Case<'_>,
+    outcome: &mut Outcome,
+) -> Result<(), Memory> {
     let taken = outcome.taken();
-    put_taken(
-        text,
-        case,
-        taken.get(..case.shown as usize).unwrap_or(taken),
-    )?;
-    for note in outcome.log.notes() {
-        put_note(text, note)?;
-    }
-    text.put(b"status ")?;
-    text.put_number(u64::from(outcome.status))?;
-    text.put(b"\n")?;
-    put_faults(text, &outcome.faults)?;
+    let shown = taken.get(..case.shown as usize).unwrap_or(taken);
+    put_taken(text, case, shown)?;
+    put_notes(text, outcome.outside.log.notes())?;
+    put_status(text, outcome.status)?;
+    put_faults(text, &outcome.faults())?;
+    let left = bytes_left(alloc, &mut outcome.outside.source)?;
     if case.shows_rest {
-        put_left(text, outcome.left)?;
+        put_count(text, "left ", left as u64)?;
     }
     put_rows_line(text, &outcome.rows)
 }
@@ -140,22 +104,49 @@ pub fn put_outcome(text: &mut Text, case: &Case<'_>, outcome: &Outcome) -> Resul
 impl Outcome {
     /// What the sink took.
     pub fn taken(&self) -> &[u8] {
-        &self.taken
+        self.outside.sink.taken()
     }
 
     /// The rows of the store.
     pub fn into_rows(self) -> Rows {
         self.rows
     }
+
+    // How often source, files, sink and keeper failed.
+    fn faults(&self) -> [u64; 4] {
+        [
+            self.outside.source.read_faults(),
+            self.outside.files.faults(),
+            self.outside.sink.write_faults(),
+            self.keeper_faults,
+        ]
+    }
+}
+
+fn put_notes(text: &mut Text, notes: &[Note]) -> Result<(), Memory> {
+    for note in notes {
+        put_note(text, note)?;
+    }
+    Ok(())
+}
+
+fn put_status(text: &mut Text, status: u8) -> Result<(), Memory> {
+    text.put(b"status ")?;
+    text.put_number(u64::from(status))?;
+    text.put(b"\n")
 }
 
 fn put_taken(text: &mut Text, case: &Case<'_>, taken: &[u8]) -> Result<(), Memory> {
     if case.shows_sets {
         return put_shown(text, taken);
     }
-    let Ok(report) = str::from_utf8(taken) else {
-        return put_shown(text, taken);
-    };
+    match str::from_utf8(taken) {
+        Ok(report) => put_without_sets(text, report),
+        Err(_) => put_shown(text, taken),
+    }
+}
+
+fn put_without_sets(text: &mut Text, report: &str) -> Result<(), Memory> {
     for line in report.strip_suffix("\n").unwrap_or(report).split('\n') {
         let (found, shown_by) = line.split_once(" with ").unwrap_or((line, ""));
         text.put(found.as_bytes())?;
@@ -170,27 +161,18 @@ fn put_taken(text: &mut Text, case: &Case<'_>, taken: &[u8]) -> Result<(), Memor
 
 fn put_faults(text: &mut Text, faults: &[u64; 4]) -> Result<(), Memory> {
     let [source, files, sink, keeper] = *faults;
-    for (name, count) in [
-        ("source", source),
-        ("files", files),
-        ("sink", sink),
-        ("keeper", keeper),
-    ] {
-        if count > 0 {
-            text.put(name.as_bytes())?;
-            text.put(b" failed ")?;
-            text.put_number(count)?;
-            text.put(b"\n")?;
-        }
-    }
-    Ok(())
+    put_count(text, "source failed ", source)?;
+    put_count(text, "files failed ", files)?;
+    put_count(text, "sink failed ", sink)?;
+    put_count(text, "keeper failed ", keeper)
 }
 
-fn put_left(text: &mut Text, left: usize) -> Result<(), Memory> {
-    if left == 0 {
+// Puts a line with this front and a count, where the count isn't 0.
+fn put_count(text: &mut Text, front: &str, count: u64) -> Result<(), Memory> {
+    if count == 0 {
         return Ok(());
     }
-    text.put(b"left ")?;
-    text.put_number(left as u64)?;
+    text.put(front.as_bytes())?;
+    text.put_number(count)?;
     text.put(b"\n")
 }

@@ -1,6 +1,7 @@
 //! The pieces of a text.
 
 use crate::escape::put_unescaped;
+use crate::line::{put_line, put_lines};
 use crate::named_text::{NamedText, text_of};
 use crate::request::{Request, put_request};
 use crate::said::{cut, number_in};
@@ -8,7 +9,7 @@ use pb_base::{Memory, Text};
 use std::alloc::Global;
 
 /// A piece of a text, which the section's lines make as it says.
-#[derive(Drop)]
+#[derive(Clone, Copy)]
 pub enum Piece<'a> {
     /// The lines, each with LF behind it.
     Lines,
@@ -54,10 +55,7 @@ pub fn put_piece(
             }
             Ok(())
         }
-        Piece::Fill { times, byte } => {
-            let filling = vec![in alloc; *byte; *times as usize]?;
-            text.put(&filling)
-        }
+        Piece::Fill { times, byte } => put_filling(alloc, text, *byte, *times as usize),
         Piece::All(name) => text.put(text_of(texts, name)),
         Piece::Front(name, count) => put_front(text, text_of(texts, name), *count),
         Piece::With(name) => put_with(text, text_of(texts, name), lines),
@@ -67,19 +65,6 @@ pub fn put_piece(
             put_request(alloc, text, request, body, lines)
         }
     }
-}
-
-fn put_line(text: &mut Text, line: &[u8]) -> Result<(), Memory> {
-    text.put(line)?;
-    text.put(b"\n")
-}
-
-/// Puts lines behind a text, each with LF behind it.
-pub fn put_lines(text: &mut Text, lines: &[&str]) -> Result<(), Memory> {
-    for line in lines {
-        put_line(text, line.as_bytes())?;
-    }
-    Ok(())
 }
 
 fn put_crlf_lines(text: &mut Text, lines: &[&str]) -> Result<(), Memory> {
@@ -105,6 +90,11 @@ fn put_bytes(text: &mut Text, lines: &[&str]) -> Result<(), Memory> {
         put_unescaped(text, line)?;
     }
     Ok(())
+}
+
+fn put_filling(alloc: Global, text: &mut Text, byte: u8, times: usize) -> Result<(), Memory> {
+    let filling = vec![in alloc; byte; times]?;
+    text.put(&filling)
 }
 
 fn put_rows(text: &mut Text, lines: &[&str], number: u64, parts: u64) -> Result<(), Memory> {
@@ -137,6 +127,10 @@ fn put_with(text: &mut Text, other: &[u8], lines: &[&str]) -> Result<(), Memory>
             put_line(text, own)?;
         }
     }
+    put_added(text, lines)
+}
+
+fn put_added(text: &mut Text, lines: &[&str]) -> Result<(), Memory> {
     for line in lines {
         if let Some(added) = line.strip_prefix("+ ") {
             put_line(text, added.as_bytes())?;

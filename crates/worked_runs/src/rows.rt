@@ -8,7 +8,7 @@ use pb_outside::OutError;
 use std::alloc::Global;
 
 /// A row of a store, or its form. Texts are named.
-#[derive(Drop)]
+#[derive(Clone, Copy)]
 pub enum Row<'a> {
     Form(u64),
     Draft {
@@ -122,7 +122,10 @@ pub fn put_row(
     texts: &[NamedText<'_>],
 ) -> Result<(), Memory> {
     match row {
-        Row::Form(form) => rows.form = *form,
+        Row::Form(form) => {
+            rows.form = *form;
+            Ok(())
+        }
         Row::Draft {
             name,
             owner,
@@ -130,15 +133,10 @@ pub fn put_row(
             text,
         } => {
             let text = text_of(texts, text);
-            rows.drafts
-                .push(draft_row(alloc, name.as_bytes(), owner, *revision, text)?)?;
+            put_draft(alloc, &mut rows.drafts, name, owner, *revision, text)
         }
         Row::Drafts { from, until, owner } => {
-            for number in *from..*until {
-                let name = draft_name(alloc, number)?;
-                rows.drafts
-                    .push(draft_row(alloc, name.bytes(), owner, 1, b"")?)?;
-            }
+            put_drafts(alloc, &mut rows.drafts, *from, *until, owner)
         }
         Row::Book {
             number,
@@ -146,29 +144,58 @@ pub fn put_row(
             revision,
             text,
             cert,
-        } => rows.books.push(BookRow {
-            number: *number,
-            draft: body_of(alloc, draft.as_bytes())?,
-            revision: *revision,
-            text: body_of(alloc, text_of(texts, text))?,
-            cert: body_of(alloc, text_of(texts, cert))?,
-        })?,
+        } => {
+            let text = text_of(texts, text);
+            let cert = text_of(texts, cert);
+            put_book(
+                alloc,
+                &mut rows.books,
+                *number,
+                draft,
+                *revision,
+                text,
+                cert,
+            )
+        }
         Row::Order {
             caller,
             number,
             book,
             day,
             codes,
-        } => rows.orders.push(OrderRow {
-            caller: body_of(alloc, caller.as_bytes())?,
-            number: *number,
-            book: *book,
-            day: *day,
-            codes: body_of(alloc, codes.as_bytes())?,
-        })?,
-        Row::Withdrawn(number) => rows.withdrawn.push(*number)?,
+        } => put_order(alloc, &mut rows.orders, caller, *number, *book, *day, codes),
+        Row::Withdrawn(number) => Ok(rows.withdrawn.push(*number)?),
+    }
+}
+
+fn put_draft(
+    alloc: Global,
+    drafts: &mut Vec<DraftRow>,
+    name: &str,
+    owner: &str,
+    revision: u64,
+    text: &[u8],
+) -> Result<(), Memory> {
+    let row = draft_row(alloc, name.as_bytes(), owner, revision, text)?;
+    Ok(drafts.push(row)?)
+}
+
+fn put_drafts(
+    alloc: Global,
+    drafts: &mut Vec<DraftRow>,
+    from: u64,
+    until: u64,
+    owner: &str,
+) -> Result<(), Memory> {
+    for number in from..until {
+        drafts.push(numbered_row(alloc, number, owner)?)?;
     }
     Ok(())
+}
+
+fn numbered_row(alloc: Global, number: u64, owner: &str) -> Result<DraftRow, Memory> {
+    let name = draft_name(alloc, number)?;
+    draft_row(alloc, name.bytes(), owner, 1, b"")
 }
 
 fn draft_row(
@@ -184,6 +211,44 @@ fn draft_row(
         revision,
         text: body_of(alloc, text)?,
     })
+}
+
+fn put_book(
+    alloc: Global,
+    books: &mut Vec<BookRow>,
+    number: u64,
+    draft: &str,
+    revision: u64,
+    text: &[u8],
+    cert: &[u8],
+) -> Result<(), Memory> {
+    let row = BookRow {
+        number,
+        draft: body_of(alloc, draft.as_bytes())?,
+        revision,
+        text: body_of(alloc, text)?,
+        cert: body_of(alloc, cert)?,
+    };
+    Ok(books.push(row)?)
+}
+
+fn put_order(
+    alloc: Global,
+    orders: &mut Vec<OrderRow>,
+    caller: &str,
+    number: u64,
+    book: u64,
+    day: u64,
+    codes: &str,
+) -> Result<(), Memory> {
+    let row = OrderRow {
+        caller: body_of(alloc, caller.as_bytes())?,
+        number,
+        book,
+        day,
+        codes: body_of(alloc, codes.as_bytes())?,
+    };
+    Ok(orders.push(row)?)
 }
 
 fn draft_name(alloc: Global, number: u64) -> Result<Text, Memory> {

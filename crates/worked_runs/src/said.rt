@@ -3,10 +3,11 @@
 use crate::piece::Piece;
 use crate::request::Request;
 use crate::rows::{Row, row_in};
+use crate::setting::{Setting, setting_in};
 use pb_base::number_within;
 
 /// What the head of a section says.
-#[derive(Drop)]
+#[derive(Clone, Copy)]
 pub enum Said<'a> {
     /// Here begins a text that the section's lines and the pieces behind it make.
     Begins(Goal<'a>),
@@ -14,26 +15,14 @@ pub enum Said<'a> {
     Piece(Piece<'a>),
     /// Each line has the words of a run.
     Words,
-    /// The calls of these numbers on this object fail, counted from 0.
-    Fails(Object, &'a str),
-    /// The source gives its bytes in pieces of these lengths, and then as many as it may.
-    Pieces(&'a str),
-    /// The sink has room for so many bytes.
-    Room(u64),
-    /// Only so many bytes of what the sink took are shown.
-    Shown(u64),
-    /// Any good set may stand behind a finding, so it isn't shown.
-    AnySet,
-    /// How much of the input is left unread isn't shown.
-    AnyRest,
+    /// The lines are what has to come out.
+    Comes,
     /// The store has what the last case left in it.
     KeptStore,
     /// A row of the store, or its form.
     Row(Row<'a>),
-    /// Each run is made once for each place at which the input can be cut in two.
-    CutEverywhere,
-    /// Each run is made once for each front of the input.
-    EndedEverywhere,
+    /// Something holds for all runs of the case.
+    Set(Setting<'a>),
 }
 
 /// What a text is for.
@@ -47,15 +36,6 @@ pub enum Goal<'a> {
     File(&'a str),
 }
 
-/// An object that is handed to a run.
-#[derive(Clone, Copy)]
-pub enum Object {
-    Source,
-    Files,
-    Sink,
-    Keeper,
-}
-
 /// What a head says, or None where it is of no form.
 pub fn said_by(head: &str) -> Option<Said<'_>> {
     let (key, rest) = cut(head);
@@ -64,36 +44,20 @@ pub fn said_by(head: &str) -> Option<Said<'_>> {
         "input" => Some(Said::Begins(Goal::Input)),
         "file" => Some(Said::Begins(Goal::File(rest))),
         "words" => Some(Said::Words),
-        "fails" => fails_in(rest),
-        "pieces" => Some(Said::Pieces(rest)),
-        "room" => Some(Said::Room(number_in(rest)?)),
-        "shown" => Some(Said::Shown(number_in(rest)?)),
-        "any_set" => Some(Said::AnySet),
-        "any_rest" => Some(Said::AnyRest),
+        "comes" => Some(Said::Comes),
         "kept_store" => Some(Said::KeptStore),
-        "cut_everywhere" => Some(Said::CutEverywhere),
-        "ended_everywhere" => Some(Said::EndedEverywhere),
-        _ => row_or_piece_in(key, rest),
+        _ => row_or_setting_in(key, rest),
     }
 }
 
-fn row_or_piece_in<'a>(key: &str, rest: &'a str) -> Option<Said<'a>> {
-    match row_in(key, rest) {
-        Some(row) => Some(Said::Row(row)),
+fn row_or_setting_in<'a>(key: &str, rest: &'a str) -> Option<Said<'a>> {
+    if let Some(row) = row_in(key, rest) {
+        return Some(Said::Row(row));
+    }
+    match setting_in(key, rest) {
+        Some(setting) => Some(Said::Set(setting)),
         None => Some(Said::Piece(piece_in(key, rest)?)),
     }
-}
-
-fn fails_in(rest: &str) -> Option<Said<'_>> {
-    let (object, numbers) = cut(rest);
-    let object = match object {
-        "source" => Object::Source,
-        "files" => Object::Files,
-        "sink" => Object::Sink,
-        "keeper" => Object::Keeper,
-        _ => return None,
-    };
-    Some(Said::Fails(object, numbers))
 }
 
 fn piece_in<'a>(key: &str, rest: &'a str) -> Option<Piece<'a>> {

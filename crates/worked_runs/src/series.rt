@@ -15,23 +15,52 @@ pub fn put_series(
     line: &str,
     store: &mut MemoryKeeper,
 ) -> Result<(), Memory> {
-    let whole = case.input.bytes();
     let mut last = Text::new(alloc);
-    for place in 0..=whole.len() {
-        let input = match case.inputs {
-            Inputs::EndedEverywhere => whole.get(..place).unwrap_or(whole),
-            _ => whole,
-        };
-        let outcome = outcome_of(alloc, case, line, input, &[place], store)?;
-        let mut told = Text::new(alloc);
-        put_outcome(&mut told, case, &outcome)?;
-        if told.bytes() != last.bytes() {
-            text.put(b"from ")?;
-            text.put_number(place as u64)?;
-            text.put(b"\n")?;
-            text.put(told.bytes())?;
-            last = told;
-        }
+    for place in 0..=case.input.bytes().len() {
+        put_place(alloc, text, case, line, store, place, &mut last)?;
     }
     Ok(())
+}
+
+// Does the run for this place, and puts what came out where it is other than the last.
+fn put_place(
+    alloc: Global,
+    text: &mut Text,
+    case: &Case<'_>,
+    line: &str,
+    store: &mut MemoryKeeper,
+    place: usize,
+    last: &mut Text,
+) -> Result<(), Memory> {
+    let mut told = Text::new(alloc);
+    put_run_at(alloc, &mut told, case, line, store, place)?;
+    if told.bytes() != last.bytes() {
+        put_from(text, place as u64, told.bytes())?;
+        *last = told;
+    }
+    Ok(())
+}
+
+fn put_run_at(
+    alloc: Global,
+    text: &mut Text,
+    case: &Case<'_>,
+    line: &str,
+    store: &mut MemoryKeeper,
+    place: usize,
+) -> Result<(), Memory> {
+    let whole = case.input.bytes();
+    let input = match case.inputs {
+        Inputs::EndedEverywhere => whole.get(..place).unwrap_or(whole),
+        _ => whole,
+    };
+    let mut outcome = outcome_of(alloc, case, line, input, &[place], store)?;
+    put_outcome(alloc, text, case, &mut outcome)
+}
+
+fn put_from(text: &mut Text, place: u64, told: &[u8]) -> Result<(), Memory> {
+    text.put(b"from ")?;
+    text.put_number(place)?;
+    text.put(b"\n")?;
+    text.put(told)
 }
