@@ -1,6 +1,8 @@
-//! Tests of the crates below a book's text, of what no contract says: that memory is ample, how rules are printed, and what goes to the system.
+//! Tests of what no contract of the lower crates says: that memory is ample, how rules are printed, what goes to the system, and that both bodies of completing agree.
 #![tactic(auto)]
 
+#[cfg(test)]
+mod completing;
 #[cfg(test)]
 mod formulas;
 #[cfg(test)]
