@@ -20,6 +20,3 @@ pub use groups::VariantGroups;
 pub use places::Places;
 pub use record::{Construct, Module, Position, Slice, Supplement, Variant};
 pub use slicing::{LimitFault, SliceList, slices};
-
-#[cfg(test)]
-mod tests;

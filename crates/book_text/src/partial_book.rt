@@ -26,13 +26,39 @@ impl PartialBook {
         ensures empty { IfOk result (λ book. records_of book ≡ no_records) }
         ensures grouped { IfOk result (IsGrouped (length names.now.positions)) }
     {
-        Ok(PartialBook {
-            supplements: Vec::with_capacity(alloc, names.supplements.len() as usize)?,
-            constructs: Vec::with_capacity(alloc, names.constructs.len() as usize)?,
-            modules: Vec::with_capacity(alloc, names.modules.len() as usize)?,
-            positions: Vec::with_capacity(alloc, names.positions.len() as usize)?,
-            variants: Vec::with_capacity(alloc, names.variants.len() as usize)?,
-            groups: VariantGroups::empty(alloc, names.positions.len() as usize)?,
-        })
+        let groups = VariantGroups::empty(alloc, names.positions.len() as usize)?;
+        let mut book = PartialBook::without_records(alloc, groups);
+        book.make_room(names)?;
+        Ok(book)
+    }
+
+    fn without_records(alloc: Global, groups: VariantGroups) -> PartialBook
+        ensures empty { records_of result ≡ no_records }
+        ensures groups { result.groups ≡ groups }
+    {
+        PartialBook {
+            supplements: Vec::new(alloc),
+            constructs: Vec::new(alloc),
+            modules: Vec::new(alloc),
+            positions: Vec::new(alloc),
+            variants: Vec::new(alloc),
+            groups,
+        }
+    }
+
+    // Makes room for a record of each name.
+    fn make_room(&mut self, names: &Names) -> Result<(), Memory>
+        ensures records { records_of self.new ≡ records_of self.old }
+        ensures groups { self.new.groups ≡ self.old.groups }
+    {
+        self.supplements
+            .reserve_exact(names.supplements.len() as usize)?;
+        self.constructs
+            .reserve_exact(names.constructs.len() as usize)?;
+        self.modules.reserve_exact(names.modules.len() as usize)?;
+        self.positions
+            .reserve_exact(names.positions.len() as usize)?;
+        self.variants.reserve_exact(names.variants.len() as usize)?;
+        Ok(())
     }
 }

@@ -1,7 +1,8 @@
 //! The book of a text.
-ghost use Rattle.std.specs.Prelude.{◌≡◌, ◌≤◌, length};
+ghost use Rattle.std.specs.Prelude.{◌≡◌, ◌≤◌, List, Ok, length};
 ghost use Rattle.std.specs.Str.{is_utf8};
 ghost use Rattle.pb_base.specs.Answers.{Answers};
+ghost use Rattle.pb_base.specs.Results.{and_then};
 ghost use Rattle.csv.specs.Records.{fields_of};
 ghost use Rattle.book_model.specs.Book.{IsBook};
 ghost use Rattle.book_text.specs.BookText.{book_of, book_of_rows, book_behind};
@@ -10,8 +11,9 @@ ghost use Rattle.pb_base.specs.Answers.{Gives};
 ghost use Rattle.pb_base.specs.declared.answer.Fail.{Fail};
 ghost use Rattle.pb_base.specs.declared.limits.TheConstants.{MOST_TEXT_BYTES};
 ghost use Rattle.book_text.specs.Records.{book_with, no_records};
-ghost use Rattle.book_text.specs.Rows.{IsShort};
-ghost use Rattle.book_text.specs.Said.{said_pass};
+ghost use Rattle.book_text.specs.Rows.{IsShort, Row};
+ghost use Rattle.book_text.specs.FirstPass.{first_pass};
+ghost use Rattle.book_text.specs.Said.{AreSaid, said_pass};
 
 use crate::entry::{Heading, heading_of};
 use crate::fault::{BookFault, BookKind};
@@ -19,7 +21,7 @@ use crate::names::Names;
 use crate::partial_book::PartialBook;
 use crate::row_reader::RowReader;
 use crate::second_pass::second_pass;
-use crate::survey::first_pass;
+use crate::survey::{Survey, first_pass};
 use book_model::{Book, BookParts};
 use csv::ByteRecord;
 use pb_base::Fail;
@@ -83,6 +85,19 @@ fn book_behind(
     ensures { Answers result (book_behind heading rows.old) }
 {
     let survey = first_pass(alloc, &heading, rows, row)?;
+    surveyed_book(alloc, heading, survey)
+}
+
+// The book of a heading and of what the first pass keeps of some rows.
+fn surveyed_book(alloc: Global, heading: Heading, survey: Survey) -> Result<Book, Fail<BookFault>>
+    requires term { heading.term.from ≤ heading.term.until }
+    requires rows { (rows : List Row) × (length rows ≤ MOST_TEXT_BYTES) × (first_pass heading rows ≡ Ok survey.names)
+        × AreSaid heading rows survey.entries.items (fields_of survey.texts) }
+    requires short { IsShort (fields_of survey.texts) }
+    ensures { Answers result
+        (and_then (said_pass survey.names 2 no_records survey.entries.items (fields_of survey.texts))
+        (λ records. Ok (book_with heading survey.names records))) }
+{
     let partial = second_pass(alloc, &survey)?;
     Ok(whole_book(heading, survey.names, partial))
 }

@@ -1,6 +1,7 @@
 //! The second pass, over what the rows say: names become places, and rules are read.
-ghost use Rattle.std.specs.Prelude.{◌≡◌, ◌+◌, ◌<◌, ◌≤◌, ◌^◌, [], IfOk, OnOk, length};
+ghost use Rattle.std.specs.Prelude.{◌≡◌, ◌+◌, ◌<◌, ◌≤◌, ◌^◌, [], ◌∷◌, ◌++◌, Result, Ok, IfOk, OnOk, length};
 ghost use Rattle.pb_base.specs.Answers.{Answers, Gives, Leaves};
+ghost use Rattle.pb_base.specs.Results.{and_then};
 ghost use Rattle.csv.specs.Records.{fields_of};
 ghost use Rattle.book_model.specs.Groups.{AreGroups};
 ghost use Rattle.book_text.specs.PartialBook.{records_of, IsGrouped};
@@ -10,6 +11,7 @@ ghost use Rattle.book_text.specs.Group.{names_in};
 ghost use Rattle.book_text.specs.Said.{said_pass};
 ghost use Rattle.book_text.specs.Records.{no_records};
 ghost use Rattle.book_text.specs.Rows.{IsShort};
+ghost use Rattle.book_text.specs.declared.fault.BookKind.{BookKind};
 
 use crate::entry::Entry;
 use crate::fault::{BookFault, BookKind, Which};
@@ -98,19 +100,16 @@ fn resolve(
             code,
             days,
         } => {
-            let record = supplement_of(alloc, &names.codes, *id, *rank, code, *days, text)?;
-            book.supplements.push(record)?;
-            Ok(())
+            let made = supplement_of(alloc, &names.codes, *id, *rank, code, *days, text);
+            add(&mut book.supplements, made)
         }
         Entry::Construct { id, on, days } => {
-            let record = construct_of(alloc, &names.codes, *id, on, *days, text)?;
-            book.constructs.push(record)?;
-            Ok(())
+            let made = construct_of(alloc, &names.codes, *id, on, *days, text);
+            add(&mut book.constructs, made)
         }
         Entry::Group { id, kind, days } => {
-            let record = group_of(alloc, &names.codes, *id, *kind, *days, text)?;
-            book.constructs.push(record)?;
-            Ok(())
+            let made = group_of(alloc, &names.codes, *id, *kind, *days, text);
+            add(&mut book.constructs, made)
         }
         Entry::Module { id } => {
             book.modules.push(Module { id: *id })?;
@@ -122,9 +121,8 @@ fn resolve(
             mandatory,
             days,
         } => {
-            let record = position_of(&names.modules, *id, group, *mandatory, *days)?;
-            book.positions.push(record)?;
-            Ok(())
+            let made = position_of(&names.modules, *id, group, *mandatory, *days);
+            add(&mut book.positions, made)
         }
         Entry::Variant {
             id,
@@ -137,6 +135,16 @@ fn resolve(
             add_variant(&mut book.variants, &mut book.groups, record)
         }
     }
+}
+
+// Adds a record, where it was made.
+fn add<T: Drop>(records: &mut Vec<T>, made: Result<T, Fail<BookKind>>) -> Result<(), Fail<BookKind>>
+    ensures { (answer : Result T BookKind) → Answers made answer
+        → Leaves result records.new.items (and_then answer (λ added. Ok (records.old.items ++ added ∷ []))) }
+{
+    let record = made?;
+    records.push(record)?;
+    Ok(())
 }
 
 fn place_if_coded(codes: &CodeTable, name: &Option<CodeName>) -> Result<Option<u32>, Fail<BookKind>>

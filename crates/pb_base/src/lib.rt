@@ -30,6 +30,3 @@ pub use part::{FormulaPart, Shape};
 pub use sequence::{Body, CodeList, Sequence};
 pub use table::Table;
 pub use text::Text;
-
-#[cfg(test)]
-mod tests;

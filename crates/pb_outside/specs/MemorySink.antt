@@ -1,5 +1,5 @@
 -- A sink in memory.
-use Rattle.std.specs.Prelude.{ℕ, ◌-◌, List, ◌++◌, Option, None, Some, length, Bool, nat_lt, ◌||◌, if◌then◌else◌}
+use Rattle.std.specs.Prelude.{ℕ, ◌-◌, List, ◌++◌, None, Some, length, Bool, nat_lt, ◌||◌, if◌then◌else◌}
 use Rattle.pb_outside.specs.FaultPlan.{Plan, is_to_fail, is_over, after_call, with_fault}
 use Rattle.pb_outside.specs.Sink.{SinkTold}
 

@@ -32,6 +32,3 @@ pub use sink::Sink;
 pub use source::Source;
 pub use streams::{StreamSink, StreamSource};
 pub use whole::read_up_to;
-
-#[cfg(test)]
-mod tests;

@@ -12,6 +12,3 @@ mod token;
 pub use fault::RuleFault;
 pub use print::print_rule;
 pub use read::read_rule;
-
-#[cfg(test)]
-mod tests;

@@ -12,6 +12,3 @@ mod worklist;
 pub use completed::{Added, AddedList, Completed};
 pub use completer::Completer;
 pub use plain::complete_plainly;
-
-#[cfg(test)]
-mod tests;

@@ -14,6 +14,3 @@ pub use book::TurnBook;
 pub use entry::Entry;
 pub use machine::Machine;
 pub use pass::Pass;
-
-#[cfg(test)]
-mod tests;

@@ -1,7 +1,6 @@
 use Rattle.std.proofs.Common.{◌≡◌, ◌≤◌, ◌∙◌, true, sym, ap, arith}
 use Rattle.std.specs.Prelude.{◌==◌, List, ℕ}
 use Rattle.std.specs.List.{list_any}
-use Rattle.pb_outside.specs.FaultPlan.{is_over}
 use Rattle.pb_outside.proofs.Passed.{passed_later, not_passed}
 use Rattle.pb_outside.proofs.fault_plan.FaultPlan.begin_call.Goals as goal
 
