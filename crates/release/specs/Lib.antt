@@ -4,3 +4,4 @@ pub mod NotReleased
 pub mod Certified
 pub mod Judged
 pub mod Accepting
+pub mod Orders
