@@ -18,10 +18,10 @@ use Rattle.findings.specs.declared.report.Ask.TheVariants as ask
 use Rattle.findings.specs.declared.report.Note.{Note}
 use Rattle.order_text.specs.OutcomeText.{accepted_text, construct_id}
 use Rattle.pb_reports.specs.ReportText.{report_text}
-use Rattle.release.specs.NotReleased.{IsRefusal}
+use Rattle.release_check.specs.NotReleased.{IsRefusal}
 use Rattle.release.specs.Release.{Release, IsRelease}
-use Rattle.release.specs.declared.not_released.NotReleased.{NotReleased}
-use Rattle.release.specs.declared.not_released.NotReleased.TheVariants as kept_back
+use Rattle.release_check.specs.declared.not_released.NotReleased.{NotReleased}
+use Rattle.release_check.specs.declared.not_released.NotReleased.TheVariants as kept_back
 use Rattle.desk_words.specs.declared.call.Call.{Call}
 use Rattle.desk_words.specs.declared.call.What.{What}
 use Rattle.desk_words.specs.declared.call.What.TheVariants as what

@@ -21,7 +21,8 @@ use order_desk::{Answer, Event, SharedBook};
 use pb_base::{Body, Fail, Id, Memory};
 use pb_gate::Gate;
 use pb_reports::report_text;
-use release::{NotReleased, Released, try_release};
+use release::Released;
+use release_check::{NotReleased, try_release};
 use std::alloc::Global;
 
 /// Checks a draft: the report of all questions.

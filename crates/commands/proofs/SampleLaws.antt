@@ -39,7 +39,7 @@ use Rattle.parts_usage.specs.Unfit.{first_unfit_of}
 use Rattle.pb_base.specs.NamedSet.{named}
 use Rattle.supplement.specs.Completion.{completion_of}
 use Rattle.release.specs.Judged.{as_outcome}
-use Rattle.release.specs.NotReleased.{IsReportOf}
+use Rattle.release_check.specs.NotReleased.{IsReportOf}
 use Rattle.release.specs.declared.judging.Judged.{Judged}
 use Rattle.release.specs.declared.judging.Judged.TheVariants as judgements
 use Rattle.commands.specs.Sample.{answer_to, counted, lines_in, next_orders}

@@ -8,7 +8,7 @@ use Rattle.book_model.specs.declared.record.Slice.{Slice}
 use Rattle.book_model.specs.declared.slicing.LimitFault.{LimitFault}
 use Rattle.book_text.specs.declared.fault.BookFault.{BookFault}
 use Rattle.derivation.specs.Limits.{slices_within}
-use Rattle.findings.specs.Certified.{IsAccepted}
+use Rattle.derivation.specs.Accepted.{IsAccepted}
 use Rattle.findings.specs.Notes.{Inquiry, IsReport, verdict_of}
 use Rattle.findings.specs.declared.report.Ask.{Ask}
 use Rattle.findings.specs.declared.report.Ask.TheVariants.{All, Blocking}

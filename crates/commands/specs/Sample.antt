@@ -12,7 +12,7 @@ use Rattle.book_sample.specs.Orders.{Stream, order_at, behind_order}
 use Rattle.book_text.specs.BookText.{book_of}
 use Rattle.desk_words.specs.Lines.{line, number_behind}
 use Rattle.desk_words.specs.declared.order_words.OrderWords.{OrderWords}
-use Rattle.findings.specs.Certified.{IsAccepted}
+use Rattle.derivation.specs.Accepted.{IsAccepted}
 use Rattle.findings.specs.Notes.{IsReport, verdict_of}
 use Rattle.findings.specs.declared.report.Ask.TheVariants.{Blocking}
 use Rattle.findings.specs.declared.report.Note.{Note as Told}

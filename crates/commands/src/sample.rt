@@ -6,7 +6,7 @@ ghost use Rattle.book_text.specs.BookText.{book_of};
 ghost use Rattle.parts_usage.specs.Fault.{order_fault};
 ghost use Rattle.pb_base.specs.declared.limits.TheConstants.{MOST_SLICES};
 ghost use Rattle.release.specs.Judged.{as_outcome};
-ghost use Rattle.release.specs.NotReleased.{IsRefusal};
+ghost use Rattle.release_check.specs.NotReleased.{IsRefusal};
 ghost use Rattle.commands.specs.Logged.{slices_told};
 ghost use Rattle.commands.specs.Sample.{RepliesToSample, undecided_reply};
 ghost use Rattle.commands.specs.Sample.{answer_to, counts_text, size_text, tally_of, released_text, undecided_text};
@@ -23,7 +23,8 @@ use findings::Report;
 use pb_base::limits::DEFAULT_BUDGET;
 use pb_base::{Body, Fail, Memory, Text};
 use pb_reports::report_text;
-use release::{Judged, NotReleased, Released, judge, try_release};
+use release::{Judged, Released, judge};
+use release_check::{NotReleased, try_release};
 use std::alloc::Global;
 
 /// Generates the book of this size, releases it, and counts what its orders come to.

@@ -9,3 +9,4 @@ pub mod Kept
 pub mod Reading
 pub mod Showing
 pub mod Written
+pub mod Accepted

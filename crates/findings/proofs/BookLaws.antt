@@ -22,7 +22,7 @@ use Rattle.findings.specs.Notes.{is_fault, is_left, verdict_of}
 use Rattle.derivation.specs.Showing.{ShowsSlice}
 use Rattle.derivation.specs.declared.slice_proof.SliceProof.{SliceProof}
 use Rattle.findings.specs.Answering.{ShowsUnlessStopped, stops}
-use Rattle.findings.specs.Certified.{IsAccepted}
+use Rattle.derivation.specs.Accepted.{IsAccepted}
 use Rattle.findings.specs.declared.report.Note.{Note}
 use Rattle.findings.specs.declared.report.Verdict.TheVariants as verdicts
 

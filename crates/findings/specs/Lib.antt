@@ -2,4 +2,3 @@ pub mod Findings
 pub mod Notes
 pub mod Outcomes
 pub mod Answering
-pub mod Certified

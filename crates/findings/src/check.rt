@@ -9,7 +9,7 @@ ghost use Rattle.derivation.specs.Limits.{AreWithin, asked_of, slices_within};
 ghost use Rattle.derivation.specs.Showing.{ShowsSlice};
 ghost use Rattle.findings.specs.Notes.{InParts, IsReport, SliceNotes, verdict_of};
 ghost use Rattle.findings.specs.Answering.{ShowsUnlessStopped, inquiry, stops};
-ghost use Rattle.findings.specs.Certified.{IsAccepted};
+ghost use Rattle.derivation.specs.Accepted.{IsAccepted};
 ghost use Rattle.pb_base.specs.declared.limits.TheConstants.{MOST_BUDGET, MOST_QUESTIONS};
 
 use crate::earlier::Earlier;

@@ -1,6 +1,5 @@
 pub mod Release
 pub mod ReleaseCode
-pub mod NotReleased
 pub mod Certified
 pub mod Judged
 pub mod Accepting

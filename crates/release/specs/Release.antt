@@ -5,7 +5,7 @@ use Rattle.std.specs.Prelude.{◌≡◌, ℕ, List, Ok}
 use Rattle.book_model.specs.Contents.{Contents}
 use Rattle.book_model.specs.Sound.{IsReleasable}
 use Rattle.book_text.specs.BookText.{book_of}
-use Rattle.findings.specs.Certified.{IsAccepted}
+use Rattle.derivation.specs.Accepted.{IsAccepted}
 
 pub record Release : Type 0 where
   pub text : List ℕ

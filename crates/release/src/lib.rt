@@ -5,19 +5,12 @@ mod accepting;
 mod answer_text;
 mod certified;
 mod judging;
-mod not_released;
 mod orders;
 mod released;
-mod releasing;
 
 pub use accepting::accepts;
 pub use answer_text::judged_text;
 pub use certified::{FromFault, from_cert};
 pub use judging::{Judged, judge};
-pub use not_released::NotReleased;
 pub use orders::order_laws;
 pub use released::Released;
-pub use releasing::try_release;
-
-#[cfg(test)]
-mod tests;

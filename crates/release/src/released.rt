@@ -7,7 +7,7 @@ use pb_base::Body;
 use std::marker::Model;
 
 /// A released book: its text, the book that the text reads as, and the certificate that the book can be released. It never
-/// changes, and nothing but `try_release` and `from_cert` makes one.
+/// changes.
 #[derive(Drop)]
 pub struct Released {
     text: Body,
@@ -29,8 +29,8 @@ impl Model for Released {
 }
 
 impl Released {
-    // The release of these three.
-    pub(crate) fn of(text: Body, book: Book, cert: Body) -> Released
+    /// The release of these three, for who knows that the certificate is the book's.
+    pub fn of(text: Body, book: Book, cert: Body) -> Released
         requires { IsRelease (record { text = text; book = book; cert = cert }) }
         ensures { result ≡ record { text = text; book = book; cert = cert } }
     {

@@ -4,12 +4,12 @@ ghost use Rattle.pb_base.specs.Answers.{IfRefused};
 ghost use Rattle.book_text.specs.BookText.{book_of};
 ghost use Rattle.findings.specs.Notes.{verdict_of};
 ghost use Rattle.findings.specs.declared.report.Verdict.TheVariants as Verdict;
-ghost use Rattle.release.specs.NotReleased.{IsRefusal, IsReportOf};
+ghost use Rattle.release_check.specs.NotReleased.{IsRefusal, IsReportOf};
 ghost use Rattle.release.specs.Release.{IsRelease};
 ghost use Rattle.pb_base.specs.declared.limits.TheConstants.{MOST_BUDGET};
 
 use crate::not_released::NotReleased;
-use crate::released::Released;
+use release::Released;
 use book_model::Book;
 use book_text::read_book;
 use findings::{Ask, Checked, Report, Verdict, check_book, verdict_of};

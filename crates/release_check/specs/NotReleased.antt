@@ -9,8 +9,8 @@ use Rattle.findings.specs.Notes.{IsReport, verdict_of}
 use Rattle.findings.specs.declared.report.Ask.TheVariants.{Blocking}
 use Rattle.findings.specs.declared.report.Note.{Note}
 use Rattle.findings.specs.declared.report.Verdict.TheVariants as verdicts
-use Rattle.release.specs.declared.not_released.NotReleased.{NotReleased}
-use Rattle.release.specs.declared.not_released.NotReleased.TheVariants.{Text, Found, Undecided, Limit}
+use Rattle.release_check.specs.declared.not_released.NotReleased.{NotReleased}
+use Rattle.release_check.specs.declared.not_released.NotReleased.TheVariants.{Text, Found, Undecided, Limit}
 
 pub record IsReportOf (text : List ℕ) (budget : ℕ) (book : Contents) (notes : List Note) : Type 0 where
   pub reads : book_of text ≡ Ok book

@@ -1,0 +1,8 @@
+//! The release of a book: it is checked, and released where nothing keeps it back.
+#![tactic(auto)]
+
+mod not_released;
+mod releasing;
+
+pub use not_released::NotReleased;
+pub use releasing::try_release;
