@@ -1,5 +1,5 @@
 -- A well-formed order at a released book is accepted exactly where it can be built, and then has one complete parts list.
-use Rattle.std.proofs.Common.{◌≡◌, ℕ, suc, ◌+◌, ◌<◌, ◌≤◌, ◌==◌, Bool, true, false, cond, not, ◌||◌, ◌&&◌, List, [], ◌∷◌, ◌++◌, length, Option, Some, None, Ok, refl, sym, ap, subst, ◌∙◌, arith, append-nil}
+use Rattle.std.proofs.Common.{◌≡◌, ℕ, zero, suc, ◌+◌, ◌<◌, ◌≤◌, ◌==◌, Bool, true, false, cond, not, ◌||◌, ◌&&◌, List, [], ◌∷◌, ◌++◌, length, Option, Some, None, Ok, refl, sym, ap, subst, ◌∙◌, arith, append-nil}
 use Rattle.std.specs.Prelude.{is_none, filter, map, nat_le, slice_get, if◌then◌else◌}
 use Rattle.std.specs.List.{list_any, position_from}
 use Rattle.std.specs.Option.{option_map}
@@ -31,11 +31,12 @@ use Rattle.release.proofs.NeverUnfit.{fits_when_unbroken, good_completed, none_p
 
 some_passes : {X : Type 0} (test : X → Bool) (i k : ℕ) (xs : List X) → position_from test i xs ≡ Some k → list_any test xs ≡ true
 some_passes test i k [] h = absurd (cc)
-some_passes test i k (x ∷ xs) h = by (test x) refl h
+some_passes test i k (x ∷ xs) h = by (test x) refl h (some_passes test (i + 1) k xs)
   where
-    by : (t : Bool) → test x ≡ t → cond t (Some i) (position_from test (i + 1) xs) ≡ Some k → list_any test (x ∷ xs) ≡ true
-    by true is found = ap (λ t. t || list_any test xs) is
-    by false is found = ap (λ t. t || list_any test xs) is ∙ some_passes test (i + 1) k xs found
+    by : (t : Bool) → test x ≡ t → cond t (Some i) (position_from test (i + 1) xs) ≡ Some k
+        → (position_from test (i + 1) xs ≡ Some k → list_any test xs ≡ true) → list_any test (x ∷ xs) ≡ true
+    by true is found later = ap (λ t. t || list_any test xs) is
+    by false is found later = ap (λ t. t || list_any test xs) is ∙ later found
 
 unbroken : (b : Contents) (day : ℕ) (x : List Bool) → is_constructible b day x ≡ true → first_broken_of b day x ≡ None
 unbroken b day x built = by (first_broken_of b day x) refl
@@ -73,9 +74,9 @@ comes_to b day names formed =
 fit_at : (b : Contents) (day : ℕ) (x : List Bool) (ps : List Position) (i place : ℕ) (p : Position) → are_fit_from i b day x ps ≡ true
     → slice_get ps place ≡ Some p → is_fit b day x (i + place) p ≡ true
 fit_at b day x [] i place p fit is = cc
-fit_at b day x (q ∷ ps) i 0 p fit is =
+fit_at b day x (q ∷ ps) i zero p fit is =
     let same : q ≡ p = cc in
-    let here : i ≡ i + 0 = omega arith in
+    let here : i ≡ i + zero = omega arith in
     subst (λ k. is_fit b day x k p ≡ true) here (subst (λ r. is_fit b day x i r ≡ true) same
     (and_parts (is_fit b day x i q) (are_fit_from (suc i) b day x ps) fit).0)
 fit_at b day x (q ∷ ps) i (suc place) p fit is =
@@ -126,7 +127,7 @@ module _ (r : Release) (day : ℕ) (names : List (List ℕ)) (release : IsReleas
   book : IsBook r.book
   book = book_of-book r.text r.book release.reads
 
-  x : List Bool
+  abbrev x : List Bool
   x = supplemented r.book day names
 
   pub built : can_be_built r.book day names ≡ true → IsBuilt r.book day names
@@ -192,9 +193,9 @@ none_later b day x place i (p ∷ ps) before =
 lines_from : (b : Contents) (day : ℕ) (x : List Bool) (ps : List Position) (i k : ℕ) (p : Position) → slice_get ps k ≡ Some p
     → lines_of (i + k) (parts_from i b day x ps) ≡ lines_at (i + k) (selected b day x (i + k) p)
 lines_from b day x [] i k p is = cc
-lines_from b day x (q ∷ ps) i 0 p is =
+lines_from b day x (q ∷ ps) i zero p is =
     let same : q ≡ p = cc in
-    let here : i ≡ i + 0 = omega arith in
+    let here : i ≡ i + zero = omega arith in
     subst (λ place. lines_of place (parts_from i b day x (q ∷ ps)) ≡ lines_at place (selected b day x place p)) here
     (own_lines i (selected b day x i q) (parts_from (suc i) b day x ps)
     ∙ ap (λ rest. lines_at i (selected b day x i q) ++ rest) (none_later b day x i (suc i) ps (omega arith))
