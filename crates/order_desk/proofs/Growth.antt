@@ -20,6 +20,7 @@ use Rattle.order_desk.specs.Effect.{Effect, says, shows, keeps, go_on, effect, d
 use Rattle.order_desk.specs.History.{Stays, IsLaterDraft, IsLaterBook, IsSameOrder, Grows, IsLegal, Reaches}
 use Rattle.order_desk.specs.Step.{Follows, Step, IsKept, IsNotKept}
 use Rattle.order_desk.specs.Tables.{Tables, State, key_of, draft_at, book_at, order_at, with_draft, with_book, with_order, with_withdrawn}
+use Rattle.order_desk.proofs.EffectWrites.{Changes, effect_writes, followed}
 use Rattle.order_desk.proofs.Entries.{stays-insert, stays-same}
 use Rattle.order_desk.proofs.Keys.{by_name_total, by_name_exact, by_key_total, by_key_exact}
 use Rattle.turn_book.specs.History.{end_of}
