@@ -74,7 +74,7 @@ hand_twice h i j first second = record {
   alone = second.alone ∙ first.alone;
 }
 
-begins_reached : (alone : Bool) (seen first : State) → Begins alone seen first → Reaches seen first
+pub begins_reached : (alone : Bool) (seen first : State) → Begins alone seen first → Reaches seen first
 begins_reached true seen first same = subst (λ (s : State). Reaches seen s) (sym same) (reaches_same seen)
 begins_reached false seen first reached = reached
 
@@ -82,7 +82,7 @@ made_one : (alone : Bool) (h new : Hand) (one : Made) → new.made ≡ (if alone
 made_one true h new one made left = made
 made_one false h new one made left = (one ∷ [], made, omega arith)
 
-hand_stepped : (h : Hand) (e : Event) (a : Answer) (new : Hand) → Stepped h e a new → IsLaterHand h new
+pub hand_stepped : (h : Hand) (e : Event) (a : Answer) (new : Hand) → Stepped h e a new → IsLaterHand h new
 hand_stepped h e a new s = record {
   reaches = reaches_twice h.state s.first new.state (begins_reached h.alone h.state s.first s.begins) (reaches_step s.first new.state e a s.fits s.step);
   left = let less = s.left in omega arith;

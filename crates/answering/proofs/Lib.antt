@@ -1,3 +1,4 @@
 mod ToldLaws
 mod TableLaws
 pub mod LaterHands
+mod NewOrders

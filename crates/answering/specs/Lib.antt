@@ -4,3 +4,4 @@ pub mod Told
 pub mod Answers
 pub mod LaterHand
 pub mod Alone
+pub mod Headline

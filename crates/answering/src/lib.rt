@@ -4,6 +4,7 @@
 mod alone;
 mod calls;
 mod drafts;
+mod headline;
 mod one_event;
 mod orders;
 mod said;
@@ -11,5 +12,6 @@ mod turns;
 
 pub use alone::Alone;
 pub use calls::{answer_call, answers_law};
+pub use headline::headline_laws;
 pub use said::Said;
 pub use turns::Turns;

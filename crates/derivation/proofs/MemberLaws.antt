@@ -1,16 +1,15 @@
 -- The names of a set's codes make that set.
 use Rattle.std.proofs.Common.{◌≡◌, ℕ, ◌+◌, ◌<◌, ◌≤◌, Bool, true, false, not, cond, ltb, leb, ◌&&◌, List, [], ◌∷◌, ◌++◌, None, Some, Ok, length, map, ◌||◌, drop, inl, inr, refl, sym, ap, ◌∙◌, arith}
-use Rattle.std.specs.List.{list_all, list_any, slice_get, IsDistinct, AllByRecursion, position, prefix_len}
-use Rattle.std.specs.Option.{option_or, is_none}
+use Rattle.std.specs.List.{list_all, list_any, slice_get, IsDistinct, AllByRecursion}
 use Rattle.std.specs.Cmp.Lexicographic.{nat_list_eq_equiv}
 use Rattle.std.proofs.lemmas.Bool.{cases_Bool, false≢true, true≢false, and_parts, and_from, or_cases, or_left, or_right, leb-true, lt-ltb}
 use Rattle.std.proofs.lemmas.List.{drop_more}
 use Rattle.std.proofs.lemmas.Option.{get_or_from_slice_get}
 use Rattle.pb_base.specs.Names.{same_name, is_name, is_name_byte, is_code_name, place_in, true_word, false_word}
-use Rattle.pb_base.specs.NamedSet.{named, name_fault, first_fault, set_of_names}
+use Rattle.pb_base.proofs.Faultless.{same_self, no_fault}
+use Rattle.pb_base.specs.NamedSet.{named, set_of_names}
 use Rattle.pb_base.specs.Results.{unless}
 use Rattle.pb_base.specs.Sets.{has}
-use Rattle.pb_base.specs.declared.named_set.NameFault.TheVariants.{Unknown, Repeated}
 use Rattle.derivation.specs.Written.{members}
 use Rattle.derivation.proofs.WordLaws.{is_plain}
 
@@ -27,9 +26,6 @@ left_out names x i len below here =
     rw (drop_more names i [] below, drop_more x i false within, here) refl
 
 -- the names are those of the set's codes
-same_self : (name : List ℕ) → same_name name name ≡ true
-same_self name = nat_list_eq_equiv.refl name
-
 absent : (n : List ℕ) (names : List (List ℕ)) (x : List Bool) → AllByRecursion (λ m. same_name n m ≡ false) names → list_any (same_name n) (members names x) ≡ false
 absent n [] x apart = refl
 absent n (m ∷ names) [] apart = refl
@@ -56,50 +52,6 @@ named_back (n ∷ names) (false ∷ x) apart len =
     ap (λ t. t ∷ map (λ code. list_any (same_name code) (members names x)) names) (absent n names x apart.0) ∙ ap (λ l. false ∷ l) (named_back names x apart.1 (omega arith))
 
 -- none of them is at fault
-found_below : (p : List ℕ → Bool) (xs : List (List ℕ)) → list_any p xs ≡ true → prefix_len (λ x. not (p x)) xs < length xs
-found_below p [] h = absurd (false≢true h)
-found_below p (x ∷ xs) h =
-    elim (cases_Bool (p x)) [
-      | inl met ↦ let is : prefix_len (λ y. not (p y)) (x ∷ xs) ≡ 0 = rw met refl in omega arith
-      | inr unmet ↦
-          let rest : list_any p xs ≡ true = sym (ap (λ t. t || list_any p xs) unmet) ∙ h in
-          let is : prefix_len (λ y. not (p y)) (x ∷ xs) ≡ 1 + prefix_len (λ y. not (p y)) xs = rw unmet refl in
-          omega (arith, found_below p xs rest)
-    ]
-
-position_found : (p : List ℕ → Bool) (xs : List (List ℕ)) → list_any p xs ≡ true → is_none (position p xs) ≡ false
-position_found p xs h =
-    let test : ltb (prefix_len (λ x. not (p x)) xs) (length xs) ≡ true = lt-ltb (prefix_len (λ x. not (p x)) xs) (length xs) (found_below p xs h) in
-    rw test refl
-
-or_false : (t u : Bool) → (t || u) ≡ false → (t ≡ false) × (u ≡ false)
-or_false true u h = absurd (true≢false h)
-or_false false u h = (refl, h)
-
-found : (codes : List (List ℕ)) (n : List ℕ) → list_any (same_name n) codes ≡ true → is_none (place_in codes n) ≡ false
-found codes n there = position_found (same_name n) codes there
-
-any_more : (n m : List ℕ) (left : List (List ℕ)) → list_any (same_name n) left ≡ false → same_name n m ≡ false → list_any (same_name n) (left ++ m ∷ []) ≡ false
-any_more n m [] out other = ap (λ t. t || false) other
-any_more n m (l ∷ left) out other =
-    let parts = or_false (same_name n l) (list_any (same_name n) left) out in
-    ap (λ t. t || list_any (same_name n) (left ++ m ∷ [])) parts.0 ∙ any_more n m left parts.1 other
-
-all_more : (m : List ℕ) (left ns : List (List ℕ)) → AllByRecursion (λ n. list_any (same_name n) left ≡ false) ns → AllByRecursion (λ n. same_name m n ≡ false) ns
-    → AllByRecursion (λ n. list_any (same_name n) (left ++ m ∷ []) ≡ false) ns
-all_more m left [] out apart = tt
-all_more m left (n ∷ ns) out apart = (any_more n m left out.0 (nat_list_eq_equiv.symm n m ∙ apart.0), all_more m left ns out.1 apart.1)
-
-no_fault : (codes left ns : List (List ℕ)) → AllByRecursion (λ n. list_any (same_name n) codes ≡ true) ns → IsDistinct same_name ns → AllByRecursion (λ n. list_any (same_name n) left ≡ false) ns
-    → first_fault codes left ns ≡ None
-unfolding IsDistinct
-no_fault codes left [] there apart out = refl
-no_fault codes left (n ∷ ns) there apart out =
-    let here : name_fault codes left n ≡ None =
-    ap (λ t. cond t (Some (Unknown (length left))) (cond (list_any (same_name n) left) (Some (Repeated (length left))) None)) (found codes n there.0)
-    ∙ ap (λ t. cond t (Some (Repeated (length left))) None) out.0 in
-    ap (λ o. option_or o (first_fault codes (left ++ n ∷ []) ns)) here ∙ no_fault codes (left ++ n ∷ []) ns there.1 apart.1 (all_more n left ns out.1 apart.0)
-
 all_members : (P : List ℕ → Type 0) (names : List (List ℕ)) (x : List Bool) → AllByRecursion P names → AllByRecursion P (members names x)
 all_members P [] x all = tt
 all_members P (n ∷ names) [] all = tt
@@ -124,15 +76,11 @@ all_there : (codes : List (List ℕ)) → AllByRecursion (λ n. list_any (same_n
 all_there [] = tt
 all_there (c ∷ codes) = (or_left (same_name c c) (list_any (same_name c) codes) (same_self c), all_there_more c codes codes (all_there codes))
 
-none_out : (ns : List (List ℕ)) → AllByRecursion (λ n. list_any (same_name n) [] ≡ false) ns
-none_out [] = tt
-none_out (n ∷ ns) = (refl, none_out ns)
-
 pub set_back : (names : List (List ℕ)) (x : List Bool) → IsDistinct same_name names → length x ≡ length names → set_of_names names (members names x) ≡ Ok x
 set_back names x apart len =
     let ms = members names x in
     ap (λ o. unless o (Ok (named names ms)))
-    (no_fault names [] ms (all_members (λ n. list_any (same_name n) names ≡ true) names x (all_there names)) (members_apart names x apart) (none_out ms))
+    (no_fault names ms (all_members (λ n. list_any (same_name n) names ≡ true) names x (all_there names)) (members_apart names x apart))
     ∙ ap (λ y. Ok y) (named_back names x apart len)
 
 pub members_are_codes : (names : List (List ℕ)) (x : List Bool) → list_all is_code_name names ≡ true → list_all is_code_name (members names x) ≡ true

@@ -20,6 +20,7 @@ use Rattle.order_desk.specs.Effect.{Effect, says, shows, keeps, go_on, effect, d
 use Rattle.order_desk.specs.History.{Stays, IsLaterDraft, IsLaterBook, IsSameOrder, Grows, IsLegal, Reaches}
 use Rattle.order_desk.specs.Step.{Follows, Step, IsKept, IsNotKept}
 use Rattle.order_desk.specs.Tables.{Tables, State, key_of, draft_at, book_at, order_at, with_draft, with_book, with_order, with_withdrawn}
+use Rattle.order_desk.proofs.EffectWrites.{Changes, effect_writes, followed}
 use Rattle.order_desk.proofs.Entries.{stays-insert, stays-same}
 use Rattle.order_desk.proofs.Keys.{by_name_total, by_name_exact, by_key_total, by_key_exact}
 use Rattle.turn_book.specs.History.{end_of}
@@ -111,21 +112,6 @@ grows-with_order t key order none = record {
 
 -- ---- each event
 
--- where the event writes, the tables grow
-abbrev pub Grown : Tables → Effect → Type 0
-Grown t (says due) = Unit {0}
-Grown t (shows due) = Unit {0}
-Grown t (keeps due tables) = Grows t tables
-
-grown-if : (t : Tables) (b : Bool) (u w : Effect) → (b ≡ true → Grown t u) → Grown t w → Grown t (if b then u else w)
-grown-if t true u w so else_so = so refl
-grown-if t false u w so else_so = else_so
-
-grown-go_on : {A : Type 0} (t : Tables) (r : Result A Reply) (done : A → Effect) → ((a : A) → r ≡ Ok a → Grown t (done a))
-    → Grown t (go_on r done)
-grown-go_on t (Err said) done so = tt
-grown-go_on t (Ok found) done so = so found refl
-
 -- a draft that gets a text and one revision more, or another owner
 revised : (d : Draft) (text : List ℕ) → IsLaterDraft d (record d { revision = d.revision + 1; text = text })
 revised d text = record { revision = omega arith; text = λ same. absurd (omega (arith, same)) }
@@ -186,85 +172,29 @@ next_later t caller text (Some old) d is = by (not (same_name old.owner caller))
     by false true h = let same : Next ≡ d = cc in subst (IsLaterDraft old) same (revised old text)
     by false false h = cc
 
-put_grows : (t : Tables) (caller name text : List ℕ) → Grown t (put_draft t caller name text)
-unfolding put_draft next_draft
-put_grows t caller name text =
-    grown-go_on t (next_of (draft_at t.drafts name) t caller text)
-    (λ draft. keeps (answer.Say (reply.Kept name draft.revision)) (with_draft t name draft))
-    (λ d is. grows-with_draft t name d (next_later t caller text (draft_at t.drafts name) d is))
-
-kept_grows : (t : Tables) (kept : OrderWords) → Grown t (shows_kept t kept)
-unfolding shows_kept
-kept_grows t kept = grown-go_on t (book_of t kept.book) (λ book. shows (answer.Kept kept book.released)) (λ b is. tt)
-
-unless_kept_grows : (t : Tables) (o : Option OrderWords) (order : OrderWords) (free : Effect) → (o ≡ None → Grown t free)
-    → Grown t (unless_kept o t order free)
-unless_kept_grows t None order free so = so refl
-unless_kept_grows t (Some kept) order free so =
-    grown-if t (same_order kept order) (shows_kept t kept) (says (answer.Say (reply.NumberUsed kept.book)))
-    (λ same. kept_grows t kept) tt
-
-withdraw_grows : (t : Tables) (caller : List ℕ) (number : ℕ) → Grown t (withdraw t caller number)
-unfolding withdraw
-withdraw_grows t caller number =
-    grown-go_on t (book_of t number)
-    (λ book. go_on (owned t caller book.draft) (λ draft.
-    if book.withdrawn then says (answer.Say (reply.Withdrawn number))
-    else keeps (answer.Say (reply.Withdrawn number)) (with_withdrawn t number book)))
-    (λ b is. grown-go_on t (owned t caller b.draft)
-    (λ draft. if b.withdrawn then says (answer.Say (reply.Withdrawn number))
-    else keeps (answer.Say (reply.Withdrawn number)) (with_withdrawn t number b))
-    (λ d at. grown-if t b.withdrawn (says (answer.Say (reply.Withdrawn number)))
-    (keeps (answer.Say (reply.Withdrawn number)) (with_withdrawn t number b)) (λ gone. tt)
-    (grows-with_withdrawn t number b (book_there t number b is))))
-
-pub effect_grows : (t : Tables) (e : Event) → Grown t (effect t e)
-unfolding give_draft read_draft read_owner take_draft commit read_book read_cert look place read_order
-effect_grows t (event.PutDraft caller draft text) = put_grows t caller draft text
-effect_grows t (event.GiveDraft caller draft to) =
-    grown-go_on t (owned t caller draft)
-    (λ d. keeps (answer.Say (reply.Given draft to)) (with_draft t draft (record d { owner = to })))
-    (λ d is. grows-over t draft d (record d { owner = to }) (draft_there t caller draft d is) (handed_over d to))
-effect_grows t (event.ReadDraft draft) = grown-go_on t (draft_of t draft) (λ d. shows (answer.Say (reply.Raw d.text))) (λ d is. tt)
-effect_grows t (event.ReadOwner draft) =
-    grown-go_on t (draft_of t draft) (λ d. says (answer.Say (reply.OwnerIs d.owner d.revision))) (λ d is. tt)
-effect_grows t (event.TakeDraft caller draft revision) =
-    grown-go_on t (to_take revision t caller draft) (λ d. shows (answer.Draft d.text d.revision)) (λ d is. tt)
-effect_grows t (event.Commit caller draft revision released) =
-    grown-go_on t (to_release t caller draft revision)
-    (λ d. keeps (answer.Say (reply.BookIs (length t.books + 1) true))
-    (with_book t (record { draft = draft; revision = revision; released = released; withdrawn = false })))
-    (λ d is. grows-with_book t (record { draft = draft; revision = revision; released = released; withdrawn = false }))
-effect_grows t (event.ReadBook book) = grown-go_on t (book_of t book) (λ b. shows (answer.Say (reply.Raw b.released.text))) (λ b is. tt)
-effect_grows t (event.ReadCert book) = grown-go_on t (book_of t book) (λ b. shows (answer.Say (reply.Cert b.released.cert))) (λ b is. tt)
-effect_grows t (event.Withdraw caller book) = withdraw_grows t caller book
-effect_grows t (event.Look caller number order) =
-    unless_kept_grows t (order_at t.orders (key_of caller number)) order
-    (go_on (to_place t order) (λ b. shows (answer.Book b.released)))
-    (λ none. grown-go_on t (to_place t order) (λ b. shows (answer.Book b.released)) (λ b is. tt))
-effect_grows t (event.Place caller number order) =
-    unless_kept_grows t (order_at t.orders (key_of caller number)) order
-    (go_on (to_place t order) (λ b. keeps answer.Placed (with_order t (key_of caller number) order)))
-    (λ none. grown-go_on t (to_place t order) (λ b. keeps answer.Placed (with_order t (key_of caller number) order))
-    (λ b is. grows-with_order t (key_of caller number) order none))
-effect_grows t (event.ReadOrder caller number) =
-    grown-go_on t (ok_or (order_at t.orders (key_of caller number)) (reply.NoSuch missing.Order)) (λ kept. shows_kept t kept)
-    (λ kept is. kept_grows t kept)
+event_grows : (t : Tables) (e : Event) → Changes (Grows t) t e
+unfolding next_draft
+event_grows t (event.PutDraft caller draft text) = λ d is. grows-with_draft t draft d (next_later t caller text (draft_at t.drafts draft) d is)
+event_grows t (event.GiveDraft caller draft to) =
+    λ d is. grows-over t draft d (record d { owner = to }) (draft_there t caller draft d is) (handed_over d to)
+event_grows t (event.ReadDraft draft) = tt
+event_grows t (event.ReadOwner draft) = tt
+event_grows t (event.TakeDraft caller draft revision) = tt
+event_grows t (event.Commit caller draft revision released) =
+    λ d is. grows-with_book t (record { draft = draft; revision = revision; released = released; withdrawn = false })
+event_grows t (event.ReadBook book) = tt
+event_grows t (event.ReadCert book) = tt
+event_grows t (event.Withdraw caller number) = λ b is. grows-with_withdrawn t number b (book_there t number b is)
+event_grows t (event.Look caller number order) = tt
+event_grows t (event.Place caller number order) = λ b none is. grows-with_order t (key_of caller number) order none
+event_grows t (event.ReadOrder caller number) = tt
 
 -- ---- each step, and each history
 
-follows_grows : (u : Effect) (old : State) (given : Answer) (new : State) → Grown old.tables u → Follows u old given new
-    → Grows old.tables new.tables
-follows_grows (says due) old given new so f = subst (λ s. Grows old.tables s.tables) (sym f.1) (grows-same old.tables)
-follows_grows (shows due) old given new so f = subst (λ s. Grows old.tables s.tables) (sym f.1) (grows-same old.tables)
-follows_grows (keeps due tables) old given new so f = by f.1
-  where
-    by : (IsKept due tables old given new ⊎ IsNotKept old given new) → Grows old.tables new.tables
-    by (inl kept) = subst (Grows old.tables) (sym kept.changed) so
-    by (inr not_kept) = subst (Grows old.tables) (sym not_kept.unchanged) (grows-same old.tables)
-
-pub step_grows : (old : State) (e : Event) (given : Answer) (new : State) → Step old e given new → Grows old.tables new.tables
-step_grows old e given new f = follows_grows (effect old.tables e) old given new (effect_grows old.tables e) f
+step_grows : (old : State) (e : Event) (given : Answer) (new : State) → Step old e given new → Grows old.tables new.tables
+step_grows old e given new f =
+    followed (Grows old.tables) (effect old.tables e) old given new (grows-same old.tables)
+    (effect_writes (Grows old.tables) old.tables e (event_grows old.tables e)) f
 
 stays-further : {A : Type 0} (P : A → A → Type 0) → ((a b c : A) → P a b → P b c → P a c) → (o p q : Option A)
     → Stays P o p → Stays P p q → Stays P o q

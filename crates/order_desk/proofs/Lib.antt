@@ -1,5 +1,6 @@
 pub mod Entries
 pub mod Keys
+pub mod EffectWrites
 pub mod Growth
 pub mod Lasting
 pub mod Validity
@@ -8,6 +9,7 @@ pub mod Following
 pub mod SameOrder
 pub mod Kept
 pub mod Requests
+pub mod StepValid
 pub mod Conjunction
 pub mod Reading
 pub mod RisingKeys

@@ -630,9 +630,12 @@ impl<P: Keeper> Desk<P> {
 }
 
 /// What holds of every history of steps: books, kept orders and withdrawals stay, no revision falls, equal revisions of a draft
-/// have equal texts, and what fits once fits later. The call does nothing.
+/// have equal texts, what fits once fits later, and what is valid stays valid. The call does nothing.
 pub fn history_laws()
     ensures grows { (old new : State) → Reaches old new → Grows old.tables new.tables }
     ensures fits { (old new : State) (event : Event) → Reaches old new
         → Fits old.tables event → Fits new.tables event }
+    ensures step { (old new : State) (event : Event) (answer : Answer) → IsValid old.tables
+        → Fits old.tables event → Step old event answer new → IsValid new.tables }
+    ensures valid { (old new : State) → Reaches old new → IsValid old.tables → IsValid new.tables }
 {}

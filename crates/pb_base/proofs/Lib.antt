@@ -1,6 +1,7 @@
 pub mod NamedSets
 mod NameBytes
 mod NameFaults
+pub mod Faultless
 mod DigitRoom
 pub mod Nodes
 pub mod Shapes

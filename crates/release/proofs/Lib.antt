@@ -1,2 +1,3 @@
 mod NeverUnfit
 mod Accepted
+mod OrderLaws

@@ -27,7 +27,7 @@ use Rattle.parts_usage.specs.declared.judgement.Outcome.TheVariants as outcome
 use Rattle.parts_usage.specs.declared.unfit.Unfit.{Unfit}
 
 -- where none is found, none passes
-none_passes : {X : Type 0} (test : X → Bool) (i : ℕ) (xs : List X) → position_from test i xs ≡ None → list_any test xs ≡ false
+pub none_passes : {X : Type 0} (test : X → Bool) (i : ℕ) (xs : List X) → position_from test i xs ≡ None → list_any test xs ≡ false
 none_passes test i [] h = refl
 none_passes test i (x ∷ xs) h =
     let cases = λ (c : Bool). cond c (Some i) (position_from test (i + 1) xs) in
@@ -58,7 +58,7 @@ abbrev pub completed : Contents → ℕ → List (List ℕ) → List Bool
 completed b day names = (completion_of b day (named b.codes names)).set
 
 -- completed codes that break no rule are a good set
-good_completed : (b : Contents) (day : ℕ) (names : List (List ℕ)) → IsBook b → first_broken_of b day (completed b day names) ≡ None → is_good b day (completed b day names) ≡ true
+pub good_completed : (b : Contents) (day : ℕ) (names : List (List ℕ)) → IsBook b → first_broken_of b day (completed b day names) ≡ None → is_good b day (completed b day names) ≡ true
 good_completed b day names book unbroken =
     let ordered = named b.codes names in
     let y = completed b day names in

@@ -3,3 +3,4 @@ pub mod ReleaseCode
 pub mod Certified
 pub mod Judged
 pub mod Accepting
+pub mod Orders

@@ -1,0 +1,366 @@
+-- A new order is accepted exactly where it can be built.
+use Rattle.std.proofs.Common.{◌≡◌, ◌≢◌, ◌∙◌, ◌⊎◌, ℕ, ◌+◌, ◌<◌, ◌≤◌, ◌-◌, suc, Bool, true, false, List, [], ◌∷◌, Option, None, Some, Ok, Err, Result, refl, sym, ap, subst, arith, inl, inr}
+use Rattle.std.specs.Prelude.{length, nat_lt, ok_or, slice_get, if◌then◌else◌}
+use Rattle.std.specs.List.{AllByRecursion}
+use Rattle.std.proofs.lemmas.Bool.{lt-ltb}
+use Rattle.pb_base.specs.Results.{and_then}
+use Rattle.book_model.specs.Contents.{Contents}
+use Rattle.book_model.specs.Parts.{PartsLine, parts}
+use Rattle.parts_usage.specs.Outcome.{outcome_of}
+use Rattle.parts_usage.specs.declared.fault.OrderFault.{OrderFault}
+use Rattle.parts_usage.specs.declared.judgement.Outcome.{Outcome}
+use Rattle.parts_usage.specs.declared.judgement.Outcome.TheVariants as outcome
+use Rattle.order_text.specs.OutcomeText.{accepted_text, construct_id}
+use Rattle.release.specs.Orders.{IsBuilt, IsTurnedAway, IsWellFormed, can_be_built, supplemented}
+use Rattle.release.specs.Release.{Release, IsRelease}
+use Rattle.release.proofs.OrderLaws.{built, turned_away}
+use Rattle.desk_words.specs.declared.order_words.OrderWords.{OrderWords}
+use Rattle.desk_words.specs.declared.reply.FullOf.TheVariants as full
+use Rattle.desk_words.specs.declared.reply.Missing.TheVariants as missing
+use Rattle.desk_words.specs.declared.reply.Reply.{Reply}
+use Rattle.desk_words.specs.declared.reply.Reply.TheVariants as reply
+use Rattle.order_desk.specs.declared.answer.Answer.{Answer}
+use Rattle.order_desk.specs.declared.answer.Answer.TheVariants as answer
+use Rattle.order_desk.specs.declared.event.Event.{Event}
+use Rattle.order_desk.specs.declared.event.Event.TheVariants.{Look, Place}
+use Rattle.order_desk.specs.declared.kept_book.KeptBook.{KeptBook}
+use Rattle.order_desk.specs.declared.limits.TheConstants.{MOST_ORDERS}
+use Rattle.order_desk.specs.Effect.{Effect, shows, keeps, go_on, book_of, look, place, to_place, unless_kept}
+use Rattle.order_desk.specs.Fits.{IsReleaseOf}
+use Rattle.order_desk.specs.History.{IsLaterBook, Reaches, Stays}
+use Rattle.order_desk.specs.Step.{Follows, IsKept, IsNotKept, IsOrMemory, IsStoreFault}
+use Rattle.order_desk.specs.Tables.{Tables, State, book_at, key_of, order_at, with_order}
+use Rattle.order_desk.specs.Valid.{IsValid}
+use Rattle.order_desk.proofs.EffectWrites.{effect_writes, unchanged}
+use Rattle.order_desk.proofs.Growth.{place_of_number, reaches_grows}
+use Rattle.order_desk.proofs.StepValid.{reaches_valid}
+use Rattle.answering.specs.Answers.{after_looking, after_placing, by_accepted, by_outcome, ordering, placing, told_again}
+use Rattle.answering.specs.Course.{ends_with, or_memory, plain, unless_said}
+use Rattle.answering.specs.Hand.{Begins, Hand, Stepped, Takes}
+use Rattle.answering.specs.Headline.{AcceptsExactly, IsAccepted, IsNewOrder, IsRefused, IsUnwritten, LastStep, PlacesOrder, WantsMemory, list_text}
+use Rattle.answering.specs.LaterHand.{IsLaterHand}
+use Rattle.answering.specs.Told.{IsBookThere}
+use Rattle.answering.specs.declared.said.Said.{Said}
+use Rattle.answering.proofs.LaterHands.{begins_reached, hand_same, hand_stepped}
+use Rattle.answering.proofs.ToldLaws.{told_book}
+
+-- ---- books in valid tables
+
+released_at : (books : List KeptBook) (place : ℕ) (b : KeptBook) → (P : KeptBook → Type 0) → AllByRecursion P books → slice_get books place ≡ Some b → P b
+released_at [] place b P all is = absurd (cc)
+released_at (c ∷ books) 0 b P all is = let same : c ≡ b = cc in subst P same all.0
+released_at (c ∷ books) (suc place) b P all is = released_at books place b P all.1 is
+
+-- a book of valid tables is a release
+pub is_release : (t : Tables) (number : ℕ) (b : KeptBook) → IsValid t → book_at t.books number ≡ Some b → IsRelease b.released
+is_release t number b valid there =
+    (released_at t.books (number - 1) b (λ c. IsReleaseOf t.drafts c.draft c.revision c.released) valid.books (place_of_number t.books number b there)).release
+
+-- a book stays the one that was released
+stays_released : (t later : Tables) (number : ℕ) (b c : KeptBook) → Stays IsLaterBook (book_at t.books number) (book_at later.books number)
+    → book_at t.books number ≡ Some b → book_at later.books number ≡ Some c → c.released ≡ b.released
+stays_released t later number b c stays is is' =
+    (subst (λ o. Stays IsLaterBook (Some b) o) is' (subst (λ o. Stays IsLaterBook o (book_at later.books number)) is stays)).released
+
+-- ---- what the events of a new order do
+
+module _ (t : Tables) (caller : List ℕ) (number : ℕ) (order : OrderWords) (b : KeptBook) (fresh : IsNewOrder t caller number order b) where
+  takes_one_more : to_place t order ≡ Ok b
+  unfolding to_place book_of
+  takes_one_more =
+      ap (λ o. and_then (ok_or o (reply.NoSuch missing.Book)) (λ book. if book.withdrawn then Err (reply.Gone order.book)
+      else if nat_lt (length t.orders) MOST_ORDERS then Ok book else Err (reply.Full full.Orders))) fresh.there
+      ∙ ap (λ w. if w then Err (reply.Gone order.book) else if nat_lt (length t.orders) MOST_ORDERS then Ok b else Err (reply.Full full.Orders)) fresh.in_force
+      ∙ ap (λ less. if less then Ok b else Err (reply.Full full.Orders)) (lt-ltb (length t.orders) MOST_ORDERS fresh.room)
+
+  look_shows : look t caller number order ≡ shows (answer.Book b.released)
+  unfolding look
+  look_shows =
+      ap (λ o. unless_kept o t order (go_on (to_place t order) (λ book. shows (answer.Book book.released)))) fresh.free
+      ∙ ap (λ r. go_on r (λ book. shows (answer.Book book.released))) takes_one_more
+
+  place_keeps : place t caller number order ≡ keeps answer.Placed (with_order t (key_of caller number) order)
+  unfolding place
+  place_keeps =
+      ap (λ o. unless_kept o t order (go_on (to_place t order) (λ book. keeps answer.Placed (with_order t (key_of caller number) order)))) fresh.free
+      ∙ ap (λ r. go_on r (λ book. keeps answer.Placed (with_order t (key_of caller number) order))) takes_one_more
+
+  -- the book, or want of memory
+  look_tells : (s : State) → s.tables ≡ t → (a : Answer) (new : State) → Follows (look s.tables caller number order) s a new
+      → IsOrMemory (answer.Book b.released) a × (new ≡ s)
+  look_tells s same a new f =
+      subst (λ u. Follows u s a new) (subst (λ tables. look tables caller number order ≡ shows (answer.Book b.released)) (sym same) look_shows) f
+
+  -- the order is kept, or nothing is
+  place_tells : (s : State) → s.tables ≡ t → (a : Answer) (new : State) → Follows (place s.tables caller number order) s a new
+      → IsKept answer.Placed (with_order t (key_of caller number) order) s a new ⊎ IsNotKept s a new
+  place_tells s same a new f =
+      (subst (λ u. Follows u s a new)
+      (subst (λ tables. place tables caller number order ≡ keeps answer.Placed (with_order t (key_of caller number) order)) (sym same) place_keeps) f).1
+
+-- ---- where a call ends
+
+again_ends : (o : Result Outcome OrderFault) (b : Contents) (kind : List ℕ → Reply) (h : Hand) (said : Said) (new : Hand)
+    → or_memory (by_accepted o b (λ text. ends_with (kind text))) h said new → new ≡ h
+again_ends o b kind h said new (inl memory) = memory.1
+again_ends (Ok (outcome.Accepted set list)) b kind h said new (inr is) = is.1
+again_ends (Ok (outcome.Refused rule)) b kind h said new (inr is) = absurd is
+again_ends (Ok (outcome.Unfit position count)) b kind h said new (inr is) = absurd is
+again_ends (Err fault) b kind h said new (inr is) = absurd is
+
+placing_ends : (text : List ℕ) (a : Answer) (h : Hand) (said : Said) (new : Hand) → unless_said a (after_placing text) h said new → new ≡ h
+placing_ends text (answer.Say r) h said new is = is.1
+placing_ends text answer.Placed h said new is = is.1
+placing_ends text (answer.Kept kept r) h said new is =
+    again_ends (outcome_of r.book kept.day kept.codes) r.book (reply.Placed false) h said new is
+placing_ends text (answer.Draft draft revision) h said new is = absurd is
+placing_ends text (answer.Book r) h said new is = absurd is
+
+-- ---- the call of an order
+
+module _ (caller : List ℕ) (number : ℕ) (order : OrderWords) where
+  abbrev Comes : State → Contents → Said → State → Type 0
+  Comes old b said new = AcceptsExactly old caller number order b said new
+
+  wanting : (old : State) (b : KeptBook) (said : Said) (new : State) → IsRelease b.released
+      → IsWellFormed b.released.book order.day order.codes → WantsMemory old said new → Comes old b.released.book said new
+  wanting old b said new release formed wants = record {
+    built = λ can. inr (inl wants);
+    unbuilt = λ cannot. inr wants;
+    one_list = λ can. (built b.released order.day order.codes release formed can).one_list;
+  }
+
+  -- an order has one outcome
+  other_outcome : (r : Release) (is : Result Outcome OrderFault) → IsRelease r → IsWellFormed r.book order.day order.codes
+      → outcome_of r.book order.day order.codes ≡ is → can_be_built r.book order.day order.codes ≡ true
+      → is ≡ Ok (outcome.Accepted (supplemented r.book order.day order.codes) (parts r.book order.day (supplemented r.book order.day order.codes)))
+  other_outcome r is release formed same can = sym same ∙ (built r order.day order.codes release formed can).accepted
+
+  refused_outcome : (r : Release) (is : Result Outcome OrderFault) (release : IsRelease r) (formed : IsWellFormed r.book order.day order.codes)
+      → outcome_of r.book order.day order.codes ≡ is → (cannot : can_be_built r.book order.day order.codes ≡ false)
+      → is ≡ Ok (outcome.Refused (turned_away r order.day order.codes release formed cannot).rule)
+  refused_outcome r is release formed same cannot = sym same ∙ (turned_away r order.day order.codes release formed cannot).refused
+
+  -- ---- the look is the last event
+
+  module _ (h : Hand) (a : Answer) (mid : Hand) (s : Stepped h (Look caller number order) a mid) where
+    same_state : mid.state ≡ s.first
+    same_state =
+        unchanged (look s.first.tables caller number order) s.first a mid.state (effect_writes (λ t. ⊥) s.first.tables (Look caller number order) tt) s.step
+
+    begun : h.alone ≡ true → s.first ≡ h.state
+    begun alone = subst (λ b. Begins b h.state s.first) alone s.begins
+
+    valid_first : IsValid h.state.tables → IsValid s.first.tables
+    valid_first valid = reaches_valid h.state s.first (begins_reached h.alone h.state s.first s.begins) valid
+
+    ended : (said : Said) → ((b : KeptBook) → IsNewOrder s.first.tables caller number order b → Comes s.first b.released.book said mid.state)
+        → PlacesOrder h caller number order said mid
+    ended said so = inr (record {
+      between = h;
+      event = Look caller number order;
+      answer = a;
+      its_event = inl refl;
+      before = hand_same h;
+      step = s;
+      at_once = begun;
+    }, so)
+
+    no_memory : (said : Said) → IsValid h.state.tables → said ≡ plain reply.Memory → PlacesOrder h caller number order said mid
+    no_memory said valid is = ended said (λ b fresh.
+        wanting s.first b said mid.state (is_release s.first.tables order.book b (valid_first valid) fresh.there) fresh.formed
+        (record { told = is; unchanged = ap (λ k. k.tables) same_state }))
+
+    -- the look of a new order answers nothing else
+    not_new : (said : Said) → (a ≢ answer.Say reply.Memory) → ((b : KeptBook) → a ≢ answer.Book b.released) → PlacesOrder h caller number order said mid
+    not_new said not_memory not_book = ended said (λ b fresh.
+        elim ((look_tells s.first.tables caller number order b fresh s.first refl a mid.state s.step).0) [
+          | inl is ↦ absurd (not_book b is)
+          | inr is ↦ absurd (not_memory is)
+        ])
+
+  same_release : (r : Release) (b : KeptBook) → IsOrMemory (answer.Book b.released) (answer.Book r) → r ≡ b.released
+  same_release r b (inl is) = cc
+  same_release r b (inr is) = absurd (cc)
+
+  -- a refusal, and a fault that a well-formed order doesn't have
+  module _ (h : Hand) (r : Release) (mid : Hand) (s : Stepped h (Look caller number order) (answer.Book r) mid) (valid : IsValid h.state.tables) where
+    its_release : (b : KeptBook) → IsNewOrder s.first.tables caller number order b → r ≡ b.released
+    its_release b fresh = same_release r b (look_tells s.first.tables caller number order b fresh s.first refl (answer.Book r) mid.state s.step).0
+
+    released : (b : KeptBook) → IsNewOrder s.first.tables caller number order b → IsRelease b.released
+    released b fresh = is_release s.first.tables order.book b (valid_first h (answer.Book r) mid s valid) fresh.there
+
+    comes_to : (b : KeptBook) → IsNewOrder s.first.tables caller number order b → (is : Result Outcome OrderFault)
+        → outcome_of r.book order.day order.codes ≡ is → outcome_of b.released.book order.day order.codes ≡ is
+    comes_to b fresh is same = subst (λ (q : Release). outcome_of q.book order.day order.codes ≡ is) (its_release b fresh) same
+
+    refuses : (said : Said) (rule : ℕ) → outcome_of r.book order.day order.codes ≡ Ok (outcome.Refused rule)
+        → said ≡ plain (reply.Refused (construct_id r.book rule)) → PlacesOrder h caller number order said mid
+    refuses said rule is told = ended h (answer.Book r) mid s said (λ b fresh. record {
+      built = λ can. let no_ = other_outcome b.released (Ok (outcome.Refused rule)) (released b fresh) fresh.formed (comes_to b fresh _ is) can in absurd (cc);
+      unbuilt = λ cannot.
+          let turned = turned_away b.released order.day order.codes (released b fresh) fresh.formed cannot in
+          let same_rule : rule ≡ turned.rule = refused_same rule turned.rule
+          (refused_outcome b.released (Ok (outcome.Refused rule)) (released b fresh) fresh.formed (comes_to b fresh _ is) cannot) in
+          inl (record {
+            rule = turned.rule;
+            first = turned.first;
+            told = told ∙ ap (λ (q : Release). plain (reply.Refused (construct_id q.book rule))) (its_release b fresh)
+                ∙ ap (λ k. plain (reply.Refused (construct_id b.released.book k))) same_rule;
+            unchanged = same_state h (answer.Book r) mid s;
+          });
+      one_list = λ can. (built b.released order.day order.codes (released b fresh) fresh.formed can).one_list;
+    })
+      where
+        refused_same : (k n : ℕ) → Ok {E = OrderFault} (outcome.Refused k) ≡ Ok (outcome.Refused n) → k ≡ n
+        refused_same k n is = cc
+
+    faulty : (said : Said) (fault : OrderFault) → outcome_of r.book order.day order.codes ≡ Err fault → PlacesOrder h caller number order said mid
+    faulty said fault is = ended h (answer.Book r) mid s said (λ b fresh. record {
+      built = λ can. let no_ = other_outcome b.released (Err fault) (released b fresh) fresh.formed (comes_to b fresh _ is) can in absurd (cc);
+      unbuilt = λ cannot. let no_ = refused_outcome b.released (Err fault) (released b fresh) fresh.formed (comes_to b fresh _ is) cannot in absurd (cc);
+      one_list = λ can. let no_ = other_outcome b.released (Err fault) (released b fresh) fresh.formed (comes_to b fresh _ is) can in absurd (cc);
+    })
+
+    -- ---- the order is placed
+
+    module _ (set : List Bool) (list : List PartsLine) (is : outcome_of r.book order.day order.codes ≡ Ok (outcome.Accepted set list))
+        (a : Answer) (late : Hand) (p : Stepped mid (Place caller number order) a late) where
+      valid_mid : IsValid mid.state.tables
+      valid_mid = reaches_valid h.state mid.state (hand_stepped h (Look caller number order) (answer.Book r) mid s).reaches valid
+
+      valid_placed : IsValid p.first.tables
+      valid_placed = reaches_valid mid.state p.first (begins_reached mid.alone mid.state p.first p.begins) valid_mid
+
+      shown : IsBookThere mid.state.tables order.book r
+      shown = told_book caller number order h (answer.Book r) mid (inr s)
+
+      -- the book by which it was judged is the one that it is placed under
+      same_book : (b : KeptBook) → IsNewOrder p.first.tables caller number order b → r ≡ b.released
+      same_book b fresh =
+          sym (stays_released mid.state.tables p.first.tables order.book shown.book b
+          ((reaches_grows mid.state p.first (begins_reached mid.alone mid.state p.first p.begins)).books order.book) shown.there fresh.there
+          ∙ shown.its_release)
+
+      outcome_there : (b : KeptBook) → IsNewOrder p.first.tables caller number order b
+          → outcome_of b.released.book order.day order.codes ≡ Ok (outcome.Accepted set list)
+      outcome_there b fresh = subst (λ (q : Release). outcome_of q.book order.day order.codes ≡ Ok (outcome.Accepted set list)) (same_book b fresh) is
+
+      release_there : (b : KeptBook) → IsNewOrder p.first.tables caller number order b → IsRelease b.released
+      release_there b fresh = is_release p.first.tables order.book b valid_placed fresh.there
+
+      printed : (b : KeptBook) → IsNewOrder p.first.tables caller number order b → can_be_built b.released.book order.day order.codes ≡ true
+          → accepted_text r.book set list ≡ list_text b.released.book order.day order.codes
+      printed b fresh can =
+          let same = other_outcome b.released (Ok (outcome.Accepted set list)) (release_there b fresh) fresh.formed (outcome_there b fresh) can in
+          let x = supplemented b.released.book order.day order.codes in
+          let same_set : set ≡ x = cc in
+          let same_list : list ≡ parts b.released.book order.day x = cc in
+          ap (λ (q : Release). accepted_text q.book set list) (same_book b fresh)
+          ∙ ap (λ y. accepted_text b.released.book y list) same_set
+          ∙ ap (λ l. accepted_text b.released.book x l) same_list
+
+      ends_so : (b : KeptBook) → IsNewOrder p.first.tables caller number order b → (said : Said) → can_be_built b.released.book order.day order.codes ≡ true
+          → unless_said a (after_placing (accepted_text r.book set list)) late said late
+          → IsAccepted p.first caller number order b.released.book said late.state
+          ⊎ (WantsMemory p.first said late.state ⊎ IsUnwritten p.first said late.state)
+      ends_so b fresh said can rest =
+          elim (place_tells p.first.tables caller number order b fresh p.first refl a late.state p.step) [
+            | inl kept ↦ inl (record {
+              printed =
+                  (subst (λ given. unless_said given (after_placing (accepted_text r.book set list)) late said late) kept.said rest).0
+                  ∙ ap (λ text. plain (reply.Placed true text)) (printed b fresh can);
+              kept = kept.changed;
+              count = kept.count;
+            })
+            | inr unkept ↦ inr (unwritten unkept)
+          ]
+        where
+          unwritten : IsNotKept p.first a late.state → WantsMemory p.first said late.state ⊎ IsUnwritten p.first said late.state
+          unwritten unkept = by unkept.said
+            where
+              by : (a ≡ answer.Say reply.Memory) ⊎ IsStoreFault p.first a late.state
+                  → WantsMemory p.first said late.state ⊎ IsUnwritten p.first said late.state
+              by (inl memory) = inl (record {
+                told = (subst (λ given. unless_said given (after_placing (accepted_text r.book set list)) late said late) memory rest).0;
+                unchanged = unkept.unchanged;
+              })
+              by (inr fault) = inr (record {
+                told = (subst (λ given. unless_said given (after_placing (accepted_text r.book set list)) late said late) fault.said rest).0;
+                fails = fault.fails;
+                unchanged = unkept.unchanged;
+              })
+
+      placed : (said : Said) → unless_said a (after_placing (accepted_text r.book set list)) late said late → PlacesOrder h caller number order said late
+      placed said rest = inr (record {
+        between = mid;
+        event = Place caller number order;
+        answer = a;
+        its_event = inr refl;
+        before = hand_stepped h (Look caller number order) (answer.Book r) mid s;
+        step = p;
+        at_once = λ alone.
+            subst (λ b. Begins b mid.state p.first) (s.alone ∙ alone) p.begins
+            ∙ same_state h (answer.Book r) mid s ∙ begun h (answer.Book r) mid s alone;
+      }, λ b fresh. record {
+        built = λ can. ends_so b fresh said can rest;
+        unbuilt = λ cannot.
+            let no_ = refused_outcome b.released (Ok (outcome.Accepted set list)) (release_there b fresh) fresh.formed (outcome_there b fresh) cannot in absurd (cc);
+        one_list = λ can. (built b.released order.day order.codes (release_there b fresh) fresh.formed can).one_list;
+      })
+
+    judged : 2 ≤ h.left → (o : Result Outcome OrderFault) → outcome_of r.book order.day order.codes ≡ o → (said : Said) (new : Hand)
+        → by_outcome o r.book (placing caller number order) mid said new → PlacesOrder h caller number order said new
+    judged left (Ok (outcome.Refused rule)) is said new ends =
+        subst (λ (k : Hand). PlacesOrder h caller number order said k) (sym ends.1) (refuses said rule is ends.0)
+    judged left (Ok (outcome.Unfit position count)) is said new ends = absurd ends
+    judged left (Err fault) is said new ends = subst (λ (k : Hand). PlacesOrder h caller number order said k) (sym ends.1) (faulty said fault is)
+    judged left (Ok (outcome.Accepted set list)) is said new (a, late, inl over, rest) = absurd (omega (arith, s.left, over.none_left, left))
+    judged left (Ok (outcome.Accepted set list)) is said new (a, late, inr p, rest) =
+        let same = placing_ends (accepted_text r.book set list) a late said new rest in
+        subst (λ (k : Hand). PlacesOrder h caller number order said k) (sym same)
+        (placed set list is a late p said (subst (λ (k : Hand). unless_said a (after_placing (accepted_text r.book set list)) late said k) same rest))
+
+  after_look : (h : Hand) → IsValid h.state.tables → 2 ≤ h.left → (a : Answer) (mid : Hand) → Stepped h (Look caller number order) a mid
+      → (said : Said) (new : Hand) → unless_said a (after_looking caller number order) mid said new → PlacesOrder h caller number order said new
+  after_look h valid left (answer.Say r) mid s said new ends =
+      subst (λ (k : Hand). PlacesOrder h caller number order said k) (sym ends.1)
+      (ended h (answer.Say r) mid s said (λ b fresh.
+      elim ((look_tells s.first.tables caller number order b fresh s.first refl (answer.Say r) mid.state s.step).0) [
+        | inl is ↦ absurd (cc)
+        | inr is ↦
+            let memory : r ≡ reply.Memory = cc in
+            wanting s.first b said mid.state (is_release s.first.tables order.book b (valid_first h (answer.Say r) mid s valid) fresh.there) fresh.formed
+            (record { told = ends.0 ∙ ap plain memory; unchanged = ap (λ k. k.tables) (same_state h (answer.Say r) mid s) })
+      ]))
+  after_look h valid left (answer.Draft text revision) mid s said new ends = absurd ends
+  after_look h valid left answer.Placed mid s said new ends = absurd ends
+  after_look h valid left (answer.Kept kept r) mid s said new ends =
+      subst (λ (k : Hand). PlacesOrder h caller number order said k)
+      (sym (again_ends (outcome_of r.book kept.day kept.codes) r.book (reply.Placed false) mid said new ends))
+      (not_new h (answer.Kept kept r) mid s said (λ is. cc) (λ b is. cc))
+  after_look h valid left (answer.Book r) mid s said new (inl memory) =
+      subst (λ (k : Hand). PlacesOrder h caller number order said k) (sym memory.1) (no_memory h (answer.Book r) mid s said valid memory.0)
+  after_look h valid left (answer.Book r) mid s said new (inr goes) =
+      judged h r mid s valid left (outcome_of r.book order.day order.codes) refl said new goes
+
+  pub places_order : (h : Hand) (said : Said) (new : Hand) → IsValid h.state.tables → 2 ≤ h.left → ordering caller number order h said new
+      → PlacesOrder h caller number order said new
+  places_order h said new valid left (inl memory) = inl memory
+  places_order h said new valid left (inr (a, mid, inl over, rest)) = absurd (omega (arith, over.none_left, left))
+  places_order h said new valid left (inr (a, mid, inr s, rest)) = after_look h valid left a mid s said new rest
+
+  -- who is alone finds the desk as it was when the call began
+  pub places_alone : (h : Hand) (said : Said) (new : Hand) → h.alone ≡ true → IsValid h.state.tables → 2 ≤ h.left
+      → ordering caller number order h said new → (b : KeptBook) → IsNewOrder h.state.tables caller number order b
+      → AcceptsExactly h.state caller number order b.released.book said new.state
+  places_alone h said new alone valid left ends b fresh = by (places_order h said new valid left ends)
+    where
+      by : PlacesOrder h caller number order said new → AcceptsExactly h.state caller number order b.released.book said new.state
+      by (inl (told, same)) =
+          subst (λ (k : Hand). AcceptsExactly h.state caller number order b.released.book said k.state) (sym same)
+          (wanting h.state b said h.state (is_release h.state.tables order.book b valid fresh.there) fresh.formed (record { told = told; unchanged = refl }))
+      by (inr (last, so)) =
+          subst (λ s. (c : KeptBook) → IsNewOrder s.tables caller number order c → AcceptsExactly s caller number order c.released.book said new.state)
+          (last.at_once alone) so b fresh

@@ -1,0 +1,14 @@
+use Rattle.std.proofs.Common.{subst}
+use Rattle.desk_words.specs.declared.call.What.{What}
+use Rattle.answering.specs.Answers.{course_of}
+use Rattle.answering.proofs.NewOrders.{places_alone, places_order}
+use Rattle.answering.proofs.headline.headline_laws.Goals as goal
+
+pub returns-clause-orders : goal.returns-clause-orders
+returns-clause-orders c call number order h said new is valid left answers =
+    places_order call.caller number order h said new valid left (subst (λ (w : What). course_of call.caller w h said new) is answers)
+
+pub returns-clause-alone : goal.returns-clause-alone
+returns-clause-alone c call number order h said new b is valid left answers alone fresh =
+    places_alone call.caller number order h said new alone valid left
+    (subst (λ (w : What). course_of call.caller w h said new) is answers) b fresh

@@ -1,0 +1,82 @@
+-- What a new order comes to, in the words of the trade: it is accepted exactly where it can be built, memory and store allowing,
+-- and the list that is printed is then its book's one complete list.
+--     IsNewOrder t caller number order b    a well-formed order to the book b in force, under a free number, with room for it
+--     list_text b day names                 the printed parts list of the supplemented codes
+--     IsAccepted, IsRefused                 the order is kept and printed, or refused by the first rule that is broken
+--     WantsMemory, IsUnwritten              there was no memory, or the store failed: nothing changes but the count of faults
+--     AcceptsExactly                        which of them it comes to
+--     LastStep                              the last event of the order's call, and the state at which it begins
+--     PlacesOrder                           what the call of an order comes to
+use Rattle.std.specs.Prelude.{◌≡◌, ◌⊎◌, ℕ, ◌<◌, true, false, List, None, Some, length}
+use Rattle.pb_outside.specs.Faults.{Fails}
+use Rattle.book_model.specs.Contents.{Contents}
+use Rattle.book_model.specs.Parts.{parts}
+use Rattle.parts_usage.specs.Broken.{first_broken_of}
+use Rattle.order_text.specs.OutcomeText.{accepted_text, construct_id}
+use Rattle.release.specs.Orders.{HasOneList, IsWellFormed, can_be_built, supplemented}
+use Rattle.desk_words.specs.declared.order_words.OrderWords.{OrderWords}
+use Rattle.desk_words.specs.declared.reply.Reply.TheVariants as reply
+use Rattle.order_desk.specs.declared.answer.Answer.{Answer}
+use Rattle.order_desk.specs.declared.event.Event.{Event}
+use Rattle.order_desk.specs.declared.event.Event.TheVariants.{Look, Place}
+use Rattle.order_desk.specs.declared.kept_book.KeptBook.{KeptBook}
+use Rattle.order_desk.specs.declared.limits.TheConstants.{MOST_ORDERS}
+use Rattle.order_desk.specs.Tables.{Tables, State, book_at, key_of, order_at, with_order}
+use Rattle.answering.specs.Course.{plain}
+use Rattle.answering.specs.Hand.{Hand, Stepped}
+use Rattle.answering.specs.LaterHand.{IsLaterHand}
+use Rattle.answering.specs.declared.said.Said.{Said}
+
+pub record IsNewOrder (t : Tables) (caller : List ℕ) (number : ℕ) (order : OrderWords) (b : KeptBook) : Type 0 where
+  pub there : book_at t.books order.book ≡ Some b
+  pub in_force : b.withdrawn ≡ false
+  pub free : order_at t.orders (key_of caller number) ≡ None
+  pub room : length t.orders < MOST_ORDERS
+  pub formed : IsWellFormed b.released.book order.day order.codes
+
+abbrev pub list_text : Contents → ℕ → List (List ℕ) → List ℕ
+list_text b day names = let x = supplemented b day names in accepted_text b x (parts b day x)
+
+pub record WantsMemory (old : State) (said : Said) (new : State) : Type 0 where
+  pub told : said ≡ plain reply.Memory
+  pub unchanged : new.tables ≡ old.tables
+
+pub record IsUnwritten (old : State) (said : Said) (new : State) : Type 0 where
+  pub told : said ≡ plain (reply.StoreFault old.faults.count new.faults.count)
+  pub fails : Fails old.faults new.faults
+  pub unchanged : new.tables ≡ old.tables
+
+module _ (old : State) (caller : List ℕ) (number : ℕ) (order : OrderWords) (b : Contents) (said : Said) (new : State) where
+  pub record IsAccepted : Type 0 where
+    pub printed : said ≡ plain (reply.Placed true (list_text b order.day order.codes))
+    pub kept : new.tables ≡ with_order old.tables (key_of caller number) order
+    pub count : new.faults.count ≡ old.faults.count
+
+  pub record IsRefused : Type 0 where
+    pub rule : ℕ
+    pub first : first_broken_of b order.day (supplemented b order.day order.codes) ≡ Some rule
+    pub told : said ≡ plain (reply.Refused (construct_id b rule))
+    pub unchanged : new ≡ old
+
+  pub record AcceptsExactly : Type 0 where
+    pub built : can_be_built b order.day order.codes ≡ true → IsAccepted ⊎ (WantsMemory old said new ⊎ IsUnwritten old said new)
+    pub unbuilt : can_be_built b order.day order.codes ≡ false → IsRefused ⊎ WantsMemory old said new
+    pub one_list : can_be_built b order.day order.codes ≡ true
+        → HasOneList b order.day (supplemented b order.day order.codes)
+
+-- who is alone finds the desk at that event as it was when the call began
+pub record LastStep (h : Hand) (caller : List ℕ) (number : ℕ) (order : OrderWords) (new : Hand) : Type 0 where
+  pub between : Hand
+  pub event : Event
+  pub answer : Answer
+  pub its_event : (event ≡ Look caller number order) ⊎ (event ≡ Place caller number order)
+  pub before : IsLaterHand h between
+  pub step : Stepped between event answer new
+  pub at_once : h.alone ≡ true → step.first ≡ h.state
+
+abbrev pub PlacesOrder : Hand → List ℕ → ℕ → OrderWords → Said → Hand → Type 0
+PlacesOrder h caller number order said new =
+    ((said ≡ plain reply.Memory) × (new ≡ h))
+    ⊎ ((last : LastStep h caller number order new)
+    × ((b : KeptBook) → IsNewOrder last.step.first.tables caller number order b
+    → AcceptsExactly last.step.first caller number order b.released.book said new.state))
