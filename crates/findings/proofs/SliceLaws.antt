@@ -129,31 +129,34 @@ pub is_over : (b : Contents) (s : Slice) (solving : Solving) → StandsOver (sli
 is_over b s solving h codes = record { given = h.given; codes = codes }
 
 -- a solver that was asked over the clauses of a slice
-pub record IsBegun (b : Contents) (s : Slice) (c : Coded) (solving : Solving) : Type 0 where
+pub record IsBegun (b : Contents) (s : Slice) (count : ℕ) (solving : Solving) : Type 0 where
   pub over : StandsOver (slice_clauses b s.first) solving.kernel
-  pub vars : solving.vars ≡ c.vars
+  pub vars : solving.vars ≡ count
   pub codes : solving.codes ≡ length b.codes
 
-pub begun : (b : Contents) (s : Slice) (c : Coded) (fresh now : Solving) → IsCoded b s.first c → StandsOver c.pool.clauses fresh.kernel
-    → fresh.vars ≡ c.vars → fresh.codes ≡ length b.codes
-    → Extends fresh.kernel now.kernel → now.vars ≡ fresh.vars → now.codes ≡ fresh.codes → IsBegun b s c now
-begun b s c fresh now coded over counted codes more vars same = record {
+pub begun : (b : Contents) (s : Slice) (clauses : List (List ℕ)) (vars : ℕ) (fresh now : Solving) → clauses ≡ slice_clauses b s.first → StandsOver clauses fresh.kernel
+    → fresh.vars ≡ vars → fresh.codes ≡ length b.codes
+    → Extends fresh.kernel now.kernel → now.vars ≡ fresh.vars → now.codes ≡ fresh.codes → IsBegun b s vars now
+begun b s clauses vars fresh now are over counted codes more same_vars same = record {
   over =
       stands_over (slice_clauses b s.first) fresh.kernel now.kernel
-      (subst (λ (cs : List (List ℕ)). StandsOver cs fresh.kernel) coded.clauses over) more;
-  vars = vars ∙ counted;
+      (subst (λ (cs : List (List ℕ)). StandsOver cs fresh.kernel) are over) more;
+  vars = same_vars ∙ counted;
   codes = same ∙ codes;
 }
 
-pub over_begun : (b : Contents) (s : Slice) (c : Coded) (solving : Solving) → IsBegun b s c solving → IsOver b s solving
-over_begun b s c solving h = is_over b s solving h.over h.codes
+pub over_begun : (b : Contents) (s : Slice) (vars : ℕ) (solving : Solving) → IsBegun b s vars solving → IsOver b s solving
+over_begun b s vars solving h = is_over b s solving h.over h.codes
 
 -- the questions behind Void of a solver that was begun
-pub asked_begun : (b : Contents) (s : Slice) (c : Coded) (solving : Solving) (later : List Asked) → IsCoded b s.first c → IsInRange b c → IsBegun b s c solving
-    → later ≡ drop 1 c.questions.items → All (IsAsked b s solving.vars) later
-asked_begun b s c solving later coded ranges h are =
-    subst (All (IsAsked b s solving.vars)) (sym are)
-    (subst (λ (n : ℕ). All (IsAsked b s n) (drop 1 c.questions.items)) (sym h.vars) (asked_each b s c coded ranges))
+pub asked_begun : (b : Contents) (s : Slice) (vars : ℕ) (solving : Solving) (later : List Asked) → IsBegun b s vars solving
+    → All (IsAsked b s vars) later → All (IsAsked b s solving.vars) later
+asked_begun b s vars solving later h asked = subst (λ (n : ℕ). All (IsAsked b s n) later) (sym h.vars) asked
+
+-- the questions behind Void are those of the slice
+pub asked_later : (b : Contents) (s : Slice) (c : Coded) (later : List Asked) → IsCoded b s.first c → IsInRange b c
+    → later ≡ drop 1 c.questions.items → All (IsAsked b s c.vars) later
+asked_later b s c later coded ranges are = subst (All (IsAsked b s c.vars)) (sym are) (asked_each b s c coded ranges)
 
 pub later_begun : (b : Contents) (s : Slice) (c : Coded) (later : List Asked) → IsCoded b s.first c → later ≡ drop 1 c.questions.items → later ≡ drop 1 (slice_asked b s.first)
 later_begun b s c later coded are = are ∙ ap (λ (qs : List Asked). drop 1 qs) coded.asked

@@ -5,7 +5,7 @@ use Rattle.std.specs.List.{slice_get}
 use Rattle.book_model.specs.Contents.{Contents}
 use Rattle.book_model.specs.declared.record.Slice.{Slice}
 use Rattle.clause_pool.specs.Clause.{Follows}
-use Rattle.clause_pool.specs.Derivation.{AllFollow}
+use Rattle.clause_pool.specs.Derivation.{Derivation, AllFollow}
 use Rattle.clause_pool.proofs.ClauseLaws.{all_found}
 use Rattle.clausify.specs.Coded.{slice_clauses, slice_asked}
 use Rattle.clausify.specs.Questions.{HasSet}
@@ -29,12 +29,17 @@ meets_by_solver b s k a solving x facts is over h =
     (subst (λ (n : ℕ). Begins (slice_clauses b s.first) a.goal n x) over.codes
     (subst (λ (cs : List (List ℕ)). Begins cs a.goal solving.codes x) over.given h))
 
+-- a kernel over the clauses of the slice
+pub none_by_kernel : (b : Contents) (s : Slice) (k : ℕ) (a : Asked) (kernel : Derivation) (at : ℕ) → SliceFacts b s → slice_get (slice_asked b s.first) k ≡ Some a
+    → given_of kernel ≡ slice_clauses b s.first → AllFollow kernel → ClosedBy kernel a.goal at → HasSet b s a.question → ⊥
+none_by_kernel b s k a kernel at facts is given follow h =
+    none_from_clause b s k a h.clause facts is
+    (subst (λ (cs : List (List ℕ)). Follows cs h.clause) given
+    (all_found (Follows (given_of kernel)) kernel.clauses at h.clause follow h.there)) h.refutes
+
 pub none_by_solver : (b : Contents) (s : Slice) (k : ℕ) (a : Asked) (solving : Solving) (at : ℕ) → SliceFacts b s → slice_get (slice_asked b s.first) k ≡ Some a
     → IsOver b s solving → AllFollow solving.kernel → ClosedBy solving.kernel a.goal at → HasSet b s a.question → ⊥
-none_by_solver b s k a solving at facts is over follow h =
-    none_from_clause b s k a h.clause facts is
-    (subst (λ (cs : List (List ℕ)). Follows cs h.clause) over.given
-    (all_found (Follows (given_of solving.kernel)) solving.kernel.clauses at h.clause follow h.there)) h.refutes
+none_by_solver b s k a solving at facts is over follow h = none_by_kernel b s k a solving.kernel at facts is over.given follow h
 
 pub closed_at : (solving : Solving) (g at : ℕ) → ClosedBy solving.kernel g at → ClosedAt solving.kernel.clauses g at
 closed_at solving g at h = record { clause = h.clause; there = h.there; refutes = h.refutes }

@@ -1,5 +1,5 @@
 //! The check of a book.
-ghost use Rattle.std.specs.Prelude.{◌≡◌, ◌↔◌, ◌<◌, ◌≤◌, All, IfOk, IfSome, IsSome, OnOk, Err, false, ◌++◌, ◌||◌};
+ghost use Rattle.std.specs.Prelude.{◌≡◌, ◌↔◌, ◌<◌, ◌≤◌, [], All, IfOk, IfSome, IsSome, OnOk, Err, false, ◌++◌, ◌||◌};
 ghost use Rattle.std.specs.List.{AllZip, list_any};
 ghost use Rattle.std.specs.Option.{is_none, option_to_list};
 ghost use Rattle.pb_base.specs.Answers.{IfRefused};
@@ -101,15 +101,37 @@ fn report_slices(
 {
     let mut all = Vec::new(alloc);
     let mut earlier = Earlier::none(alloc);
+    report_each(alloc, book, slices, effort, &mut earlier, &mut all)?;
+    Ok(all)
+}
+
+// Appends the notes of slices.
+fn report_each(
+    alloc: Global,
+    book: &Book,
+    slices: &[Slice],
+    effort: Effort,
+    earlier: &mut Earlier,
+    all: &mut Vec<Note>,
+) -> Result<(), Memory>
+    requires steady { All (IsSteady book.now) slices.now }
+    requires order { All IsOrdered slices.now }
+    requires few { AreWithin book.now slices.now }
+    requires some { 0 < effort.budget }
+    requires budget { effort.budget ≤ MOST_BUDGET }
+    requires none { all.old.items ≡ [] }
+    ensures { OnOk result
+        (InParts (SliceNotes (inquiry book.now effort)) slices.now all.new.items) }
+{
     for slice in slices.iter() {
-        let checked = check_slice(alloc, book, slice, effort, &mut earlier)?;
+        let checked = check_slice(alloc, book, slice, effort, earlier)?;
         let SliceCheck {
             mut notes,
             proof: _,
         } = checked;
         all.append(&mut notes)?;
     }
-    Ok(all)
+    Ok(())
 }
 
 // What a check of slices tells: their notes, and where none of these keeps the book from its release, a proof for each slice.
@@ -143,12 +165,39 @@ fn check_slices(
         stopped: false,
     };
     let mut earlier = Earlier::none(alloc);
+    check_each(alloc, book, slices, effort, &mut earlier, &mut all)?;
+    Ok(all)
+}
+
+// Puts down what the check of each slice tells.
+fn check_each(
+    alloc: Global,
+    book: &Book,
+    slices: &[Slice],
+    effort: Effort,
+    earlier: &mut Earlier,
+    all: &mut SliceChecks,
+) -> Result<(), Memory>
+    requires steady { All (IsSteady book.now) slices.now }
+    requires order { All IsOrdered slices.now }
+    requires few { AreWithin book.now slices.now }
+    requires some { 0 < effort.budget }
+    requires budget { effort.budget ≤ MOST_BUDGET }
+    requires notes { all.old.notes.items ≡ [] }
+    requires proofs { all.old.proofs.items ≡ [] }
+    requires stopped { all.old.stopped ≡ false }
+    ensures notes { OnOk result
+        (InParts (SliceNotes (inquiry book.now effort)) slices.now all.new.notes.items) }
+    ensures stopped { OnOk result (all.new.stopped ≡ list_any stops all.new.notes.items) }
+    ensures proofs { OnOk result
+        (all.new.stopped ≡ false → AllZip (ShowsSlice book.now) slices.now all.new.proofs.items) }
+{
     for slice in slices {
-        let checked = check_slice(alloc, book, slice, effort, &mut earlier)?;
+        let checked = check_slice(alloc, book, slice, effort, earlier)?;
         let checked = with_short_proof(alloc, book, slice, checked)?;
         all.put(checked)?;
     }
-    Ok(all)
+    Ok(())
 }
 
 // The same with a proof of no more steps than its closings rest on.

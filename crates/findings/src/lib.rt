@@ -23,6 +23,3 @@ mod usages;
 
 pub use check::{Checked, check_book, report_book};
 pub use report::{Ask, Note, Report, Verdict, verdict_of};
-
-#[cfg(test)]
-mod tests;

@@ -9,8 +9,8 @@ ghost use Rattle.pb_base.specs.declared.limits.TheConstants.{MOST_QUESTIONS};
 ghost use Rattle.solver.specs.Solver.{Grows};
 
 use book_model::{Book, Slice};
-use clause_pool::{Kernel, Pair, Ref, ShortPair};
-use clausify::coded_slice;
+use clause_pool::{Kernel, Pair, Pool, Ref, ShortPair};
+use clausify::{Coded, coded_slice};
 use derivation::{Closing, SliceProof, ToClose, to_close};
 use pb_base::Memory;
 use solver::{derive, refuting_unit};
@@ -27,11 +27,8 @@ pub(crate) fn shorten(
     requires shown { ShowsSlice book.now slice.now proof }
     ensures { IfOk result (ShowsSlice book.now slice.now) }
 {
-    let needed = needed_of(alloc, &proof)?;
-    if is_nearly_all(&needed, proof.kernel.given()) {
-        return Ok(proof);
-    }
-    match derive_needed(alloc, book, slice, &proof, &needed)? {
+    let short = short_of(alloc, book, slice, &proof)?;
+    match short {
         Some(short) => Ok(SliceProof {
             set: proof.set,
             kernel: short.kernel,
@@ -39,6 +36,26 @@ pub(crate) fn shorten(
         }),
         None => Ok(proof),
     }
+}
+
+// What is shorter than the proof, unless its closings rest on nearly all that it has.
+fn short_of(
+    alloc: Global,
+    book: &Book,
+    slice: &Slice,
+    proof: &SliceProof,
+) -> Result<Option<Short>, Memory>
+    requires { asked_of book.now slice.now ≤ MOST_QUESTIONS }
+    ensures kernel { IfOk result (λ found. IfSome found (λ s.
+        StandsOver (slice_clauses book.now slice.now.first) s.kernel)) }
+    ensures closed { IfOk result (λ found. IfSome found (λ s.
+        AllClosed s.kernel.clauses (to_close 0 (slice_asked book.now slice.now.first)) s.closed.items)) }
+{
+    let needed = needed_of(alloc, proof)?;
+    if is_nearly_all(&needed, proof.kernel.given()) {
+        return Ok(None);
+    }
+    derive_needed(alloc, book, slice, proof, &needed)
 }
 
 // A kernel over the clauses of a slice, and what closes the slice's questions in it.
@@ -116,13 +133,49 @@ fn derive_needed(
         AllClosed s.kernel.clauses (to_close 0 (slice_asked book.now slice.now.first)) s.closed.items)) }
 {
     let coded = coded_slice(alloc, book, slice)?;
-    let asked = to_close(alloc, &coded.questions)?;
-    let mut kernel = Kernel::of(alloc, coded.pool);
-    let places = derive_marked(alloc, &mut kernel, &proof.kernel, needed)?;
-    match close_again(alloc, &kernel, &asked, &proof.closed, &places)? {
+    let Coded {
+        pool,
+        vars: _,
+        questions,
+    } = coded;
+    let asked = to_close(alloc, &questions)?;
+    short_over(alloc, pool, &asked, proof, needed)
+}
+
+// The same over these clauses, of these questions.
+fn short_over(
+    alloc: Global,
+    clauses: Pool,
+    asked: &[ToClose],
+    proof: &SliceProof,
+    needed: &[bool],
+) -> Result<Option<Short>, Memory>
+    ensures kernel { IfOk result (λ found. IfSome found (λ s. StandsOver clauses.clauses s.kernel)) }
+    ensures closed { IfOk result (λ found. IfSome found (λ s.
+        AllClosed s.kernel.clauses asked.now s.closed.items)) }
+{
+    let mut kernel = Kernel::of(alloc, clauses);
+    let found = close_by_marked(alloc, &mut kernel, asked, proof, needed)?;
+    match found {
         Some(closed) => Ok(Some(Short { kernel, closed })),
         None => Ok(None),
     }
+}
+
+// Derives the marked clauses in a kernel, and closes these questions by them.
+fn close_by_marked(
+    alloc: Global,
+    kernel: &mut Kernel,
+    asked: &[ToClose],
+    proof: &SliceProof,
+    needed: &[bool],
+) -> Result<Option<Vec<Closing>>, Memory>
+    ensures grows { Grows kernel.old kernel.new }
+    ensures closed { IfOk result (λ found. IfSome found (λ closed.
+        AllClosed kernel.new.clauses asked.now closed.items)) }
+{
+    let places = derive_marked(alloc, kernel, &proof.kernel, needed)?;
+    close_again(alloc, kernel, asked, &proof.closed, &places)
 }
 
 // Where the clauses of a kernel stand in one that derived some of them. The given ones keep their places.

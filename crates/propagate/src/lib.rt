@@ -5,7 +5,8 @@ mod assignment;
 mod attach;
 mod clause_store;
 mod engine;
-mod plain;mod visit;
+mod plain;
+mod visit;
 mod watch;
 mod watches;
 

@@ -4,6 +4,8 @@
 #[cfg(test)]
 mod chains;
 #[cfg(test)]
+mod coded;
+#[cfg(test)]
 mod questions;
 #[cfg(test)]
 mod threads;

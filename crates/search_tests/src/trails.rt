@@ -1,4 +1,4 @@
-//! The worked engine of four variables: the trails that it comes to, by both bodies of propagation.
+//! Both bodies of propagation: over drawn clauses and calls, and the trails that the worked engine of four variables comes to.
 ghost use Rattle.std.specs.Prelude.{◌≡◌, ℕ, ◌*◌, ◌<◌, OnOk, true};
 ghost use Rattle.std.specs.Bool.{OnTrue};
 ghost use Rattle.clause_pool.specs.Clause.{has};
@@ -141,5 +141,131 @@ fn the_engine_of_four_variables(rt: HostRuntime) -> Result<(), Fail> {
     let slow = trails_are_right(rt.alloc(), true)?;
     assert!(rt; fast);
     assert!(rt; slow);
+    Ok(())
+}
+
+// Drawn numbers.
+#[derive(Drop)]
+struct Numbers {
+    state: u64,
+}
+
+// A further drawn number below this one.
+fn drawn(numbers: &mut Numbers, bound: u32) -> u32
+    requires { 0 < bound }
+    ensures { result < bound }
+{
+    numbers.state = numbers
+        .state
+        .wrapping_mul(6364136223846793005)
+        .wrapping_add(1442695040888963407);
+    (numbers.state >> 33) as u32 % bound
+}
+
+// A literal of eight variables.
+fn drawn_literal(numbers: &mut Numbers) -> Lit {
+    Lit::new(drawn(numbers, 8), drawn(numbers, 2) == 0)
+}
+
+// Adds a clause of one to four literals, mostly of three or four.
+fn add_drawn(numbers: &mut Numbers, pool: &mut Pool, engine: &mut Engine) -> Result<(), Memory>
+    requires { pool.old.clauses ≡ engine.old.clauses }
+    ensures { OnOk result (pool.new.clauses ≡ engine.new.clauses) }
+{
+    let lits = [
+        drawn_literal(numbers),
+        drawn_literal(numbers),
+        drawn_literal(numbers),
+        drawn_literal(numbers),
+    ];
+    let len = 1 + (drawn(numbers, 12) as usize + 3) / 4;
+    add(pool, engine, &lits[..len])
+}
+
+// A number for what is true, false and open, and at which levels.
+fn sum_of(engine: &Engine) -> u64 {
+    let mut sum = 5;
+    for var in 0..engine.vars() {
+        let value = match engine.value(Lit::new(var, true)) {
+            Some(true) => 2,
+            Some(false) => 1,
+            None => 0,
+        };
+        let level = u64::from(engine.level_of(var).unwrap_or(9));
+        sum = mixed(mixed(sum, value), level);
+    }
+    sum
+}
+
+// A number for one and then another.
+fn mixed(sum: u64, more: u64) -> u64 {
+    sum.wrapping_mul(6364136223846793005).wrapping_add(more)
+}
+
+// One drawn call: a level more, levels taken back, or propagation, with a number for what it comes to. Behind a clause that is
+// false it goes back to level 0.
+fn call_drawn(
+    numbers: &mut Numbers,
+    pool: &Pool,
+    engine: &mut Engine,
+    plainly: bool,
+) -> Result<u64, Memory>
+    requires { pool.now.clauses ≡ engine.old.clauses }
+    ensures { engine.new.clauses ≡ engine.old.clauses }
+{
+    let call = drawn(numbers, 8);
+    if call < 4 {
+        assume(engine, drawn_literal(numbers));
+        return Ok(1);
+    }
+    if call == 4 {
+        go_back(engine, drawn(numbers, 4));
+        return Ok(2);
+    }
+    let conflict = propagated(pool, engine, plainly)?;
+    if conflict.is_some() {
+        go_back(engine, 0);
+        return Ok(3);
+    }
+    Ok(sum_of(engine))
+}
+
+// One to sixteen drawn clauses, and then drawn calls: a number for all that they come to.
+fn sum_drawn(
+    numbers: &mut Numbers,
+    pool: &mut Pool,
+    engine: &mut Engine,
+    plainly: bool,
+) -> Result<u64, Memory>
+    requires { pool.old.clauses ≡ engine.old.clauses }
+{
+    let mut sum = 0;
+    let clauses = 1 + drawn(numbers, 16);
+    for k in 0..60 {
+        if k < clauses {
+            add_drawn(numbers, pool, engine)?;
+        }
+        sum = mixed(sum, call_drawn(numbers, pool, engine, plainly)?);
+        if k < clauses {
+            go_back(engine, 0);
+        }
+    }
+    Ok(sum)
+}
+
+fn sum_of_seed(alloc: Global, seed: u64, plainly: bool) -> Result<u64, Memory> {
+    let mut engine = Engine::new(alloc, 8)?;
+    let mut pool = Pool::new(alloc);
+    let mut numbers = Numbers { state: seed };
+    sum_drawn(&mut numbers, &mut pool, &mut engine, plainly)
+}
+
+#[test]
+fn both_bodies_agree_over_drawn_clauses_and_calls(rt: HostRuntime) -> Result<(), Fail> {
+    for seed in 0..400 {
+        let fast = sum_of_seed(rt.alloc(), seed, false)?;
+        let slow = sum_of_seed(rt.alloc(), seed, true)?;
+        assert!(rt; fast == slow);
+    }
     Ok(())
 }

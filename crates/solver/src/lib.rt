@@ -19,7 +19,8 @@ mod resolution;
 mod run;
 mod share;
 mod shortcut;
-mod solver;mod way;
+mod solver;
+mod way;
 
 pub use answer::Answer;
 pub use chain::{derive, refuting_unit};

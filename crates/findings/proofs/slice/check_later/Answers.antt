@@ -10,10 +10,10 @@ returns c =
     let told = c.in_ok-told.told in
     record {
       notes =
-          later_told i s c.args.later.now c.args.set told c.ask_later.new.solver.kernel.clauses c.put_together.result
+          later_told i s c.args.later.now c.args.set told c.tell_later.new.solver.kernel.clauses c.put_together.result
           c.requires.facts.order c.requires.void c.requires.later c.in_ok-told.ensures.told c.put_together.ensures.notes;
       proof =
-          later_shown i s c.args.later.now c.args.set told c.args.solver.kernel c.ask_later.new.solver.kernel _ c.put_together.result
-          c.requires.facts.order c.requires.void c.requires.counted c.requires.later c.requires.given c.ask_later.ensures.extends c.in_ok-told.ensures.told
-          c.into_kernel-kernel.ensures refl refl c.put_together.ensures.notes c.put_together.ensures.proof;
+          later_shown i s c.args.later.now c.args.set told c.args.solver.kernel c.tell_later.new.solver.kernel _ c.put_together.result
+          c.requires.facts.order c.requires.void c.requires.counted c.requires.later c.requires.given c.tell_later.ensures.extends c.in_ok-told.ensures.told
+          c.into_kernel.ensures refl refl c.put_together.ensures.notes c.put_together.ensures.proof;
     }

@@ -4,7 +4,7 @@ use Rattle.std.proofs.lemmas.List.Elements.{All-get_or}
 use Rattle.clausify.specs.declared.question.Asked.{Asked}
 use Rattle.findings.specs.Answering.{IsAsked, AreTold, inquiry}
 use Rattle.findings.proofs.ToldLaws.{told_next, told_next_same, extends_further}
-use Rattle.findings.proofs.slice.ask_later.Goals as goal
+use Rattle.findings.proofs.slice.ask_each.Goals as goal
 
 pub answer-requires-clause-asked : goal.answer-requires-clause-asked
 answer-requires-clause-asked c =

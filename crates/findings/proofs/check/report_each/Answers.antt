@@ -4,7 +4,7 @@ use Rattle.book_model.specs.declared.record.Slice.{Slice}
 use Rattle.findings.specs.Notes.{InParts, SliceNotes}
 use Rattle.findings.specs.Answering.{inquiry}
 use Rattle.findings.proofs.ToldLaws.{parts_more}
-use Rattle.findings.proofs.check.report_slices.Goals as goal
+use Rattle.findings.proofs.check.report_each.Goals as goal
 
 pub loop-slice-preserved : goal.loop-slice-preserved
 loop-slice-preserved c =

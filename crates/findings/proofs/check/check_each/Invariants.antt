@@ -4,7 +4,7 @@ use Rattle.std.specs.List.{AllZip, list_any}
 use Rattle.derivation.specs.Showing.{ShowsSlice}
 use Rattle.findings.specs.Notes.{InParts, SliceNotes}
 use Rattle.findings.specs.Answering.{inquiry, stops}
-use Rattle.findings.proofs.check.check_slices.Given as goal
+use Rattle.findings.proofs.check.check_each.Given as goal
 
 abbrev pub invariant-loop-slice : goal.invariant-loop-slice
 invariant-loop-slice l = record {

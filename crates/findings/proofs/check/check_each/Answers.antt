@@ -7,7 +7,7 @@ use Rattle.findings.specs.Notes.{InParts, SliceNotes}
 use Rattle.findings.specs.Answering.{inquiry, stops}
 use Rattle.findings.proofs.BookLaws.{stopped_more, proofs_more}
 use Rattle.findings.proofs.ToldLaws.{parts_more}
-use Rattle.findings.proofs.check.check_slices.Goals as goal
+use Rattle.findings.proofs.check.check_each.Goals as goal
 
 pub loop-slice-preserved : goal.loop-slice-preserved
 loop-slice-preserved c =

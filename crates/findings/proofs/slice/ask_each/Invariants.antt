@@ -2,7 +2,7 @@
 use Rattle.std.proofs.Common.{◌≡◌, take, All}
 use Rattle.solver.specs.Solver.{Extends}
 use Rattle.findings.specs.Answering.{IsOver, IsFound, AreTold, inquiry}
-use Rattle.findings.proofs.slice.ask_later.Given as goal
+use Rattle.findings.proofs.slice.ask_each.Given as goal
 
 abbrev pub invariant-loop-place : goal.invariant-loop-place
 invariant-loop-place l = record {

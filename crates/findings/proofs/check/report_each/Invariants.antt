@@ -2,7 +2,7 @@
 use Rattle.std.proofs.Common.{take}
 use Rattle.findings.specs.Notes.{InParts, SliceNotes}
 use Rattle.findings.specs.Answering.{inquiry}
-use Rattle.findings.proofs.check.report_slices.Given as goal
+use Rattle.findings.proofs.check.report_each.Given as goal
 
 abbrev pub invariant-loop-slice : goal.invariant-loop-slice
 invariant-loop-slice l = InParts (SliceNotes (inquiry l.book l.effort)) (take l.slice-index l.slices) l.all.items
