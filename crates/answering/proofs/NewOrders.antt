@@ -156,15 +156,18 @@ module _ (caller : List ℕ) (number : ℕ) (order : OrderWords) where
 
     ended : (said : Said) → ((b : KeptBook) → IsNewOrder s.first.tables caller number order b → Comes s.first b.released.book said mid.state)
         → PlacesOrder h caller number order said mid
-    ended said so = inr (record {
-      between = h;
-      event = Look caller number order;
-      answer = a;
-      its_event = inl refl;
-      before = hand_same h;
-      step = s;
-      at_once = begun;
-    }, so)
+    ended said so = inr (
+      record {
+        between = h;
+        event = Look caller number order;
+        answer = a;
+        its_event = inl refl;
+        before = hand_same h;
+        step = s;
+        at_once = begun;
+      },
+      so,
+    )
 
     no_memory : (said : Said) → IsValid h.state.tables → said ≡ plain reply.Memory → PlacesOrder h caller number order said mid
     no_memory said valid is = ended said (λ b fresh.
@@ -293,22 +296,25 @@ module _ (caller : List ℕ) (number : ℕ) (order : OrderWords) where
               })
 
       placed : (said : Said) → unless_said a (after_placing (accepted_text r.book set list)) late said late → PlacesOrder h caller number order said late
-      placed said rest = inr (record {
-        between = mid;
-        event = Place caller number order;
-        answer = a;
-        its_event = inr refl;
-        before = hand_stepped h (Look caller number order) (answer.Book r) mid s;
-        step = p;
-        at_once = λ alone.
-            subst (λ b. Begins b mid.state p.first) (s.alone ∙ alone) p.begins
-            ∙ same_state h (answer.Book r) mid s ∙ begun h (answer.Book r) mid s alone;
-      }, λ b fresh. record {
-        built = λ can. ends_so b fresh said can rest;
-        unbuilt = λ cannot.
-            let no_ = refused_outcome b.released (Ok (outcome.Accepted set list)) (release_there b fresh) fresh.formed (outcome_there b fresh) cannot in absurd (cc);
-        one_list = λ can. (built b.released order.day order.codes (release_there b fresh) fresh.formed can).one_list;
-      })
+      placed said rest = inr (
+        record {
+          between = mid;
+          event = Place caller number order;
+          answer = a;
+          its_event = inr refl;
+          before = hand_stepped h (Look caller number order) (answer.Book r) mid s;
+          step = p;
+          at_once = λ alone.
+              subst (λ b. Begins b mid.state p.first) (s.alone ∙ alone) p.begins
+              ∙ same_state h (answer.Book r) mid s ∙ begun h (answer.Book r) mid s alone;
+        },
+        λ b fresh. record {
+          built = λ can. ends_so b fresh said can rest;
+          unbuilt = λ cannot.
+              let no_ = refused_outcome b.released (Ok (outcome.Accepted set list)) (release_there b fresh) fresh.formed (outcome_there b fresh) cannot in absurd (cc);
+          one_list = λ can. (built b.released order.day order.codes (release_there b fresh) fresh.formed can).one_list;
+        },
+      )
 
     judged : 2 ≤ h.left → (o : Result Outcome OrderFault) → outcome_of r.book order.day order.codes ≡ o → (said : Said) (new : Hand)
         → by_outcome o r.book (placing caller number order) mid said new → PlacesOrder h caller number order said new
