@@ -1,0 +1,95 @@
+#!/bin/sh
+# Tries the pages: types each command that README.md and docs/*.md show, and compares what comes out with what stands below it.
+#
+#   tests/pages.sh [PROGRAM [PAGE..]]
+#
+# PROGRAM is the built program, crates/partsbook/out/partsbook without the word. A page is typed from top to bottom in a folder
+# of its own, which has `partsbook` and `examples` and nothing else at first. A command is a line of a block (between ```) that
+# begins with `$ `; what follows it, up to the next one or the end of the block, has to be its standard output. There `..` on a
+# line of its own stands for any lines, and blank lines at the end and the CR of lines that end in CR LF don't count.
+# Commands of the tools that prove and build (see `is_left_out`) are not typed. The status is 1 where a page differs.
+# It needs curl, sqlite3 and python3, for the pages that use them.
+top=$(cd "$(dirname "$0")/.." && pwd) || exit 1
+program=$(realpath "${1:-$top/crates/partsbook/out/partsbook}") || exit 1
+[ $# -gt 0 ] && shift
+[ -x "$program" ] || { echo "pages: there is no program $program: ./build makes it" >&2; exit 1; }
+cd "$top" && [ $# -gt 0 ] || set -- README.md docs/*.md
+work=$(mktemp -d) || exit 1
+listener=
+trap '[ -z "$listener" ] || kill "$listener"; rm -rf "$work"' EXIT
+failed=0
+typed=0
+
+# Cuts a page into files LINE.command and LINE.wanted, where LINE is that of the command.
+cut_page() { # page, folder
+    awk -v folder="$2" '
+        /^```/ { inside = !inside; at = ""; next }
+        inside && /^\$ / { at = sprintf("%s/%04d", folder, NR); print substr($0, 3) > (at ".command"); printf "" > (at ".wanted"); next }
+        inside && at != "" { print > (at ".wanted") }' "$1"
+}
+
+# Whether the lines of the first file fit those of the second.
+fits() { # wanted, found
+    awk '
+        function rest_fits(w, f,   any) {
+            if (w > wanted_count) return f > found_count
+            if (wanted[w] == "..") {
+                for (any = f; any <= found_count + 1; any++) if (rest_fits(w + 1, any)) return 1
+                return 0
+            }
+            return f <= found_count && wanted[w] == found[f] && rest_fits(w + 1, f + 1)
+        }
+        { sub(/\r$/, "") }
+        NR == FNR { wanted[FNR] = $0; if ($0 != "") wanted_count = FNR; next }
+        { found[FNR] = $0; if ($0 != "") found_count = FNR }
+        END { exit !rest_fits(1, 1) }' "$1" "$2"
+}
+
+is_left_out() {
+    case $1 in
+    .ci/run* | ./build* | rt\ * | git\ * | sudo\ *) return 0 ;;
+    *) return 1 ;;
+    esac
+}
+
+type_page() { # page
+    folder=$work/$(basename "$1" .md)
+    mkdir -p "$folder/page" "$folder/steps"
+    cp -r "$top/examples" "$folder/page/examples"
+    cp "$program" "$folder/page/partsbook"
+    cut_page "$1" "$folder/steps"
+    for command in "$folder"/steps/*.command; do
+        [ -e "$command" ] || continue
+        step=${command%.command}
+        line=$(basename "$step" | sed 's/^0*//')
+        text=$(cat "$command")
+        if is_left_out "$text"; then
+            echo "left out: $1:$line: $text"
+            continue
+        fi
+        typed=$((typed + 1))
+        case $text in
+        *'&') # It goes on while the page is typed.
+            (cd "$folder/page" && exec sh -c "exec ${text%&}") > "$step.found" 2> "$step.said" < /dev/null &
+            listener=$!
+            sleep 1
+            ;;
+        *) (cd "$folder/page" && sh -c "$text") > "$step.found" 2> "$step.said" < /dev/null ;;
+        esac
+        if ! fits "$step.wanted" "$step.found"; then
+            failed=1
+            echo "differs: $1:$line: $text"
+            diff "$step.wanted" "$step.found" | sed 's/^/    /'
+            sed 's/^/    said: /' "$step.said"
+        fi
+    done
+    if [ -n "$listener" ]; then
+        kill "$listener"
+        wait "$listener" 2> /dev/null
+        listener=
+    fi
+}
+
+for page; do type_page "$page"; done
+[ "$failed" = 0 ] && echo "pages: all $typed commands come out as they are shown"
+exit "$failed"
