@@ -6,6 +6,7 @@ import subprocess
 import sys
 
 with socket.create_server(("127.0.0.1", 8080)) as door:
+    print("listening at localhost:8080", flush=True)
     while True:
         link, _ = door.accept()
         with link:

@@ -19,6 +19,9 @@ listener=
 trap '[ -z "$listener" ] || kill "$listener"; rm -rf "$work"' EXIT
 failed=0
 typed=0
+# As at a terminal, curl shows no progress.
+printf 'silent\nshow-error\n' > "$work/.curlrc"
+export CURL_HOME="$work"
 
 # Cuts a page into files LINE.command and LINE.wanted, where LINE is that of the command.
 cut_page() { # page, folder
@@ -69,10 +72,11 @@ type_page() { # page
         fi
         typed=$((typed + 1))
         case $text in
-        *'&') # It goes on while the page is typed.
+        *'&') # It goes on while the page is typed, which waits for its first line.
             (cd "$folder/page" && exec sh -c "exec ${text%&}") > "$step.found" 2> "$step.said" < /dev/null &
             listener=$!
-            sleep 1
+            tries=60
+            while [ ! -s "$step.found" ] && [ $((tries -= 1)) -gt 0 ]; do sleep 0.5; done
             ;;
         *) (cd "$folder/page" && sh -c "$text") > "$step.found" 2> "$step.said" < /dev/null ;;
         esac
