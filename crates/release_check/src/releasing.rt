@@ -1,7 +1,9 @@
 //! Releasing a book.
-ghost use Rattle.std.specs.Prelude.{◌≡◌, ◌≢◌, ℕ, ◌<◌, ◌≤◌, List, IfOk, Ok};
+ghost use Rattle.std.specs.Prelude.{◌≡◌, ◌≢◌, ◌↔◌, ℕ, ◌<◌, ◌≤◌, List, IfOk, IfSome, IsSome, Ok};
 ghost use Rattle.pb_base.specs.Answers.{IfRefused};
+ghost use Rattle.book_model.specs.Sound.{IsReleasable};
 ghost use Rattle.book_text.specs.BookText.{book_of};
+ghost use Rattle.derivation.specs.Accepted.{IsAccepted};
 ghost use Rattle.findings.specs.Notes.{verdict_of};
 ghost use Rattle.findings.specs.declared.report.Verdict.TheVariants as Verdict;
 ghost use Rattle.release_check.specs.NotReleased.{IsRefusal, IsReportOf};
@@ -9,11 +11,11 @@ ghost use Rattle.release.specs.Release.{IsRelease};
 ghost use Rattle.pb_base.specs.declared.limits.TheConstants.{MOST_BUDGET};
 
 use crate::not_released::NotReleased;
-use release::Released;
 use book_model::Book;
 use book_text::read_book;
 use findings::{Ask, Checked, Report, Verdict, check_book, verdict_of};
 use pb_base::{Body, Fail};
+use release::Released;
 use std::alloc::Global;
 
 /// Releases the book of a text, if it can be released: on every day of its term some set of codes is good, and every good set
@@ -47,11 +49,26 @@ fn release_book(
     ensures refused { IfRefused result (IsRefusal text budget) }
 {
     match check_book(alloc, &book, budget, Ask::Blocking) {
-        Ok(Checked { report, cert }) => match cert {
-            Some(cert) => Ok(Released::of(text, book, cert)),
-            None => Err(Fail::Refused(kept_back(book, report))),
-        },
+        Ok(checked) => by_check(text, book, checked),
         Err(fail) => Err(fail.map(NotReleased::Limit)),
+    }
+}
+
+// Releases a book by the certificate of its check, if there is one.
+fn by_check(text: Body, book: Book, checked: Checked) -> Result<Released, Fail<NotReleased>>
+    requires reads { book_of text ≡ Ok book }
+    requires cert { IsSome checked.cert ↔ (verdict_of checked.report ≡ Verdict.Releasable) }
+    requires accepted { IfSome checked.cert (IsAccepted book) }
+    requires releasable { verdict_of checked.report ≡ Verdict.Releasable → IsReleasable book }
+    ensures text { IfOk result (λ r. r.text ≡ text) }
+    ensures release { IfOk result IsRelease }
+    ensures refused { (budget : ℕ) → IsReportOf text budget book checked.report
+        → IfRefused result (IsRefusal text budget) }
+{
+    let Checked { report, cert } = checked;
+    match cert {
+        Some(cert) => Ok(Released::of(text, book, cert)),
+        None => Err(Fail::Refused(kept_back(book, report))),
     }
 }
 
