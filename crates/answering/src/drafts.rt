@@ -1,5 +1,5 @@
 //! Calls that check a draft or release it.
-ghost use Rattle.std.specs.Prelude.{◌≡◌, ◌⊎◌, ℕ, ◌<◌, ◌≤◌, IfErr, IfOk};
+ghost use Rattle.std.specs.Prelude.{◌≡◌, ◌⊎◌, ℕ, ◌<◌, ◌≤◌, IfErr, IfOk, OnErr};
 ghost use Rattle.derivation.specs.Limits.{slices_within};
 ghost use Rattle.desk_words.specs.declared.reply.Reply.TheVariants as Reply;
 ghost use Rattle.order_desk.specs.declared.answer.Answer.TheVariants as Answer;
@@ -16,7 +16,7 @@ use crate::turns::Turns;
 use book_model::Book;
 use book_text::read_book;
 use desk_words::Reply;
-use findings::{Ask, report_book};
+use findings::{Ask, Report, report_book};
 use order_desk::{Answer, Event, SharedBook};
 use pb_base::{Body, Fail, Id, Memory};
 use pb_gate::Gate;
@@ -85,15 +85,23 @@ fn check_read(alloc: Global, book: &Book, budget: u32) -> Said
     ensures { (result ≡ plain Reply.Memory) ⊎ by_limits (slices_within book.now) book.now budget result }
 {
     match report_book(alloc, book, budget, Ask::All) {
-        Ok(report) => match report_text(alloc, book, &report) {
-            Ok(text) => Said {
-                reply: Reply::Report(text),
-                notes: report,
-            },
-            Err(Memory) => Said::plain(alloc, Reply::Memory),
-        },
+        Ok(report) => {
+            let reply = report_text(alloc, book, &report).map(Reply::Report);
+            told(alloc, reply, report)
+        }
         Err(Fail::Refused(fault)) => Said::plain(alloc, Reply::Limit(fault)),
         Err(Fail::Memory) => Said::plain(alloc, Reply::Memory),
+    }
+}
+
+// A reply that gives a report, with the report's notes, unless there is no memory for its text.
+fn told(alloc: Global, reply: Result<Reply, Memory>, notes: Report) -> Said
+    ensures told { IfOk reply (λ reply. result ≡ record { reply = reply; notes = notes }) }
+    ensures memory { OnErr reply (result ≡ plain Reply.Memory) }
+{
+    match reply {
+        Ok(reply) => Said { reply, notes },
+        Err(Memory) => Said::plain(alloc, Reply::Memory),
     }
 }
 
@@ -182,19 +190,13 @@ fn kept_back(alloc: Global, why: NotReleased) -> Said
     match why {
         NotReleased::Text(fault) => Said::plain(alloc, Reply::TextRefused(fault)),
         NotReleased::Limit(fault) => Said::plain(alloc, Reply::Limit(fault)),
-        NotReleased::Found { book, report } => match report_text(alloc, &book, &report) {
-            Ok(text) => Said {
-                reply: Reply::Found(text),
-                notes: report,
-            },
-            Err(Memory) => Said::plain(alloc, Reply::Memory),
-        },
-        NotReleased::Undecided { book, report } => match report_text(alloc, &book, &report) {
-            Ok(text) => Said {
-                reply: Reply::Undecided(text),
-                notes: report,
-            },
-            Err(Memory) => Said::plain(alloc, Reply::Memory),
-        },
+        NotReleased::Found { book, report } => {
+            let reply = report_text(alloc, &book, &report).map(Reply::Found);
+            told(alloc, reply, report)
+        }
+        NotReleased::Undecided { book, report } => {
+            let reply = report_text(alloc, &book, &report).map(Reply::Undecided);
+            told(alloc, reply, report)
+        }
     }
 }

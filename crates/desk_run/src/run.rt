@@ -1,12 +1,13 @@
 //! The run: a desk is started, serves one link, and is finished.
-ghost use Rattle.session.specs.Session.{told};
+ghost use Rattle.answering.specs.LaterHand.{IsLaterHand};
+ghost use Rattle.session.specs.Session.{IsSession, told};
 ghost use Rattle.desk_run.specs.DeskRun.{IsDeskRun, ServesLink, outside};
 ghost use Rattle.desk_run.specs.Released.{HasReleasedBooks};
 ghost use Rattle.desk_run.specs.Sure.{IsDoneOrMemory, IsOrderly, IsSure, IsUnfailing};
 
 use crate::end::{DeskEnd, DeskRun};
 use crate::halves::Halves;
-use answering::Alone;
+use answering::{Alone, Turns};
 use keeper::Keeper;
 use order_desk::{Desk, NotStarted};
 use pb_gate::Gate;
@@ -90,6 +91,22 @@ fn serve<S: Source, K: Sink, P: Keeper, G: Gate>(
         ServesLink desk result.0 link after }
 {
     let mut turns = Alone::new(desk, MOST_STEPS);
-    let end = session(alloc, &mut Halves::new(source, sink), &mut turns, gate);
+    let end = serve_ends(alloc, source, sink, &mut turns, gate);
     (end, turns.into_desk().finish())
+}
+
+// Answers the messages of the source over the sink, whoever makes the steps.
+fn serve_ends<S: Source, K: Sink, T: Turns, G: Gate>(
+    alloc: Global,
+    source: &mut S,
+    sink: &mut K,
+    turns: &mut T,
+    gate: &G,
+) -> SessionEnd
+    ensures serves { let link = told (S.input source.old) (K.output sink.old) in
+        let link' = told (S.input source.new) (K.output sink.new) in
+        IsSession result (T.hand turns.old) link link' (T.hand turns.new) }
+    ensures steps { IsLaterHand (T.hand turns.old) (T.hand turns.new) }
+{
+    session(alloc, &mut Halves::new(source, sink), turns, gate)
 }
