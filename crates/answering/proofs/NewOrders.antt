@@ -1,5 +1,5 @@
 -- A new order is accepted exactly where it can be built.
-use Rattle.std.proofs.Common.{◌≡◌, ◌≢◌, ◌∙◌, ◌⊎◌, ℕ, ◌+◌, ◌<◌, ◌≤◌, ◌-◌, suc, Bool, true, false, List, [], ◌∷◌, Option, None, Some, Ok, Err, Result, refl, sym, ap, subst, arith, inl, inr}
+use Rattle.std.proofs.Common.{◌≡◌, ◌≢◌, ◌∙◌, ◌⊎◌, ℕ, ◌+◌, ◌<◌, ◌≤◌, ◌-◌, zero, suc, Bool, true, false, List, [], ◌∷◌, Option, None, Some, Ok, Err, Result, refl, sym, ap, subst, arith, inl, inr}
 use Rattle.std.specs.Prelude.{length, nat_lt, ok_or, slice_get, if◌then◌else◌}
 use Rattle.std.specs.List.{AllByRecursion}
 use Rattle.std.proofs.lemmas.Bool.{lt-ltb}
@@ -48,7 +48,7 @@ use Rattle.answering.proofs.ToldLaws.{told_book}
 
 released_at : (books : List KeptBook) (place : ℕ) (b : KeptBook) → (P : KeptBook → Type 0) → AllByRecursion P books → slice_get books place ≡ Some b → P b
 released_at [] place b P all is = absurd (cc)
-released_at (c ∷ books) 0 b P all is = let same : c ≡ b = cc in subst P same all.0
+released_at (c ∷ books) zero b P all is = let same : c ≡ b = cc in subst P same all.0
 released_at (c ∷ books) (suc place) b P all is = released_at books place b P all.1 is
 
 -- a book of valid tables is a release
@@ -129,6 +129,9 @@ module _ (caller : List ℕ) (number : ℕ) (order : OrderWords) where
     unbuilt = λ cannot. inr wants;
     one_list = λ can. (built b.released order.day order.codes release formed can).one_list;
   }
+
+  abbrev Came : Outcome → Result Outcome OrderFault
+  Came o = Ok o
 
   -- an order has one outcome
   other_outcome : (r : Release) (is : Result Outcome OrderFault) → IsRelease r → IsWellFormed r.book order.day order.codes
@@ -216,7 +219,7 @@ module _ (caller : List ℕ) (number : ℕ) (order : OrderWords) where
       one_list = λ can. (built b.released order.day order.codes (released b fresh) fresh.formed can).one_list;
     })
       where
-        refused_same : (k n : ℕ) → Ok {E = OrderFault} (outcome.Refused k) ≡ Ok (outcome.Refused n) → k ≡ n
+        refused_same : (k n : ℕ) → Came (outcome.Refused k) ≡ Came (outcome.Refused n) → k ≡ n
         refused_same k n is = cc
 
     faulty : (said : Said) (fault : OrderFault) → outcome_of r.book order.day order.codes ≡ Err fault → PlacesOrder h caller number order said mid

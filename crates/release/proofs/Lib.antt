@@ -1,3 +1,3 @@
 mod NeverUnfit
 mod Accepted
-mod OrderLaws
+pub mod OrderLaws
