@@ -15,13 +15,13 @@ program=$(realpath "${1:-$top/crates/partsbook/out/partsbook}") || exit 1
 [ -x "$program" ] || { echo "pages: there is no program $program: ./build makes it" >&2; exit 1; }
 cd "$top" && [ $# -gt 0 ] || set -- README.md docs/*.md
 work=$(mktemp -d) || exit 1
-listener=
-trap '[ -z "$listener" ] || kill "$listener"; rm -rf "$work"' EXIT
+listeners=
+trap '[ -z "$listeners" ] || kill $listeners; rm -rf "$work"' EXIT
 failed=0
 typed=0
-# As at a terminal, curl shows no progress.
+# As at a terminal, curl shows no progress. No command finds settings of the user's.
 printf 'silent\nshow-error\n' > "$work/.curlrc"
-export CURL_HOME="$work"
+export CURL_HOME="$work" HOME="$work"
 
 # Cuts a page into files LINE.command and LINE.wanted, where LINE is that of the command.
 cut_page() { # page, folder
@@ -74,7 +74,7 @@ type_page() { # page
         case $text in
         *'&') # It goes on while the page is typed, which waits for its first line.
             (cd "$folder/page" && exec sh -c "exec ${text%&}") > "$step.found" 2> "$step.said" < /dev/null &
-            listener=$!
+            listeners="$listeners $!"
             tries=60
             while [ ! -s "$step.found" ] && [ $((tries -= 1)) -gt 0 ]; do sleep 0.5; done
             ;;
@@ -87,13 +87,25 @@ type_page() { # page
             sed 's/^/    said: /' "$step.said"
         fi
     done
-    if [ -n "$listener" ]; then
-        kill "$listener"
-        wait "$listener" 2> /dev/null
-        listener=
+    if [ -n "$listeners" ]; then
+        kill $listeners
+        wait $listeners 2> /dev/null
+        listeners=
     fi
 }
 
+# The text of this name among the cases of worked_runs.
+case_text() {
+    awk -v head="--- text $1" '/^(---|===|#) ?/ { inside = $0 == head; next } inside' "$top/crates/worked_runs/stdin"
+}
+
+# The cases have copies of the books of examples/.
+for copy in T:engine VAN:van COMPACT:compact COMPACTG:compact-groups YEAR:year TARN:tarn; do
+    if ! case_text "${copy%%:*}" | cmp -s - "$top/examples/${copy##*:}.csv"; then
+        failed=1
+        echo "differs: the text ${copy%%:*} of crates/worked_runs/stdin, from examples/${copy##*:}.csv"
+    fi
+done
 for page; do type_page "$page"; done
 [ "$failed" = 0 ] && echo "pages: all $typed commands come out as they are shown"
 exit "$failed"
