@@ -8,7 +8,7 @@
 # begins with `$ `; what follows it, up to the next one or the end of the block, has to be its standard output. There `..` on a
 # line of its own stands for any lines, and blank lines at the end and the CR of lines that end in CR LF don't count.
 # Commands of the tools that prove and build (see `is_left_out`) are not typed. The status is 1 where a page differs.
-# It needs curl, sqlite3 and python3, for the pages that use them.
+# It needs curl, sqlite3, python3, soffice (LibreOffice), haproxy and systemd-socket-activate, for the pages that use them.
 top=$(cd "$(dirname "$0")/.." && pwd) || exit 1
 program=$(realpath "${1:-$top/crates/partsbook/out/partsbook}") || exit 1
 [ $# -gt 0 ] && shift
@@ -22,6 +22,10 @@ typed=0
 # As at a terminal, curl shows no progress. No command finds settings of the user's.
 printf 'silent\nshow-error\n' > "$work/.curlrc"
 export CURL_HOME="$work" HOME="$work"
+
+for tool in curl sqlite3 python3 soffice haproxy systemd-socket-activate; do
+    command -v "$tool" > /dev/null || echo "there is no $tool: pages that use it will differ"
+done
 
 # Cuts a page into files LINE.command and LINE.wanted, where LINE is that of the command.
 cut_page() { # page, folder

@@ -1,7 +1,7 @@
 #!/bin/sh
 # Tries the way of a book through a spreadsheet and back: each book of examples/ is opened by LibreOffice with all columns as
 # text, kept as a spreadsheet, and written as CSV again. The records have to be the same, and so has the report of a check. Then
-# a book is opened without that choice, to show what goes wrong.
+# two things are tried that go wrong: columns of no kind, and a book in which no variant has a last day.
 #
 #   tests/spreadsheet.sh [PROGRAM]
 #
@@ -46,11 +46,26 @@ say() {
     [ "$1" = ok ] || failed=1
 }
 
+# A spreadsheet writes as many columns as it uses. Where no variant has a last day the eighth would be missing, so the first
+# variant is given the book's last day, which says the same.
+mkdir "$work/books"
+for book in "$top"/examples/*.csv; do
+    name=$(basename "$book")
+    if grep -q '^variant,.*[0-9]$' "$book"; then
+        cp "$book" "$work/books/$name"
+    else
+        last=$(sed -n '1s/^book,[^,]*,[^,]*,\([0-9]*\).*/\1/p' "$book")
+        awk -v last="$last" '/^variant,/ && !given { given = 1; $0 = $0 last } { print }' "$book" > "$work/books/$name"
+        say ok "$name: no variant has a last day; the first is given day $last"
+    fi
+    [ "$("$program" check < "$book")" = "$("$program" check < "$work/books/$name")" ] || say wrong "$name: another report"
+done
+
 for kind in ods xlsx; do
-    mkdir -p "$work/$kind" "$work/$kind-back"
-    office --infilter="$as_text" --convert-to "$kind" --outdir "$work/$kind" "$top"/examples/*.csv
+    mkdir "$work/$kind" "$work/$kind-back"
+    office --infilter="$as_text" --convert-to "$kind" --outdir "$work/$kind" "$work"/books/*.csv
     office --convert-to "$as_csv" --outdir "$work/$kind-back" "$work/$kind"/*."$kind"
-    for book in "$top"/examples/*.csv; do
+    for book in "$work"/books/*.csv; do
         name=$(basename "$book" .csv)
         back=$work/$kind-back/$name.csv
         "$program" check < "$book" > "$work/before"
@@ -66,15 +81,19 @@ for kind in ods xlsx; do
     done
 done
 
-# Opened as LibreOffice would by itself, a part number that looks like a number becomes one.
-mkdir -p "$work/plain" "$work/plain-back"
-office --convert-to ods --outdir "$work/plain" "$top/examples/van.csv"
-office --convert-to "$as_csv" --outdir "$work/plain-back" "$work/plain/van.ods"
-found=$("$program" check < "$work/plain-back/van.csv")
-row=$(sed -n 23p "$work/plain-back/van.csv")
-if [ "$found" = 'book fault 23 7' ]; then
-    say ok "van.csv with columns of no kind: row 23 comes back as $row, which is refused: $found"
-else
-    say wrong "van.csv with columns of no kind: row 23 is $row, and the check says $found"
-fi
+# What goes wrong, and has to be refused.
+refused() { # what, the book as it came back, the row, what the check has to say
+    found=$("$program" check < "$2")
+    row=$(sed -n "$3p" "$2")
+    if [ "$found" = "$4" ]; then
+        say ok "$1: row $3 comes back as $row, which is refused: $found"
+    else
+        say wrong "$1: row $3 is $row, and the check says $found"
+    fi
+}
+mkdir "$work/plain" "$work/plain-back"
+office --convert-to ods --outdir "$work/plain" "$work/books/van.csv" "$top/examples/engine.csv"
+office --convert-to "$as_csv" --outdir "$work/plain-back" "$work"/plain/*.ods
+refused 'van.csv with columns of no kind' "$work/plain-back/van.csv" 23 'book fault 23 7'
+refused 'engine.csv, in which no variant has a last day' "$work/plain-back/engine.csv" 14 'book fault 11 6'
 exit $failed
