@@ -1,5 +1,6 @@
 #!/bin/sh
-# Tries the pages: types each command that README.md and docs/*.md show, and compares what comes out with what stands below it.
+# Tries the pages: types each command that README.md and docs/*.md show, and compares what comes out with what stands below it;
+# and looks whether docs/WRONG-BODIES.md and the books among the cases of worked_runs are those that are there.
 #
 #   tests/pages.sh [PROGRAM [PAGE..]]
 #
@@ -110,6 +111,7 @@ for copy in T:engine VAN:van COMPACT:compact COMPACTG:compact-groups YEAR:year T
         echo "differs: the text ${copy%%:*} of crates/worked_runs/stdin, from examples/${copy##*:}.csv"
     fi
 done
+"$top/tests/wrong-bodies.py" --check || failed=1
 for page; do type_page "$page"; done
 [ "$failed" = 0 ] && echo "pages: all $typed commands come out as they are shown"
 exit "$failed"

@@ -26,7 +26,7 @@ sys.path.insert(0, str(pathlib.Path(__file__).resolve().parent))
 from draw_book import Drawn
 
 ORDERS = 1000
-COUNTED = 3.0
+COUNTED = 0.5
 # What the launcher `partsbook` sets for `check` and `prove`.
 MAPPED = {"GLIBC_TUNABLES": "glibc.malloc.mmap_threshold=131072"}
 # Else a cleared byte counts as an instruction, which the machine doesn't take.
