@@ -56,6 +56,10 @@ class Drawn:
         chosen = set(self.dice.sample(codes, self.dice.randint(1, min(most, len(codes)))))
         return [code for code in codes if code in chosen]
 
+    def some_with_first(self, group):
+        """The first code of a group, which most orders have, and some of the others."""
+        return group[:1] + self.some(group[1:], len(group) - 1)
+
     def draw_rules(self):
         """Each group, what it adds, and the rules that bind options and codes of groups."""
         dice, rows = self.dice, self.rows
@@ -66,7 +70,7 @@ class Drawn:
             group = dice.choice(self.groups)
             other = dice.choice(self.options)
             if n % 3 == 0:
-                rows.append(f"construct,A{n:04},{option},{either(self.some(group, len(group)))},,")
+                rows.append(f"construct,A{n:04},{option},{either(self.some_with_first(group))},,")
             elif n % 3 == 1 and other != option:
                 rows.append(f"construct,A{n:04},{option},-{other}/{group[0]},,")
             elif other > option:
@@ -79,7 +83,7 @@ class Drawn:
                 if dice.random() < 0.5:
                     rule = "-" + either(self.some(other[1:], 3))
                 else:
-                    rule = f"{either(self.some(other, len(other)))}/{dice.choice(self.options or group)}"
+                    rule = f"{either(self.some_with_first(other))}/{dice.choice(self.options or group)}"
                 rows.append(f"construct,R{g:03}K{k:02},{code},{rule},,")
 
     def classes(self, group, most):
@@ -130,9 +134,10 @@ class Drawn:
         return "\n".join(self.rows) + "\n"
 
     def order(self):
-        """A day and codes: of one group in five a code of the customer's choice, and few options."""
-        codes = [self.dice.choice(group) for group in self.groups if self.dice.random() < 0.2]
-        codes += [option for option in self.options if self.dice.random() < 0.02]
+        """A day and codes: of a quarter of the groups, but at most ten, one code each, and of the options at most three."""
+        groups = self.dice.sample(self.groups, min(10, len(self.groups) // 4))
+        codes = [self.dice.choice(group) for group in groups]
+        codes += self.dice.sample(self.options, min(3, len(self.options) // 10))
         return self.dice.randint(1, TERM), codes
 
 

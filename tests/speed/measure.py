@@ -79,9 +79,9 @@ def questions(text, slices_of_days):
     return asked
 
 
-def request(method, path, body):
+def request(method, path, caller, body):
     """A request of HTTP, as bytes."""
-    head = f"{method} {path} HTTP/1.1\r\nHost: desk\r\nX-Caller: HALL1\r\nContent-Length: {len(body)}\r\n\r\n"
+    head = f"{method} {path} HTTP/1.1\r\nHost: desk\r\nX-Caller: {caller}\r\nContent-Length: {len(body)}\r\n\r\n"
     return head.encode() + body
 
 
@@ -105,9 +105,10 @@ def command_numbers(program, book, at, runs):
 
 def desk_numbers(program, book, text, at, runs):
     """What the desk takes: a release, an order, and a start over a thousand orders."""
-    release = request("PUT", "/drafts/D", text.encode()) + request("POST", "/drafts/D/release", b'{"revision":1}')
+    release = request("PUT", "/drafts/D", "ANNA", text.encode())
+    release += request("POST", "/drafts/D/release", "ANNA", b'{"revision":1}')
     orders = [{"book": 1, "day": day, "codes": codes} for day, codes in (book.order() for _ in range(ORDERS))]
-    placed = [request("PUT", f"/orders/{n}", json.dumps(order).encode()) for n, order in enumerate(orders, 1)]
+    placed = [request("PUT", f"/orders/{n}", "HALL1", json.dumps(order).encode()) for n, order in enumerate(orders, 1)]
     inputs = {"release": release, "bare": b"", "orders": b"".join(placed), "start": b""}
     for name, content in inputs.items():
         pathlib.Path(at(name)).write_bytes(content)
