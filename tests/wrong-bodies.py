@@ -1,6 +1,6 @@
 #!/usr/bin/env python3
 """Writes docs/WRONG-BODIES.md: the wrong bodies that the gate tries, by name in plain words, from the edits in
-crates/*/must-fail and the order of crates.txt.
+crates/*/must-fail, the order of crates.txt, and for each edit a line of this script.
 
     tests/wrong-bodies.py          writes the page
     tests/wrong-bodies.py --check  ends with 1, and names the page, where it isn't what the edits say
@@ -12,9 +12,41 @@ import sys
 TOP = pathlib.Path(__file__).resolve().parent.parent
 PAGE = TOP / "docs" / "WRONG-BODIES.md"
 
+# What the changed code would do. An edit that has no line here is shown by its name alone.
+WOULD = {
+    "a_file_of_just_the_limit_is_too_long": "a file that may just be read would be refused as too long",
+    "a_short_write_whose_rest_is_dropped": "where a write takes a part of the bytes, the others would be lost without a word",
+    "the_end_after_a_fault_of_reading": "a failed read would be taken for the end of the input, and half a book for a whole one",
+    "rules_applied_once_in_rank_order": "a supplementing rule that comes true late would add nothing",
+    "constructibility_asked_of_the_codes_as_ordered_alone": "an order would be tested without the codes that are added to it",
+    "the_first_selected_variant_taken_and_no_count_asked": "a car with two parts for one place would be accepted, with the first of them",
+    "resolve_tests_the_complement": "a step of a proof would be taken though its literal isn't there",
+    "no_pair_of_an_optional_position_asked": "two parts at one optional place would never be found",
+    "a_unit_clause_missed_after_back_to": "after going back, the search would overlook what a rule forces",
+    "a_clause_counts_twice": "a question would be left undecided with fewer clauses than the budget",
+    "a_weaker_clause_counts": "clauses that say less than they could would count towards the budget",
+    "spent_one_clause_early": "a question would be left undecided one clause before the budget is used up",
+    "a_void_slice_is_released": "a book would be released though on some days no car can be ordered",
+    "the_first_slice_alone_is_checked": "a book would be released though later days have faults",
+    "undecided_with_no_clauses": "a question would be called undecided without the clauses that show how far the search went",
+    "a_write_dropped_from_the_history": "what a thread did at the machine would be missing from the history",
+    "an_answer_invented": "a thread would be told an answer that the machine never gave",
+    "the_opening_state_always_shown": "a thread would see the machine as it was at first, and not what others did since",
+    "a_failure_that_is_not_counted": "a failure of the store would leave no trace in its count",
+    "a_fault_told_as_want_of_memory": "a failure of the store would be told as a want of memory",
+    "found_with_an_empty_report": "a draft would be refused for findings, and none of them told",
+    "undecided_without_clauses": "a draft would be refused as undecided, and no question named",
+    "a_book_written_before_the_growth": "a book could be in the store that the desk has no room for, so that the two differ",
+    "a_repeated_order_under_the_newest_book": "an order that is sent again would be answered by another book than the one that accepted it",
+    "a_store_fault_made_up": "a want of memory would be told as a fault of the store, which had none",
+    "undecided_is_done": "a check that left questions open would end with the status of a book that can be released",
+    "a_read_fault_of_a_desk_told_as_done": "a desk whose connection broke would end as if all were answered",
+    "every_desk_told_as_not_started": "a desk that served its callers would end as if it had not started",
+}
+
 HEAD = """# Wrong bodies that have to be refused
 
-A contract that is too weak would let wrong code pass. So the gate changes the code at a few places, in the ways that would do harm, and asks the prover about each: it has to refuse every one. A wrong body is an edit in the folder `must-fail` of a crate, `rt must-fail NAME` tries those of one crate, and its name says what the changed code does.
+A contract that is too weak would let wrong code pass. So the gate changes the code at a few places, in the ways that would do harm, and asks the prover about each: it has to refuse every one. A wrong body is an edit in the folder `must-fail` of a crate, `rt must-fail NAME` tries those of one crate.
 
 This page is made by `tests/wrong-bodies.py` from these edits. At most four stand in a crate, those that nothing else tells. Further ones were tried once and are tried no more, since a contract above, a worked run or a test tells the same: docs/DECISIONS.md, "Wrong bodies that are tried no more, and what tells the same", has each with its reason.
 """
@@ -43,12 +75,12 @@ def section(crate):
     edits = sorted((TOP / "crates" / crate / "must-fail").glob("*.edit"))
     if not edits:
         return ""
-    rows = [f"## `{crate}`\n", purpose(crate) + "\n", "| Wrong body | Changed in |", "|---|---|"]
+    rows = [f"## `{crate}`\n", purpose(crate) + "\n", "| Wrong body | What it would do | Changed in |", "|---|---|---|"]
     for edit in edits:
         name = edit.stem.replace("_", " ")
         link = f"../crates/{crate}/must-fail/{edit.name}"
         files = ", ".join(f"`{file}`" for file in files_of(edit))
-        rows.append(f"| [{name}]({link}) | {files} |")
+        rows.append(f"| [{name}]({link}) | {WOULD.get(edit.stem, '')} | {files} |")
     return "\n".join(rows) + "\n"
 
 
