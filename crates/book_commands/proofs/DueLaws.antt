@@ -10,6 +10,7 @@ use Rattle.book_commands.specs.Replies.{FailsAtFile, KeepsFiles}
 use Rattle.book_commands.specs.RunReply.{RunReply, memory_reply, read_fault_reply, due_of}
 use Rattle.book_commands.specs.declared.command.BookCommand.{BookCommand}
 use Rattle.book_commands.specs.declared.command.BookCommand.TheVariants.{Order, Check, Prove, Verify}
+use Rattle.book_commands.specs.declared.object.Object.TheVariants.{Files}
 
 -- files that nobody touched
 pub KeepsFiles-same : (command : BookCommand) (files : FilesTold) → KeepsFiles command files files
@@ -30,7 +31,7 @@ LosesFront-none (Some all) = (0, omega arith, refl)
 
 pub Due-of_files : {E : Type 0} (command : BookCommand) (before after : Inputs) (input : List ℕ) (result : Result RunReply E)
     → ReadsInput before.source after.source input → FailsAtFile command input before.files after.files
-    → IfOk result (λ reply. reply ≡ read_fault_reply 2 before.files.faults.count after.files.faults.count)
+    → IfOk result (λ reply. reply ≡ read_fault_reply Files before.files.faults.count after.files.faults.count)
     → Due command before after (due_of result)
 Due-of_files command before after input (Ok reply) read fails is = file_fault input read fails is
 Due-of_files command before after input (Err wanting) read fails is = no_memory (LosesFront-of_read before.source.left after.source.left input read.text) refl

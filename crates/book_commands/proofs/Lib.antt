@@ -3,6 +3,7 @@ pub mod Statuses
 pub mod Told
 pub mod DueLaws
 pub mod Releasable
+pub mod Blocked
 pub mod Valid
 pub mod NeverBlocked
 pub mod SampleLaws

@@ -1,5 +1,5 @@
 -- What says that the book can be released is right.
-use Rattle.std.proofs.Common.{◌≡◌, ◌∙◌, ℕ, true, false, List, Option, None, Some, Result, Ok, Err, refl, sym, ap, arith}
+use Rattle.std.proofs.Common.{◌≡◌, ◌∙◌, ℕ, true, false, List, Option, None, Some, Result, Ok, Err, refl, sym, ap}
 use Rattle.std.specs.Prelude.{IsOkAnd, IsTrue}
 use Rattle.book_model.specs.Contents.{Contents}
 use Rattle.book_model.specs.Book.{IsBook}
@@ -25,62 +25,63 @@ use Rattle.book_commands.specs.Replies.{RepliesTo, RepliesToVerify, asks_release
 use Rattle.book_commands.specs.RunReply.{RunReply, certified_reply, content_reply, verdict_status, report_reply}
 use Rattle.book_commands.specs.declared.command.BookCommand.{BookCommand}
 use Rattle.book_commands.specs.declared.command.BookCommand.TheVariants.{Order, Check, Prove, Verify}
+use Rattle.book_commands.specs.declared.run_status.RunStatus.TheVariants.{Done, Faulty}
 
--- the status 0 comes with a certificate of the book
+-- the status of done comes with a certificate of the book
 certified-releasable : (b : Contents) (text : List ℕ) (answer : Result Certified CertFault) → cert_answer b text ≡ answer → IsBook b
-    → 0 ≡ (certified_reply b answer).status → IsReleasable b
+    → Done ≡ (certified_reply b answer).status → IsReleasable b
 certified-releasable b text (Ok certified) is book done = releasable_when_answered b text certified book is
 certified-releasable b text (Err fault) is book done = cc
 
-content-releasable : (b : Contents) (content : Option (List ℕ)) → IsBook b → 0 ≡ (content_reply b content).status → IsReleasable b
+content-releasable : (b : Contents) (content : Option (List ℕ)) → IsBook b → Done ≡ (content_reply b content).status → IsReleasable b
 content-releasable b None book done = cc
 content-releasable b (Some text) book done = certified-releasable b text (cert_answer b text) refl book done
 
 verified-releasable : (input file : List ℕ) (book : Result Contents BookFault) (files files' : FilesTold) (reply : RunReply) → book_of input ≡ book
-    → RepliesToVerify book file files files' reply → 0 ≡ reply.status → IsOkAnd book IsReleasable
+    → RepliesToVerify book file files files' reply → Done ≡ reply.status → IsOkAnd book IsReleasable
 verified-releasable input file (Ok b) files files' reply is h done =
     content-releasable b h.content (book_of-book input b is) (done ∙ ap (λ (r : RunReply). r.status) h.answer)
-verified-releasable input file (Err fault) files files' reply is h done = let three : reply.status ≡ 3 = ap (λ (r : RunReply). r.status) h.answer in absurd (omega (arith, done, three))
+verified-releasable input file (Err fault) files files' reply is h done = let clash : Done ≡ Faulty = done ∙ ap (λ (r : RunReply). r.status) h.answer in cc
 
--- the status 0 comes with a report by which the book can be released
-releasable_by_status : (verdict : Verdict) → 0 ≡ verdict_status verdict → verdict ≡ Releasable
+-- the status of done comes with a report by which the book can be released
+releasable_by_status : (verdict : Verdict) → Done ≡ verdict_status verdict → verdict ≡ Releasable
 releasable_by_status Releasable done = refl
 releasable_by_status Blocked done = cc
 releasable_by_status Undecided done = cc
 
-report_verdict : (b : Contents) (report : List Told) (reply : RunReply) → reply ≡ report_reply b report → 0 ≡ reply.status → verdict_of report ≡ Releasable
+report_verdict : (b : Contents) (report : List Told) (reply : RunReply) → reply ≡ report_reply b report → Done ≡ reply.status → verdict_of report ≡ Releasable
 report_verdict b report reply e done = releasable_by_status (verdict_of report) (done ∙ ap (λ (r : RunReply). r.status) e)
 
 proved-releasable : (verdict : Verdict) (b : Contents) (report : List Told) (reply : RunReply) → verdict_of report ≡ verdict → IsBook b
-    → IsProvedBy verdict b report reply → 0 ≡ reply.status → IsReleasable b
+    → IsProvedBy verdict b report reply → Done ≡ reply.status → IsReleasable b
 proved-releasable Releasable b report reply e book h done = releasable_when_answered b h.text h.accepted.certified book h.accepted.answer
 proved-releasable Blocked b report reply e book h done = let clash : Blocked ≡ Releasable = sym e ∙ report_verdict b report reply h done in cc
 proved-releasable Undecided b report reply e book h done = let clash : Undecided ≡ Releasable = sym e ∙ report_verdict b report reply h done in cc
 
 within-releasable : (limits : Result (List Slice) LimitFault) (IsAnswer : RunReply → Type 0) (b : Contents) (reply : RunReply)
-    → (IsAnswer reply → IsReleasable b) → RepliesWithin limits IsAnswer reply → 0 ≡ reply.status → IsReleasable b
+    → (IsAnswer reply → IsReleasable b) → RepliesWithin limits IsAnswer reply → Done ≡ reply.status → IsReleasable b
 within-releasable (Ok slices) IsAnswer b reply shown h done = shown h
 within-releasable (Err fault) IsAnswer b reply shown h done =
-    let three : reply.status ≡ 3 = ap (λ (r : RunReply). r.status) h in absurd (omega (arith, done, three))
+    let clash : Done ≡ Faulty = done ∙ ap (λ (r : RunReply). r.status) h in cc
 
 check-releasable : (book : Result Contents BookFault) (budget : ℕ) (reply : RunReply) → RepliesToCheck book budget reply
-    → 0 ≡ reply.status → IsOkAnd book IsReleasable
+    → Done ≡ reply.status → IsOkAnd book IsReleasable
 check-releasable (Ok b) budget reply h done =
     within-releasable (slices_within b) (IsReported (inquiry All budget b)) b reply
     (λ is. is.released (report_verdict b is.report reply is.answer done)) h done
 check-releasable (Err fault) budget reply h done =
-    let three : reply.status ≡ 3 = ap (λ (r : RunReply). r.status) h in absurd (omega (arith, done, three))
+    let clash : Done ≡ Faulty = done ∙ ap (λ (r : RunReply). r.status) h in cc
 
 proof-releasable : (input : List ℕ) (book : Result Contents BookFault) (budget : ℕ) (reply : RunReply) → book_of input ≡ book
-    → RepliesToProof book budget reply → 0 ≡ reply.status → IsOkAnd book IsReleasable
+    → RepliesToProof book budget reply → Done ≡ reply.status → IsOkAnd book IsReleasable
 proof-releasable input (Ok b) budget reply is h done =
     within-releasable (slices_within b) (IsProved (inquiry Blocking budget b)) b reply
     (λ p. proved-releasable (verdict_of p.report) b p.report reply refl (book_of-book input b is) p.answer done) h done
 proof-releasable input (Err fault) budget reply is h done =
-    let three : reply.status ≡ 3 = ap (λ (r : RunReply). r.status) h in absurd (omega (arith, done, three))
+    let clash : Done ≡ Faulty = done ∙ ap (λ (r : RunReply). r.status) h in cc
 
 pub command-releasable : (command : BookCommand) (input : List ℕ) (files files' : FilesTold) (reply : RunReply) → IsTrue (asks_release command)
-    → RepliesTo command input files files' reply → 0 ≡ reply.status → IsOkAnd (book_of input) IsReleasable
+    → RepliesTo command input files files' reply → Done ≡ reply.status → IsOkAnd (book_of input) IsReleasable
 unfolding RepliesTo
 command-releasable (Order day ordered) input files files' reply asks h done = let clash : false ≡ true = asks in cc
 command-releasable (Check budget) input files files' reply asks h done = check-releasable (book_of input) budget reply h.is_answer done

@@ -1,5 +1,5 @@
 -- The statuses of replies, and those of the replies to valid commands.
-use Rattle.std.proofs.Common.{◌≡◌, ◌≤◌, ◌∙◌, ℕ, ◌+◌, Bool, true, false, List, [], ◌∷◌, refl, sym, subst, ap, inl, inr, arith}
+use Rattle.std.proofs.Common.{◌≡◌, ◌∙◌, ℕ, ◌+◌, Bool, true, false, List, [], ◌∷◌, refl, sym, subst, ap, inl, inr}
 use Rattle.std.specs.Prelude.{◌⊎◌, ◌||◌, Option, None, Some, Result, Ok, Err, IsOk, IfOk, IsSomeAnd, if◌then◌else◌}
 use Rattle.std.specs.List.{list_any}
 use Rattle.pb_base.specs.declared.limits.TheConstants.{MOST_CERT_BYTES}
@@ -25,6 +25,7 @@ use Rattle.parts_usage.specs.declared.fault.OrderFault.{OrderFault}
 use Rattle.parts_usage.specs.declared.judgement.Outcome.{Outcome}
 use Rattle.parts_usage.specs.declared.judgement.Outcome.TheVariants.{Accepted, Refused, Unfit}
 use Rattle.pb_outside.specs.Files.{NamedBytes, FilesTold, content_of, within_room, ReadsFile}
+use Rattle.book_commands.specs.Ends.{IsDecided, IsOrderStatus, IsCheckStatus, IsVerifyStatus, IsReplyStatus, IsSampleStatus, IsLeft, EndsCheck, EndsCommand, EndsSample}
 use Rattle.book_commands.specs.Logged.{logged_behind, is_spent}
 use Rattle.book_commands.specs.RunReply.{RunReply, outcome_status, judged_reply, order_reply, certified_reply, content_reply}
 use Rattle.book_commands.specs.RunReply.{verdict_status, report_reply}
@@ -34,80 +35,75 @@ use Rattle.book_commands.specs.Size.{Size}
 use Rattle.book_commands.specs.Replies.{IsCertificate, HasCertificate, IsValidCommand, RepliesTo, RepliesToVerify}
 use Rattle.book_commands.specs.declared.command.BookCommand.{BookCommand}
 use Rattle.book_commands.specs.declared.command.BookCommand.TheVariants.{Order, Check, Prove, Verify}
+use Rattle.book_commands.specs.declared.run_status.RunStatus.{RunStatus}
+use Rattle.book_commands.specs.declared.run_status.RunStatus.TheVariants as statuses
 
--- the statuses of replies to what was read
-abbrev pub IsReplyStatus : ℕ → Type 0
-IsReplyStatus status = (status ≤ 1) ⊎ (status ≡ 3) ⊎ (status ≡ 7) ⊎ (status ≡ 8)
+decided-outcome : (outcome : Outcome) → IsDecided (outcome_status outcome)
+decided-outcome (Accepted set list) = inl refl
+decided-outcome (Refused rule) = inr refl
+decided-outcome (Unfit position count) = inr refl
 
-outcome_status-le : (outcome : Outcome) → outcome_status outcome ≤ 1
-outcome_status-le (Accepted set list) = omega arith
-outcome_status-le (Refused rule) = omega arith
-outcome_status-le (Unfit position count) = omega arith
+judged-kind : (b : Contents) (answer : Result Outcome OrderFault) → IsOrderStatus (judged_reply b answer).status
+judged-kind b (Ok outcome) = inl (decided-outcome outcome)
+judged-kind b (Err fault) = inr refl
 
-judged-kind : (b : Contents) (answer : Result Outcome OrderFault) → IsReplyStatus (judged_reply b answer).status
-judged-kind b (Ok outcome) = inl (outcome_status-le outcome)
-judged-kind b (Err fault) = inr (inl refl)
-
-order-kind : (book : Result Contents BookFault) (day : ℕ) (ordered : List (List ℕ)) → IsReplyStatus (order_reply book day ordered).status
+order-kind : (book : Result Contents BookFault) (day : ℕ) (ordered : List (List ℕ)) → IsOrderStatus (order_reply book day ordered).status
 order-kind (Ok b) day ordered = judged-kind b (outcome_of b day ordered)
-order-kind (Err fault) day ordered = inr (inl refl)
+order-kind (Err fault) day ordered = inr refl
 
-certified-kind : (b : Contents) (answer : Result Certified CertFault) → IsReplyStatus (certified_reply b answer).status
-certified-kind b (Ok certified) = inl (omega arith)
-certified-kind b (Err fault) = inr (inr (inr refl))
+certified-kind : (b : Contents) (answer : Result Certified CertFault) → IsVerifyStatus (certified_reply b answer).status
+certified-kind b (Ok certified) = inl refl
+certified-kind b (Err fault) = inr (inl refl)
 
-content-kind : (b : Contents) (content : Option (List ℕ)) → IsReplyStatus (content_reply b content).status
-content-kind b None = inr (inr (inr refl))
+content-kind : (b : Contents) (content : Option (List ℕ)) → IsVerifyStatus (content_reply b content).status
+content-kind b None = inr (inl refl)
 content-kind b (Some text) = certified-kind b (cert_answer b text)
 
-same-kind : (answer reply : RunReply) → reply ≡ answer → IsReplyStatus answer.status → IsReplyStatus reply.status
-same-kind answer reply e h = subst (λ (r : RunReply). IsReplyStatus r.status) (sym e) h
+-- a reply that is an answer ends as the answer does
+same-kind : (IsKind : RunStatus → Type 0) (answer reply : RunReply) → reply ≡ answer → IsKind answer.status → IsKind reply.status
+same-kind IsKind answer reply e h = subst (λ (r : RunReply). IsKind r.status) (sym e) h
 
 verify-kind : (book : Result Contents BookFault) (file : List ℕ) (files files' : FilesTold) (reply : RunReply)
-    → RepliesToVerify book file files files' reply → IsReplyStatus reply.status
-verify-kind (Ok b) file files files' reply h = same-kind _ reply h.answer (content-kind b h.content)
-verify-kind (Err fault) file files files' reply h = same-kind _ reply h.answer (inr (inl refl))
+    → RepliesToVerify book file files files' reply → IsVerifyStatus reply.status
+verify-kind (Ok b) file files files' reply h = same-kind IsVerifyStatus _ reply h.answer (content-kind b h.content)
+verify-kind (Err fault) file files files' reply h = same-kind IsVerifyStatus _ reply h.answer (inr (inr refl))
 
-verdict-kind : (verdict : Verdict) → IsReplyStatus (verdict_status verdict)
-verdict-kind Releasable = inl (omega arith)
-verdict-kind Blocked = inl (omega arith)
-verdict-kind Undecided = inr (inr (inl refl))
+verdict-kind : (verdict : Verdict) → IsCheckStatus (verdict_status verdict)
+verdict-kind Releasable = inl (inl refl)
+verdict-kind Blocked = inl (inr refl)
+verdict-kind Undecided = inr (inl refl)
 
-report-kind : (b : Contents) (report : List Told) (reply : RunReply) → reply ≡ report_reply b report → IsReplyStatus reply.status
-report-kind b report reply e = same-kind _ reply e (verdict-kind (verdict_of report))
+report-kind : (b : Contents) (report : List Told) (reply : RunReply) → reply ≡ report_reply b report → IsCheckStatus reply.status
+report-kind b report reply e = same-kind IsCheckStatus _ reply e (verdict-kind (verdict_of report))
 
-proved-kind : (verdict : Verdict) (b : Contents) (report : List Told) (reply : RunReply) → IsProvedBy verdict b report reply → IsReplyStatus reply.status
-proved-kind Releasable b report reply h = same-kind _ reply h.answer (inl (omega arith))
+proved-kind : (verdict : Verdict) (b : Contents) (report : List Told) (reply : RunReply) → IsProvedBy verdict b report reply → IsCheckStatus reply.status
+proved-kind Releasable b report reply h = same-kind IsCheckStatus _ reply h.answer (inl (inl refl))
 proved-kind Blocked b report reply h = report-kind b report reply h
 proved-kind Undecided b report reply h = report-kind b report reply h
 
 within-kind : (limits : Result (List Slice) LimitFault) (IsAnswer : RunReply → Type 0) (reply : RunReply)
-    → ((r : RunReply) → IsAnswer r → IsReplyStatus r.status) → RepliesWithin limits IsAnswer reply → IsReplyStatus reply.status
+    → ((r : RunReply) → IsAnswer r → IsCheckStatus r.status) → RepliesWithin limits IsAnswer reply → IsCheckStatus reply.status
 within-kind (Ok slices) IsAnswer reply kind h = kind reply h
-within-kind (Err fault) IsAnswer reply kind h = same-kind _ reply h (inr (inl refl))
+within-kind (Err fault) IsAnswer reply kind h = same-kind IsCheckStatus _ reply h (inr (inr refl))
 
-check-kind : (book : Result Contents BookFault) (budget : ℕ) (reply : RunReply) → RepliesToCheck book budget reply → IsReplyStatus reply.status
+check-kind : (book : Result Contents BookFault) (budget : ℕ) (reply : RunReply) → RepliesToCheck book budget reply → IsCheckStatus reply.status
 check-kind (Ok b) budget reply h =
     within-kind (slices_within b) (IsReported (inquiry All budget b)) reply (λ r is. report-kind b is.report r is.answer) h
-check-kind (Err fault) budget reply h = same-kind _ reply h (inr (inl refl))
+check-kind (Err fault) budget reply h = same-kind IsCheckStatus _ reply h (inr (inr refl))
 
-proof-kind : (book : Result Contents BookFault) (budget : ℕ) (reply : RunReply) → RepliesToProof book budget reply → IsReplyStatus reply.status
+proof-kind : (book : Result Contents BookFault) (budget : ℕ) (reply : RunReply) → RepliesToProof book budget reply → IsCheckStatus reply.status
 proof-kind (Ok b) budget reply h =
     within-kind (slices_within b) (IsProved (inquiry Blocking budget b)) reply
     (λ r is. proved-kind (verdict_of is.report) b is.report r is.answer) h
-proof-kind (Err fault) budget reply h = same-kind _ reply h (inr (inl refl))
+proof-kind (Err fault) budget reply h = same-kind IsCheckStatus _ reply h (inr (inr refl))
 
 pub replies-kind : (command : BookCommand) (input : List ℕ) (files files' : FilesTold) (reply : RunReply)
-    → RepliesTo command input files files' reply → IsReplyStatus reply.status
+    → RepliesTo command input files files' reply → IsReplyStatus command reply.status
 unfolding RepliesTo
-replies-kind (Order day ordered) input files files' reply h = same-kind _ reply h.is_answer (order-kind (book_of input) day ordered)
+replies-kind (Order day ordered) input files files' reply h = same-kind IsOrderStatus _ reply h.is_answer (order-kind (book_of input) day ordered)
 replies-kind (Check budget) input files files' reply h = check-kind (book_of input) budget reply h.is_answer
 replies-kind (Prove budget) input files files' reply h = proof-kind (book_of input) budget reply h.is_answer
 replies-kind (Verify file) input files files' reply h = verify-kind (book_of input) file files files' reply h
-
--- the statuses of replies to a sample
-abbrev pub IsSampleStatus : ℕ → Type 0
-IsSampleStatus status = (status ≡ 0) ⊎ (status ≡ 7)
 
 pub sample-kind : (size : Size) (reply : RunReply) → RepliesToSample size reply → IsSampleStatus reply.status
 sample-kind size reply h = elim h.answer [
@@ -115,46 +111,41 @@ sample-kind size reply h = elim h.answer [
   | inr left ↦ inr (ap (λ (r : RunReply). r.status) left.answer)
 ]
 
-judged-status : (b : Contents) (fault : Option OrderFault) (outcome : Outcome) → fault ≡ None → (judged_reply b (unless fault (Ok outcome))).status ≤ 1
-judged-status b fault outcome e = subst (λ (f : Option OrderFault). (judged_reply b (unless f (Ok outcome))).status ≤ 1) (sym e) (outcome_status-le outcome)
+judged-status : (b : Contents) (fault : Option OrderFault) (outcome : Outcome) → fault ≡ None → IsDecided (judged_reply b (unless fault (Ok outcome))).status
+judged-status b fault outcome e =
+    subst (λ (f : Option OrderFault). IsDecided (judged_reply b (unless f (Ok outcome))).status) (sym e) (decided-outcome outcome)
 
-order-status : (book : Result Contents BookFault) (day : ℕ) (ordered : List (List ℕ)) → IsOk book → IfOk book (λ b. order_fault b day ordered ≡ None) → (order_reply book day ordered).status ≤ 1
+order-status : (book : Result Contents BookFault) (day : ℕ) (ordered : List (List ℕ)) → IsOk book
+    → IfOk book (λ b. order_fault b day ordered ≡ None) → IsDecided (order_reply book day ordered).status
 order-status (Ok b) day ordered ok none = judged-status b (order_fault b day ordered) _ none
 order-status (Err fault) day ordered ok none = let clash : false ≡ true = ok in cc
 
-certified-status : (b : Contents) (answer : Result Certified CertFault) → IsOk answer → (certified_reply b answer).status ≤ 1
-certified-status b (Ok certified) ok = omega arith
+certified-status : (b : Contents) (answer : Result Certified CertFault) → IsOk answer → (certified_reply b answer).status ≡ statuses.Done
+certified-status b (Ok certified) ok = refl
 certified-status b (Err fault) ok = let clash : false ≡ true = ok in cc
 
 -- a file within the limit is read whole
-content-status : (b : Contents) (text : List ℕ) (content : Option (List ℕ)) → IsCertificate b text → content ≡ within_room MOST_CERT_BYTES text → (content_reply b content).status ≤ 1
+content-status : (b : Contents) (text : List ℕ) (content : Option (List ℕ)) → IsCertificate b text → content ≡ within_room MOST_CERT_BYTES text
+    → (content_reply b content).status ≡ statuses.Done
 content-status b text content h e =
     let whole : within_room MOST_CERT_BYTES text ≡ Some text = ap (λ (fits : Bool). if fits then Some text else None) h.limit in
-    subst (λ (c : Option (List ℕ)). (content_reply b c).status ≤ 1) (sym (e ∙ whole)) (certified-status b (cert_answer b text) h.certificate)
+    subst (λ (c : Option (List ℕ)). (content_reply b c).status ≡ statuses.Done) (sym (e ∙ whole)) (certified-status b (cert_answer b text) h.certificate)
 
-found-status : (b : Contents) (content found : Option (List ℕ)) → IsSomeAnd found (IsCertificate b) → IsSomeAnd found (λ text. content ≡ within_room MOST_CERT_BYTES text) → (content_reply b content).status ≤ 1
+found-status : (b : Contents) (content found : Option (List ℕ)) → IsSomeAnd found (IsCertificate b)
+    → IsSomeAnd found (λ text. content ≡ within_room MOST_CERT_BYTES text) → (content_reply b content).status ≡ statuses.Done
 found-status b content None h e = absurd h
 found-status b content (Some text) h e = content-status b text content h e
 
-file-status : (b : Contents) (content : Option (List ℕ)) (files : Option (List NamedBytes)) (file : List ℕ) → HasCertificate b files file → ReadsFile file MOST_CERT_BYTES files content → (content_reply b content).status ≤ 1
+file-status : (b : Contents) (content : Option (List ℕ)) (files : Option (List NamedBytes)) (file : List ℕ) → HasCertificate b files file
+    → ReadsFile file MOST_CERT_BYTES files content → (content_reply b content).status ≡ statuses.Done
 file-status b content None file h read = absurd h
 file-status b content (Some all) file h read = found-status b content (content_of all file) h read
 
-same-status : (answer reply : RunReply) → reply ≡ answer → answer.status ≤ 1 → reply.status ≤ 1
-same-status answer reply e h = subst (λ (r : RunReply). r.status ≤ 1) (sym e) h
-
 verify-status : (book : Result Contents BookFault) (file : List ℕ) (files files' : FilesTold) (reply : RunReply)
-    → IsOk book → IfOk book (λ b. HasCertificate b files.files file) → RepliesToVerify book file files files' reply → reply.status ≤ 1
-verify-status (Ok b) file files files' reply ok has h = same-status _ reply h.answer (file-status b h.content files.files file has h.read)
+    → IsOk book → IfOk book (λ b. HasCertificate b files.files file) → RepliesToVerify book file files files' reply → reply.status ≡ statuses.Done
+verify-status (Ok b) file files files' reply ok has h =
+    same-kind (λ status. status ≡ statuses.Done) _ reply h.answer (file-status b h.content files.files file has h.read)
 verify-status (Err fault) file files files' reply ok has h = let clash : false ≡ true = ok in cc
-
--- done, or a question that a release asks was left, which the notes have
-pub record IsLeftReply (reply : RunReply) : Type 0 where
-  pub ends : reply.status ≡ 7
-  pub spent : list_any is_spent reply.notes ≡ true
-
-abbrev pub IsAnswered : RunReply → Type 0
-IsAnswered reply = (reply.status ≤ 1) ⊎ IsLeftReply reply
 
 spent-logged : (slices : ℕ) (report : List Told) → list_any is_spent (logged_behind slices report) ≡ list_any is_left report
 spent-logged slices [] = refl
@@ -164,39 +155,42 @@ spent-logged slices (UndecidedTold question learnt ∷ report) =
     ap (λ (later : Bool). is_blocking question || later) (spent-logged slices report)
 
 verdict-cases : (fault left : Bool) → let verdict : Verdict = (if fault then Blocked else (if left then Undecided else Releasable)) in
-    (verdict_status verdict ≤ 1) ⊎ ((verdict_status verdict ≡ 7) × (left ≡ true))
-verdict-cases true left = inl (omega arith)
+    IsDecided (verdict_status verdict) ⊎ ((verdict_status verdict ≡ statuses.Undecided) × (left ≡ true))
+verdict-cases true left = inl (inr refl)
 verdict-cases false true = inr (refl, refl)
-verdict-cases false false = inl (omega arith)
+verdict-cases false false = inl (inl refl)
 
-same-answered : (answer reply : RunReply) → reply ≡ answer → IsAnswered answer → IsAnswered reply
-same-answered answer reply e h = subst IsAnswered (sym e) h
+abbrev EndsChecked : RunReply → Type 0
+EndsChecked reply = EndsCheck reply.status reply.notes
 
-report-answered : (b : Contents) (report : List Told) → IsAnswered (report_reply b report)
+same-checked : (answer reply : RunReply) → reply ≡ answer → EndsChecked answer → EndsChecked reply
+same-checked answer reply e h = subst EndsChecked (sym e) h
+
+report-answered : (b : Contents) (report : List Told) → EndsChecked (report_reply b report)
 report-answered b report = elim (verdict-cases (list_any is_fault report) (list_any is_left report)) [
   | inl done ↦ inl done
   | inr left ↦ inr (record { ends = left.0; spent = spent-logged 0 report ∙ left.1 })
 ]
 
-proved-answered : (verdict : Verdict) (b : Contents) (report : List Told) (reply : RunReply) → IsProvedBy verdict b report reply → IsAnswered reply
-proved-answered Releasable b report reply h = same-answered _ reply h.answer (inl (omega arith))
-proved-answered Blocked b report reply h = same-answered _ reply h (report-answered b report)
-proved-answered Undecided b report reply h = same-answered _ reply h (report-answered b report)
+proved-answered : (verdict : Verdict) (b : Contents) (report : List Told) (reply : RunReply) → IsProvedBy verdict b report reply → EndsChecked reply
+proved-answered Releasable b report reply h = same-checked _ reply h.answer (inl (inl refl))
+proved-answered Blocked b report reply h = same-checked _ reply h (report-answered b report)
+proved-answered Undecided b report reply h = same-checked _ reply h (report-answered b report)
 
 within-answered : (limits : Result (List Slice) LimitFault) (IsAnswer : RunReply → Type 0) (reply : RunReply) → IsOk limits
-    → ((r : RunReply) → IsAnswer r → IsAnswered r) → RepliesWithin limits IsAnswer reply → IsAnswered reply
+    → ((r : RunReply) → IsAnswer r → EndsChecked r) → RepliesWithin limits IsAnswer reply → EndsChecked reply
 within-answered (Ok slices) IsAnswer reply ok answered h = answered reply h
 within-answered (Err fault) IsAnswer reply ok answered h = let clash : false ≡ true = ok in cc
 
 check-answered : (book : Result Contents BookFault) (budget : ℕ) (reply : RunReply) → IsOk book → IfOk book (λ b. IsOk (slices_within b))
-    → RepliesToCheck book budget reply → IsAnswered reply
+    → RepliesToCheck book budget reply → EndsChecked reply
 check-answered (Ok b) budget reply ok limits h =
     within-answered (slices_within b) (IsReported (inquiry All budget b)) reply limits
-    (λ r is. same-answered _ r is.answer (report-answered b is.report)) h
+    (λ r is. same-checked _ r is.answer (report-answered b is.report)) h
 check-answered (Err fault) budget reply ok limits h = let clash : false ≡ true = ok in cc
 
 proof-answered : (book : Result Contents BookFault) (budget : ℕ) (reply : RunReply) → IsOk book → IfOk book (λ b. IsOk (slices_within b))
-    → RepliesToProof book budget reply → IsAnswered reply
+    → RepliesToProof book budget reply → EndsChecked reply
 proof-answered (Ok b) budget reply ok limits h =
     within-answered (slices_within b) (IsProved (inquiry Blocking budget b)) reply limits
     (λ r is. proved-answered (verdict_of is.report) b is.report r is.answer) h
@@ -204,14 +198,14 @@ proof-answered (Err fault) budget reply ok limits h = let clash : false ≡ true
 
 -- a valid command is answered
 pub valid-answered : (command : BookCommand) (input : List ℕ) (files files' : FilesTold) (reply : RunReply)
-    → IsValidCommand command input files.files → RepliesTo command input files files' reply → IsAnswered reply
+    → IsValidCommand command input files.files → RepliesTo command input files files' reply → EndsCommand command reply.status reply.notes
 unfolding RepliesTo IsValidCommand
 valid-answered (Order day ordered) input files files' reply v h =
-    inl (same-status _ reply h.is_answer (order-status (book_of input) day ordered v.book v.order))
+    same-kind IsDecided _ reply h.is_answer (order-status (book_of input) day ordered v.book v.order)
 valid-answered (Check budget) input files files' reply v h = check-answered (book_of input) budget reply v.no_fault v.limits h.is_answer
 valid-answered (Prove budget) input files files' reply v h = proof-answered (book_of input) budget reply v.no_fault v.limits h.is_answer
 valid-answered (Verify file) input files files' reply v h =
-    inl (verify-status (book_of input) file files files' reply v.book v.certificate h)
+    verify-status (book_of input) file files files' reply v.book v.certificate h
 
 left_by_verdict : (fault left : Bool) → (if fault then Blocked else (if left then Undecided else Releasable)) ≡ Undecided → left ≡ true
 left_by_verdict true left e = cc
@@ -219,9 +213,9 @@ left_by_verdict false true e = refl
 left_by_verdict false false e = cc
 
 -- a sample is answered
-pub sample-answered : (size : Size) (reply : RunReply) → RepliesToSample size reply → IsAnswered reply
+pub sample-answered : (size : Size) (reply : RunReply) → RepliesToSample size reply → EndsSample reply.status reply.notes
 sample-answered size reply h = elim h.answer [
-  | inl released ↦ inl (same-status _ reply released.answer (omega arith))
+  | inl released ↦ inl (ap (λ (r : RunReply). r.status) released.answer)
   | inr left ↦ inr (record {
     ends = ap (λ (r : RunReply). r.status) left.answer;
     spent = ap (λ (r : RunReply). list_any is_spent r.notes) left.answer ∙ spent-logged 0 left.report

@@ -6,12 +6,13 @@ use Rattle.book_text.specs.BookText.{book_of}
 use Rattle.book_text.specs.declared.fault.BookFault.{BookFault}
 use Rattle.pb_outside.specs.Source.{ReadsUpTo}
 use Rattle.pb_outside.specs.Files.{NamedBytes, FilesTold, content_of}
+use Rattle.book_commands.specs.Ends.{EndsCommand}
 use Rattle.book_commands.specs.Inputs.{input_limit}
 use Rattle.book_commands.specs.Replies.{IsCertificate, HasCertificate, IsValidCommand, RepliesTo, FailsAtFile}
 use Rattle.book_commands.specs.RunReply.{RunReply}
 use Rattle.book_commands.specs.declared.command.BookCommand.{BookCommand}
 use Rattle.book_commands.specs.declared.command.BookCommand.TheVariants.{Order, Check, Prove, Verify}
-use Rattle.book_commands.proofs.Statuses.{IsAnswered, valid-answered}
+use Rattle.book_commands.proofs.Statuses.{valid-answered}
 
 -- the input that was read is the one that was given
 pub same_input : (left left' : Option (List ℕ)) (input read : List ℕ) → IsSomeAnd left (λ all. input ≡ take input_limit all)
@@ -20,7 +21,7 @@ same_input None left' input read given h = absurd given
 same_input (Some all) left' input read given h = given ∙ sym h.0
 
 pub valid_answer : (command : BookCommand) (input read : List ℕ) (files files' : FilesTold) (reply : RunReply) → input ≡ read
-    → IsValidCommand command input files.files → RepliesTo command read files files' reply → IsAnswered reply
+    → IsValidCommand command input files.files → RepliesTo command read files files' reply → EndsCommand command reply.status reply.notes
 valid_answer command input read files files' reply e valid h =
     valid-answered command read files files' reply (subst (λ (i : List ℕ). IsValidCommand command i files.files) e valid) h
 

@@ -62,3 +62,8 @@ RepliesToProof (Err fault) budget reply = reply ≡ book_fault_reply fault
 pub record IsCheckable (book : Result Contents BookFault) : Type 0 where
   pub no_fault : IsOk book
   pub limits : IfOk book (λ b. IsOk (slices_within b))
+
+-- not on every day of its term some set of codes is good, or some good set doesn't select exactly one variant at each mandatory
+-- position and nowhere two
+abbrev pub IsUnreleasable : Contents → Type 0
+IsUnreleasable b = IsReleasable b → ⊥

@@ -1,3 +1,4 @@
+pub mod Numbers
 pub mod Size
 pub mod CertText
 pub mod Logged
@@ -8,3 +9,4 @@ pub mod Inputs
 pub mod Due
 pub mod Sample
 pub mod Tells
+pub mod Ends

@@ -1,4 +1,4 @@
--- What a command that reads a book is answered. A further command has a line in each of the five definitions at the end.
+-- What a command that reads a book is answered. A further command has a line in each of the definitions at the end.
 use Rattle.std.specs.Prelude.{◌≡◌, ℕ, Bool, true, false, List, Option, None, Result, Ok, Err, IsOk, IfOk, IsSomeAnd, IsTrue, nat_le, length}
 use Rattle.pb_base.specs.declared.limits.TheConstants.{MOST_CERT_BYTES}
 use Rattle.book_model.specs.Contents.{Contents}
@@ -97,3 +97,10 @@ asks_release (Order day ordered) = false
 asks_release (Check budget) = true
 asks_release (Prove budget) = true
 asks_release (Verify file) = true
+
+-- the command asks what keeps the book from its release
+abbrev pub asks_check : BookCommand → Bool
+asks_check (Order day ordered) = false
+asks_check (Check budget) = true
+asks_check (Prove budget) = true
+asks_check (Verify file) = false

@@ -1,16 +1,4 @@
 -- What a run answers: a text, a status, and what the status rests on.
---     status 0     the order is accepted, the book can be released, the certificate has no fault, the sample is judged, or
---                  the desk served its link to the end
---     status 1     the order is refused, or unfit, or a finding keeps the book from its release
---     status 2     the words are of no form
---     status 3     the book or the order has a fault, or the book exceeds a limit of checking, or a message of the desk's link
---                  was refused or cut
---     status 4     the source or the files failed
---     status 5     the sink failed
---     status 6     the desk was not started: its keeper failed, or a row that is kept is not right
---     status 7     no finding keeps the book from its release, but a question was left
---     status 8     the certificate has a fault
---     status 9     want of memory
 use Rattle.std.specs.Prelude.{ℕ, List, [], ◌∷◌, ◌++◌, Option, None, Some, Result, Ok, Err, codes}
 use Rattle.book_model.specs.Contents.{Contents}
 use Rattle.book_model.specs.declared.slicing.LimitFault.{LimitFault}
@@ -34,54 +22,58 @@ use Rattle.pb_reports.specs.ReportText.{report_text}
 use Rattle.book_commands.specs.CertText.{cert_fault_text, verified_text}
 use Rattle.book_commands.specs.Logged.{logged}
 use Rattle.book_commands.specs.declared.log.Note.{Note}
+use Rattle.book_commands.specs.declared.object.Object.{Object}
+use Rattle.book_commands.specs.declared.object.Object.TheVariants.{Keeper}
+use Rattle.book_commands.specs.declared.run_status.RunStatus.{RunStatus}
+use Rattle.book_commands.specs.declared.run_status.RunStatus.TheVariants as statuses
 use Rattle.book_commands.specs.declared.log.Note.TheVariants.{Text as TextNote, Order as OrderNote, Limit as LimitNote}
 use Rattle.book_commands.specs.declared.log.Note.TheVariants.{Refused as RefusedNote, Unfit as UnfitNote, Cert as CertNote, BadRow as BadRowNote, Count as CountNote}
 
 pub record RunReply : Type 0 where
   pub text : List ℕ
-  pub status : ℕ
+  pub status : RunStatus
   pub notes : List Note
 
 abbrev pub usage_text : List ℕ
 usage_text = codes "usage: order DAY CODE.. | check [--budget N] | prove [--budget N] | verify CERTFILE | desk STORE | sample START CODES ORDERS\n"
 
 abbrev pub usage_reply : RunReply
-usage_reply = record { text = usage_text; status = 2; notes = [] }
+usage_reply = record { text = usage_text; status = statuses.Usage; notes = [] }
 
 abbrev pub read_fault_text : List ℕ
 read_fault_text = codes "read fault\n"
 
--- the object of this number failed: 1 is the source, and 2 the files; with its counts of faults
-abbrev pub read_fault_reply : ℕ → ℕ → ℕ → RunReply
-read_fault_reply which before after = record { text = read_fault_text; status = 4; notes = CountNote which before after ∷ [] }
+-- the source or the files failed; with the counts of faults
+abbrev pub read_fault_reply : Object → ℕ → ℕ → RunReply
+read_fault_reply which before after = record { text = read_fault_text; status = statuses.ReadFault; notes = CountNote which before after ∷ [] }
 
 abbrev pub memory_text : List ℕ
 memory_text = codes "want of memory\n"
 
 abbrev pub memory_reply : RunReply
-memory_reply = record { text = memory_text; status = 9; notes = [] }
+memory_reply = record { text = memory_text; status = statuses.WantOfMemory; notes = [] }
 
 -- the keeper failed while the desk was started; with its counts of faults
 abbrev pub store_fault_reply : ℕ → ℕ → RunReply
-store_fault_reply before after = record { text = codes "store fault\n"; status = 6; notes = CountNote 4 before after ∷ [] }
+store_fault_reply before after = record { text = codes "store fault\n"; status = statuses.NotStarted; notes = CountNote Keeper before after ∷ [] }
 
 abbrev pub bad_row_text : ℕ → ℕ → List ℕ
 bad_row_text table place = line (codes "bad row" ++ number_behind table ++ number_behind place)
 
 -- this is the first row that is not right
 abbrev pub bad_row_reply : ℕ → ℕ → RunReply
-bad_row_reply table place = record { text = bad_row_text table place; status = 6; notes = BadRowNote table place ∷ [] }
+bad_row_reply table place = record { text = bad_row_text table place; status = statuses.NotStarted; notes = BadRowNote table place ∷ [] }
 
 abbrev pub book_fault_reply : BookFault → RunReply
-book_fault_reply fault = record { text = book_fault_text fault; status = 3; notes = TextNote fault ∷ [] }
+book_fault_reply fault = record { text = book_fault_text fault; status = statuses.Faulty; notes = TextNote fault ∷ [] }
 
 abbrev pub order_fault_reply : OrderFault → RunReply
-order_fault_reply fault = record { text = order_fault_text fault; status = 3; notes = OrderNote fault ∷ [] }
+order_fault_reply fault = record { text = order_fault_text fault; status = statuses.Faulty; notes = OrderNote fault ∷ [] }
 
-abbrev pub outcome_status : Outcome → ℕ
-outcome_status (Accepted set list) = 0
-outcome_status (Refused rule) = 1
-outcome_status (Unfit position count) = 1
+abbrev pub outcome_status : Outcome → RunStatus
+outcome_status (Accepted set list) = statuses.Done
+outcome_status (Refused rule) = statuses.Refused
+outcome_status (Unfit position count) = statuses.Refused
 
 abbrev pub outcome_notes : Outcome → List Note
 outcome_notes (Accepted set list) = []
@@ -102,12 +94,12 @@ order_reply (Err fault) day ordered = book_fault_reply fault
 
 -- the book exceeds a limit of checking
 abbrev pub limit_fault_reply : LimitFault → RunReply
-limit_fault_reply fault = record { text = limit_fault_text fault; status = 3; notes = LimitNote fault ∷ [] }
+limit_fault_reply fault = record { text = limit_fault_text fault; status = statuses.Faulty; notes = LimitNote fault ∷ [] }
 
-abbrev pub verdict_status : Verdict → ℕ
-verdict_status Releasable = 0
-verdict_status Blocked = 1
-verdict_status Undecided = 7
+abbrev pub verdict_status : Verdict → RunStatus
+verdict_status Releasable = statuses.Done
+verdict_status Blocked = statuses.Refused
+verdict_status Undecided = statuses.Undecided
 
 -- the report on a book, which stands in the log
 abbrev pub report_reply : Contents → List Told → RunReply
@@ -116,13 +108,13 @@ report_reply b report =
 
 -- a certificate that the book can be released
 abbrev pub certificate_reply : List ℕ → RunReply
-certificate_reply text = record { text = text; status = 0; notes = [] }
+certificate_reply text = record { text = text; status = statuses.Done; notes = [] }
 
 abbrev pub cert_fault_reply : CertFault → RunReply
-cert_fault_reply fault = record { text = cert_fault_text fault; status = 8; notes = CertNote fault ∷ [] }
+cert_fault_reply fault = record { text = cert_fault_text fault; status = statuses.BadCertificate; notes = CertNote fault ∷ [] }
 
 abbrev pub certified_reply : Contents → Result Certified CertFault → RunReply
-certified_reply b (Ok certified) = record { text = verified_text b certified; status = 0; notes = [] }
+certified_reply b (Ok certified) = record { text = verified_text b certified; status = statuses.Done; notes = [] }
 certified_reply b (Err fault) = cert_fault_reply fault
 
 -- the file as a whole is at fault

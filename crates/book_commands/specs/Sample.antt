@@ -29,6 +29,7 @@ use Rattle.book_commands.specs.Logged.{logged}
 use Rattle.book_commands.specs.RunReply.{RunReply}
 use Rattle.book_commands.specs.Size.{Size}
 use Rattle.pb_base.specs.declared.limits.TheConstants.{DEFAULT_BUDGET}
+use Rattle.book_commands.specs.declared.run_status.RunStatus.TheVariants as statuses
 use Rattle.book_commands.specs.declared.tally.Tally.{Tally}
 
 -- the next so many orders
@@ -89,11 +90,11 @@ undecided_text size b report = size_text size ++ (counts_text b ++ (codes "undec
 
 -- the book was released
 abbrev pub released_reply : Size → Contents → RunReply
-released_reply size b = record { text = released_text size b; status = 0; notes = [] }
+released_reply size b = record { text = released_text size b; status = statuses.Done; notes = [] }
 
 -- a question was left, as the report and the log say
 abbrev pub undecided_reply : Size → Contents → List Told → RunReply
-undecided_reply size b report = record { text = undecided_text size b report; status = 7; notes = logged report }
+undecided_reply size b report = record { text = undecided_text size b report; status = statuses.Undecided; notes = logged report }
 
 pub record IsReleasedSample (size : Size) (b : Contents) (reply : RunReply) : Type 0 where
   pub cert : List ℕ

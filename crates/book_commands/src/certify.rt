@@ -11,6 +11,7 @@ use crate::cert_text::{cert_fault_text, verified_text};
 use crate::judge::book_fault_reply;
 use crate::log::Note;
 use crate::run_reply::RunReply;
+use crate::run_status::RunStatus;
 use book_model::Book;
 use book_text::read_book;
 use command_words::FileName;
@@ -80,7 +81,7 @@ fn certified_reply(alloc: Global, book: &Book, text: &[u8]) -> Result<RunReply, 
     match check_cert(alloc, book, text) {
         Ok(certified) => {
             let text = verified_text(alloc, book, certified)?;
-            Ok(RunReply::plain(alloc, text, 0))
+            Ok(RunReply::plain(alloc, text, RunStatus::Done))
         }
         Err(Fail::Refused(fault)) => cert_fault_reply(alloc, fault),
         Err(Fail::Memory) => Err(Memory),
@@ -91,5 +92,5 @@ fn cert_fault_reply(alloc: Global, fault: CertFault) -> Result<RunReply, Memory>
     ensures { IfOk result (λ reply. reply ≡ cert_fault_reply fault) }
 {
     let text = cert_fault_text(alloc, &fault)?;
-    RunReply::noted(alloc, text, 8, Note::Cert(fault))
+    RunReply::noted(alloc, text, RunStatus::BadCertificate, Note::Cert(fault))
 }

@@ -16,6 +16,7 @@ use crate::judge::book_fault_reply;
 use crate::log::Note;
 use crate::logged::logged;
 use crate::run_reply::RunReply;
+use crate::run_status::RunStatus;
 use book_model::{Book, LimitFault};
 use book_text::read_book;
 use findings::{Ask, Checked, Report, Verdict, check_book, report_book, verdict_of};
@@ -64,7 +65,7 @@ fn proved_reply(alloc: Global, book: &Book, budget: &Budget) -> Result<RunReply,
 {
     match check_book(alloc, book, budget.clauses(), Ask::Blocking) {
         Ok(Checked { report, cert }) => match cert {
-            Some(text) => Ok(RunReply::plain(alloc, text, 0)),
+            Some(text) => Ok(RunReply::plain(alloc, text, RunStatus::Done)),
             None => report_reply(alloc, book, report),
         },
         Err(Fail::Refused(fault)) => limit_fault_reply(alloc, fault),
@@ -83,13 +84,13 @@ fn report_reply(alloc: Global, book: &Book, report: Report) -> Result<RunReply, 
     Ok(RunReply::new(text, status, notes))
 }
 
-fn verdict_status(verdict: Verdict) -> u8
+fn verdict_status(verdict: Verdict) -> RunStatus
     ensures { result ≡ verdict_status verdict }
 {
     match verdict {
-        Verdict::Releasable => 0,
-        Verdict::Blocked => 1,
-        Verdict::Undecided => 7,
+        Verdict::Releasable => RunStatus::Done,
+        Verdict::Blocked => RunStatus::Refused,
+        Verdict::Undecided => RunStatus::Undecided,
     }
 }
 
@@ -98,5 +99,5 @@ fn limit_fault_reply(alloc: Global, fault: LimitFault) -> Result<RunReply, Memor
     ensures { IfOk result (λ reply. reply ≡ limit_fault_reply fault) }
 {
     let text = limit_fault_text(alloc, &fault)?;
-    RunReply::noted(alloc, text, 3, Note::Limit(fault))
+    RunReply::noted(alloc, text, RunStatus::Faulty, Note::Limit(fault))
 }

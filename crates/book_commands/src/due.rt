@@ -10,6 +10,7 @@ use crate::certify::verify_reply;
 use crate::check::{check_reply, proof_reply};
 use crate::command::BookCommand;
 use crate::judge::order_reply;
+use crate::object::Object;
 use crate::run_reply::RunReply;
 use pb_base::Memory;
 use pb_base::limits::MOST_TEXT_BYTES;
@@ -18,11 +19,6 @@ use std::alloc::Global;
 
 // One byte more than a book's text may have shows that it is too large.
 const INPUT_LIMIT: usize = MOST_TEXT_BYTES + 1;
-
-// The numbers of the source and the files in the log.
-const SOURCE: u8 = 1;
-
-const FILES: u8 = 2;
 
 /// Reads the input, and what else the command reads, and gives the reply.
 pub fn due_reply<S: Source, F: Files>(
@@ -42,13 +38,18 @@ pub fn due_reply<S: Source, F: Files>(
     let input = match read_up_to(alloc, source, INPUT_LIMIT) {
         Ok(input) => input,
         Err(OutError::Failed) => {
-            return RunReply::read_fault(alloc, SOURCE, source_before, source.read_faults());
+            return RunReply::read_fault(alloc, Object::Source, source_before, source.read_faults());
         }
         Err(OutError::Memory) => return Err(Memory),
     };
     match command_reply(alloc, command, &input, files) {
         Ok(reply) => Ok(reply),
-        Err(OutError::Failed) => RunReply::read_fault(alloc, FILES, files_before, files.faults()),
+        Err(OutError::Failed) => RunReply::read_fault(
+            alloc,
+            Object::Files,
+            files_before,
+            files.faults(),
+        ),
         Err(OutError::Memory) => Err(Memory),
     }
 }

@@ -9,6 +9,7 @@ ghost use Rattle.book_commands.specs.RunReply.{outcome_reply, judged_reply, orde
 use crate::fault_text::{book_fault_text, order_fault_text};
 use crate::log::Note;
 use crate::run_reply::RunReply;
+use crate::run_status::RunStatus;
 use book_model::Book;
 use book_text::{BookFault, read_book};
 use order_text::outcome_text;
@@ -58,13 +59,13 @@ fn outcome_reply(alloc: Global, book: &Book, outcome: &Outcome) -> Result<RunRep
     }
 }
 
-fn outcome_status(outcome: &Outcome) -> u8
+fn outcome_status(outcome: &Outcome) -> RunStatus
     ensures { result ≡ outcome_status outcome.now }
 {
     match outcome {
-        Outcome::Accepted { .. } => 0,
-        Outcome::Refused(_) => 1,
-        Outcome::Unfit { .. } => 1,
+        Outcome::Accepted { .. } => RunStatus::Done,
+        Outcome::Refused(_) => RunStatus::Refused,
+        Outcome::Unfit { .. } => RunStatus::Refused,
     }
 }
 
@@ -86,12 +87,12 @@ pub fn book_fault_reply(alloc: Global, fault: BookFault) -> Result<RunReply, Mem
     ensures { IfOk result (λ reply. reply ≡ book_fault_reply fault) }
 {
     let text = book_fault_text(alloc, &fault)?;
-    RunReply::noted(alloc, text, 3, Note::Text(fault))
+    RunReply::noted(alloc, text, RunStatus::Faulty, Note::Text(fault))
 }
 
 fn order_fault_reply(alloc: Global, fault: OrderFault) -> Result<RunReply, Memory>
     ensures { IfOk result (λ reply. reply ≡ order_fault_reply fault) }
 {
     let text = order_fault_text(alloc, &fault)?;
-    RunReply::noted(alloc, text, 3, Note::Order(fault))
+    RunReply::noted(alloc, text, RunStatus::Faulty, Note::Order(fault))
 }

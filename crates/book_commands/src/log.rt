@@ -1,6 +1,7 @@
 //! What a run's status rests on.
 ghost use Rattle.std.specs.Prelude.{◌≡◌, ◌++◌, [], ◌∷◌, OnOk, OnErr};
 
+use crate::object::Object;
 use book_model::LimitFault;
 use book_text::BookFault;
 use clause_pool::Pool;
@@ -48,10 +49,9 @@ pub enum Note {
         table: u32,
         place: u32,
     },
-    /// The count of faults of an object that was handed in rose: 1 for the source, 2 for the files, 3 for the sink, 4 for the
-    /// keeper.
+    /// The count of faults of an object that was handed in rose.
     Count {
-        which: u8,
+        which: Object,
         before: u64,
         after: u64,
     },

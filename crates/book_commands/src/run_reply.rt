@@ -3,23 +3,18 @@ ghost use Rattle.std.specs.Prelude.{◌≡◌, [], ◌∷◌, ◌++◌, IfOk, On
 ghost use Rattle.book_commands.specs.RunReply.{bad_row_reply, bad_row_text, read_fault_reply, store_fault_reply};
 
 use crate::log::Note;
+use crate::object::Object;
+use crate::run_status::RunStatus;
 use desk_words::put_number;
 use pb_base::{Body, Memory, Text};
 use std::alloc::Global;
 use std::marker::Model;
 
-const READ_FAULT: u8 = 4;
-
-const NOT_STARTED: u8 = 6;
-
-// The number of the keeper in the log.
-const KEEPER: u8 = 4;
-
 /// A text to write, the status that goes with it, and what the status rests on.
 #[derive(Drop)]
 pub struct RunReply {
     text: Body,
-    status: u8,
+    status: RunStatus,
     notes: Vec<Note>,
 }
 
@@ -33,7 +28,7 @@ impl Model for RunReply {
 
 impl RunReply {
     /// The status rests on these notes.
-    pub fn new(text: Body, status: u8, notes: Vec<Note>) -> RunReply
+    pub fn new(text: Body, status: RunStatus, notes: Vec<Note>) -> RunReply
         ensures { result ≡ record { text = text; status = status; notes = notes.items } }
     {
         RunReply {
@@ -44,14 +39,19 @@ impl RunReply {
     }
 
     /// The status rests on nothing but the answer itself.
-    pub fn plain(alloc: Global, text: Body, status: u8) -> RunReply
+    pub fn plain(alloc: Global, text: Body, status: RunStatus) -> RunReply
         ensures { result ≡ record { text = text; status = status; notes = [] } }
     {
         RunReply::new(text, status, Vec::new(alloc))
     }
 
     /// The status rests on one thing.
-    pub fn noted(alloc: Global, text: Body, status: u8, note: Note) -> Result<RunReply, Memory>
+    pub fn noted(
+        alloc: Global,
+        text: Body,
+        status: RunStatus,
+        note: Note,
+    ) -> Result<RunReply, Memory>
         ensures { IfOk result (λ r. r ≡ record { text = text; status = status; notes = note ∷ [] }) }
     {
         let mut notes = Vec::new(alloc);
@@ -59,8 +59,13 @@ impl RunReply {
         Ok(RunReply::new(text, status, notes))
     }
 
-    /// The object of this number failed: 1 is the source, and 2 the files; with its counts of faults.
-    pub fn read_fault(alloc: Global, which: u8, before: u64, after: u64) -> Result<RunReply, Memory>
+    /// The source or the files failed, with the counts of faults.
+    pub fn read_fault(
+        alloc: Global,
+        which: Object,
+        before: u64,
+        after: u64,
+    ) -> Result<RunReply, Memory>
         ensures { IfOk result (λ reply. reply ≡ read_fault_reply which before after) }
     {
         let mut text = Text::new(alloc);
@@ -70,7 +75,7 @@ impl RunReply {
             before,
             after,
         };
-        RunReply::noted(alloc, text.into_body(), READ_FAULT, note)
+        RunReply::noted(alloc, text.into_body(), RunStatus::ReadFault, note)
     }
 
     /// The keeper failed while the desk was started, with its counts of faults.
@@ -80,11 +85,11 @@ impl RunReply {
         let mut text = Text::new(alloc);
         text.put(b"store fault\n")?;
         let note = Note::Count {
-            which: KEEPER,
+            which: Object::Keeper,
             before,
             after,
         };
-        RunReply::noted(alloc, text.into_body(), NOT_STARTED, note)
+        RunReply::noted(alloc, text.into_body(), RunStatus::NotStarted, note)
     }
 
     /// `bad row TABLE PLACE`: a row that is kept is not right.
@@ -94,11 +99,11 @@ impl RunReply {
         let mut text = Text::new(alloc);
         put_bad_row(&mut text, table, place)?;
         let note = Note::BadRow { table, place };
-        RunReply::noted(alloc, text.into_body(), NOT_STARTED, note)
+        RunReply::noted(alloc, text.into_body(), RunStatus::NotStarted, note)
     }
 
     /// The text, the status and the notes.
-    pub fn into_parts(self) -> (Body, u8, Vec<Note>)
+    pub fn into_parts(self) -> (Body, RunStatus, Vec<Note>)
         ensures text { result.0 ≡ self.text }
         ensures status { result.1 ≡ self.status }
         ensures notes { result.2.items ≡ self.notes }

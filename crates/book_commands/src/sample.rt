@@ -14,6 +14,7 @@ ghost use Rattle.pb_base.specs.declared.limits.TheConstants.{DEFAULT_BUDGET};
 
 use crate::logged::logged;
 use crate::run_reply::RunReply;
+use crate::run_status::RunStatus;
 use crate::sample_size::SampleSize;
 use crate::tally::{Tally, put_tally};
 use book_model::Book;
@@ -46,7 +47,7 @@ fn released_reply(alloc: Global, size: &SampleSize, released: &Released) -> Resu
     let book = released.book();
     let tally = judge_orders(alloc, released, size)?;
     let text = released_text(alloc, size, book, tally)?;
-    Ok(RunReply::plain(alloc, text, 0))
+    Ok(RunReply::plain(alloc, text, RunStatus::Done))
 }
 
 fn released_text(
@@ -91,7 +92,7 @@ fn undecided_reply(
 {
     let text = undecided_text(alloc, size, book, &report)?;
     let notes = logged(alloc, report)?;
-    Ok(RunReply::new(text, 7, notes))
+    Ok(RunReply::new(text, RunStatus::Undecided, notes))
 }
 
 fn undecided_text(

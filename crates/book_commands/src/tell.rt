@@ -4,21 +4,14 @@ ghost use Rattle.book_commands.specs.RunReply.{RunReply, usage_reply, memory_rep
 ghost use Rattle.book_commands.specs.Tells.{outputs, NotesSink, IsWritten, Tells};
 
 use crate::log::{Note, RunLog};
+use crate::object::Object;
 use crate::run_reply::RunReply;
+use crate::run_status::RunStatus;
 use pb_base::Memory;
 use pb_outside::Sink;
 
-const USAGE: u8 = 2;
-
-const WRITE_FAULT: u8 = 5;
-
-const WANT_OF_MEMORY: u8 = 9;
-
-// The number of the sink in the log.
-const SINK: u8 = 3;
-
 // Notes what the reply rests on, writes its text, and gives its status.
-fn tell<K: Sink>(reply: RunReply, sink: &mut K, log: &mut RunLog) -> u8
+fn tell<K: Sink>(reply: RunReply, sink: &mut K, log: &mut RunLog) -> RunStatus
     ensures { let before = outputs (K.output sink.old) log.old in
         let after = outputs (K.output sink.new) log.new in
         Tells reply before after result }
@@ -31,7 +24,11 @@ fn tell<K: Sink>(reply: RunReply, sink: &mut K, log: &mut RunLog) -> u8
 }
 
 /// Tells a reply, or that memory is wanting where it could not be made.
-pub fn tell_made<K: Sink>(reply: Result<RunReply, Memory>, sink: &mut K, log: &mut RunLog) -> u8
+pub fn tell_made<K: Sink>(
+    reply: Result<RunReply, Memory>,
+    sink: &mut K,
+    log: &mut RunLog,
+) -> RunStatus
     ensures { let before = outputs (K.output sink.old) log.old in
         let after = outputs (K.output sink.new) log.new in
         Tells (due_of reply) before after result }
@@ -43,31 +40,31 @@ pub fn tell_made<K: Sink>(reply: Result<RunReply, Memory>, sink: &mut K, log: &m
 }
 
 /// Tells how the program is called. This takes no memory.
-pub fn tell_usage<K: Sink>(sink: &mut K, log: &mut RunLog) -> u8
+pub fn tell_usage<K: Sink>(sink: &mut K, log: &mut RunLog) -> RunStatus
     ensures { let before = outputs (K.output sink.old) log.old in
         let after = outputs (K.output sink.new) log.new in
         IsWritten usage_reply before after result }
 {
     write(
         b"usage: order DAY CODE.. | check [--budget N] | prove [--budget N] | verify CERTFILE | desk STORE | sample START CODES ORDERS\n",
-        USAGE,
+        RunStatus::Usage,
         sink,
         log,
     )
 }
 
 /// Tells that memory is wanting. This takes none.
-pub fn tell_want_of_memory<K: Sink>(sink: &mut K, log: &mut RunLog) -> u8
+pub fn tell_want_of_memory<K: Sink>(sink: &mut K, log: &mut RunLog) -> RunStatus
     ensures { let before = outputs (K.output sink.old) log.old in
         let after = outputs (K.output sink.new) log.new in
         IsWritten memory_reply before after result }
 {
-    write(b"want of memory\n", WANT_OF_MEMORY, sink, log)
+    write(b"want of memory\n", RunStatus::WantOfMemory, sink, log)
 }
 
 // Writes a text, and gives its status. Where the sink fails, its counts are noted, and the status is that of a write fault,
 // or of want of memory for the note.
-fn write<K: Sink>(text: &[u8], status: u8, sink: &mut K, log: &mut RunLog) -> u8
+fn write<K: Sink>(text: &[u8], status: RunStatus, sink: &mut K, log: &mut RunLog) -> RunStatus
     ensures { let before = outputs (K.output sink.old) log.old in
         let after = outputs (K.output sink.new) log.new in
         let reply : RunReply = record { text = text.now; status = status; notes = [] } in
@@ -82,16 +79,16 @@ fn write<K: Sink>(text: &[u8], status: u8, sink: &mut K, log: &mut RunLog) -> u8
 
 /// Notes that the sink failed, with its counts of faults, and gives the status of a write fault, or of want of memory for the
 /// note.
-pub fn note_write_fault(before: u64, after: u64, log: &mut RunLog) -> u8
+pub fn note_write_fault(before: u64, after: u64, log: &mut RunLog) -> RunStatus
     ensures { NotesSink before after log.old log.new result }
 {
     let note = Note::Count {
-        which: SINK,
+        which: Object::Sink,
         before,
         after,
     };
     match log.push(note) {
-        Ok(()) => WRITE_FAULT,
-        Err(Memory) => WANT_OF_MEMORY,
+        Ok(()) => RunStatus::WriteFault,
+        Err(Memory) => RunStatus::WantOfMemory,
     }
 }

@@ -1,5 +1,5 @@
 -- What was asked was done.
-use Rattle.std.proofs.Common.{◌≡◌, ℕ, refl, subst, inl, inr, arith}
+use Rattle.std.proofs.Common.{refl, subst, inl, inr, arith}
 use Rattle.command_words.specs.Parts.{Words}
 use Rattle.pb_base.specs.declared.answer.Fail.TheVariants as fails
 use Rattle.desk_run.specs.declared.end.DeskEnd.TheVariants.{NotStarted}
@@ -8,26 +8,27 @@ use Rattle.book_commands.specs.Inputs.{Inputs}
 use Rattle.book_commands.specs.RunReply.{memory_reply}
 use Rattle.book_commands.specs.Tells.{Outputs, IsWritten}
 use Rattle.book_commands.proofs.DueLaws.{KeepsFiles-same, LosesFront-none}
+use Rattle.book_commands.specs.declared.run_status.RunStatus.{RunStatus}
 use Rattle.commands.specs.Outside.{KeeperTold, Outside}
-use Rattle.commands.specs.Run.{AnswersUsage, DoesTask, Does}
+use Rattle.commands.specs.Does.{AnswersUsage, DoesTask, Does}
 use Rattle.commands.specs.Words.{Asks, AsksNothing}
 use Rattle.commands.specs.declared.task.Task.{Task}
 use Rattle.commands.specs.declared.task.Task.TheVariants.{Book, Desk, Sample}
 use Rattle.commands.proofs.Tasks.{one_task}
 
-pub Does-of_task : (words : Words) (task : Task) (before after : Outside) (status : ℕ) → Asks words task
+pub Does-of_task : (words : Words) (task : Task) (before after : Outside) (status : RunStatus) → Asks words task
     → DoesTask task before after status → Does words before after status
 Does-of_task words task before after status asks h = record {
   asked = λ other asked. subst (λ (t : Task). DoesTask t before after status) (one_task words task other asks asked) h;
   nothing = λ none. absurd (none task asks);
 }
 
-pub Does-of_usage : (words : Words) (before after : Outside) (status : ℕ) → AsksNothing words
+pub Does-of_usage : (words : Words) (before after : Outside) (status : RunStatus) → AsksNothing words
     → AnswersUsage before after status → Does words before after status
 Does-of_usage words before after status none h = record { asked = λ task asks. absurd (none task asks); nothing = λ _. h }
 
 -- memory was wanting before anything was read
-wanting : (task : Task) (reads : Inputs) (kept : KeeperTold) (writes writes' : Outputs) (status : ℕ) → IsWritten memory_reply writes writes' status
+wanting : (task : Task) (reads : Inputs) (kept : KeeperTold) (writes writes' : Outputs) (status : RunStatus) → IsWritten memory_reply writes writes' status
     → DoesTask task (record { reads = reads; writes = writes; keeper = kept }) (record { reads = reads; writes = writes'; keeper = kept }) status
 wanting (Book command) reads kept writes writes' status h = record {
   reply = memory_reply;
@@ -47,7 +48,7 @@ wanting (Desk store) reads kept writes writes' status h = record {
 wanting (Sample size) reads kept writes writes' status h =
     record { tells = record { reply = memory_reply; due = inr refl; told = inl h }; nothing = record { untouched = refl; kept = refl } }
 
-pub Does-of_memory : (words : Words) (reads : Inputs) (kept : KeeperTold) (writes writes' : Outputs) (status : ℕ) → IsWritten memory_reply writes writes' status
+pub Does-of_memory : (words : Words) (reads : Inputs) (kept : KeeperTold) (writes writes' : Outputs) (status : RunStatus) → IsWritten memory_reply writes writes' status
     → Does words (record { reads = reads; writes = writes; keeper = kept }) (record { reads = reads; writes = writes'; keeper = kept }) status
 Does-of_memory words reads kept writes writes' status h = record {
   asked = λ task _. wanting task reads kept writes writes' status h;

@@ -9,16 +9,21 @@ use Rattle.session.specs.declared.end.SessionEnd.TheVariants.{Done, Broken, Read
 use Rattle.desk_run.specs.declared.end.DeskEnd.{DeskEnd}
 use Rattle.desk_run.specs.declared.end.DeskEnd.TheVariants.{NotStarted, Served}
 use Rattle.book_commands.specs.Due.{Due, answer, source_fault, file_fault, no_memory}
+use Rattle.book_commands.specs.Ends.{IsReplyStatus, IsSampleStatus}
 use Rattle.book_commands.specs.RunReply.{RunReply, usage_reply, memory_reply, read_fault_reply}
 use Rattle.book_commands.specs.Size.{Size}
 use Rattle.book_commands.specs.Tells.{IsTold, outputs}
 use Rattle.book_commands.specs.declared.command.BookCommand.{BookCommand}
+use Rattle.book_commands.specs.declared.object.Object.TheVariants.{Source}
+use Rattle.book_commands.specs.declared.run_status.RunStatus.{RunStatus}
+use Rattle.book_commands.specs.declared.run_status.RunStatus.TheVariants as statuses
 use Rattle.book_commands.proofs.DueLaws.{file_rose}
-use Rattle.book_commands.proofs.Statuses.{IsReplyStatus, IsSampleStatus, replies-kind, sample-kind}
-use Rattle.book_commands.proofs.Told.{Ends, IsFailed, Ends-of_tells}
+use Rattle.book_commands.proofs.Statuses.{replies-kind, sample-kind}
+use Rattle.book_commands.proofs.Told.{IsFailed, Ends-of_tells}
 use Rattle.commands.specs.DeskEnds.{RunsDesk, start_reply}
 use Rattle.commands.specs.Outside.{Outside}
-use Rattle.commands.specs.Run.{AnswersBook, AnswersSample, AnswersUsage, DoesTask, Does, IsDeskStatus, IsCaused, by_words, by_inputs, by_sink, by_memory, by_reply, by_sample, by_desk}
+use Rattle.commands.specs.Causes.{IsDeskStatus, IsUsageStatus, IsCaused, by_words, by_inputs, by_sink, by_memory, by_reply, by_sample, by_desk}
+use Rattle.commands.specs.Does.{AnswersBook, AnswersSample, AnswersUsage, DoesTask, Does}
 use Rattle.commands.specs.Words.{Asks, AsksNothing}
 use Rattle.commands.specs.declared.task.Task.{Task}
 use Rattle.commands.specs.declared.task.Task.TheVariants.{Book, Desk, Sample}
@@ -26,7 +31,7 @@ use Rattle.commands.proofs.DeskTold.{Ran, ToldFrom, same_count, start_status}
 use Rattle.commands.proofs.Tasks.{asked_or_nothing}
 
 -- a command that was answered
-by_told : (words : Words) (command : BookCommand) (before after : Outside) (status : ℕ) (reply : RunReply) → Asks words (Book command)
+by_told : (words : Words) (command : BookCommand) (before after : Outside) (status : RunStatus) (reply : RunReply) → Asks words (Book command)
     → Due command before.reads after.reads reply → IsTold reply before.writes after.writes status → IsCaused words before after status
 by_told words command before after status reply asked (answer input read replies) told = by_reply (record {
   command = command;
@@ -36,20 +41,20 @@ by_told words command before after status reply asked (answer input read replies
   read = read;
   replies = replies;
   told = told;
-  statuses = subst IsReplyStatus (sym told.ends) (replies-kind command input before.reads.files after.reads.files reply replies);
+  statuses = subst (IsReplyStatus command) (sym told.ends) (replies-kind command input before.reads.files after.reads.files reply replies);
 })
 by_told words command before after status reply asked (source_fault fails same is) told = by_inputs (told.ends ∙ ap (λ (r : RunReply). r.status) is) (inl fails.fault)
 by_told words command before after status reply asked (file_fault input read fails is) told = by_inputs (told.ends ∙ ap (λ (r : RunReply). r.status) is) (inr (file_rose command input before.reads.files after.reads.files fails))
 by_told words command before after status reply asked (no_memory front is) told = by_memory (told.ends ∙ ap (λ (r : RunReply). r.status) is)
 
-of_book : (words : Words) (command : BookCommand) (before after : Outside) (status : ℕ) → Asks words (Book command)
+of_book : (words : Words) (command : BookCommand) (before after : Outside) (status : RunStatus) → Asks words (Book command)
     → AnswersBook command before after status → IsCaused words before after status
 of_book words command before after status asked h = elim (Ends-of_tells h.reply before.writes after.writes status h.told) [
   | inl told ↦ by_told words command before after status h.reply asked h.due told
   | inr failed ↦ elim failed [ inl sink ↦ by_sink sink.ends sink.rose | inr nine ↦ by_memory nine ]
 ]
 
-of_sample : (words : Words) (size : Size) (before after : Outside) (status : ℕ) → Asks words (Sample size)
+of_sample : (words : Words) (size : Size) (before after : Outside) (status : RunStatus) → Asks words (Sample size)
     → AnswersSample size before after status → IsCaused words before after status
 of_sample words size before after status asked h = elim (Ends-of_tells h.tells.reply before.writes after.writes status h.tells.told) [
   | inl told ↦ elim h.tells.due [
@@ -67,15 +72,15 @@ of_sample words size before after status asked h = elim (Ends-of_tells h.tells.r
 ]
 
 -- the sink failed, or memory was wanting, when a desk's end was told
-desk_failed : (words : Words) (before after : Outside) (middle : SinkTold) (status : ℕ) → middle.faults ≡ before.writes.sink.faults
-    → IsFailed (outputs middle before.writes.log) after.writes status ⊎ (status ≡ 9) → IsCaused words before after status
+desk_failed : (words : Words) (before after : Outside) (middle : SinkTold) (status : RunStatus) → middle.faults ≡ before.writes.sink.faults
+    → IsFailed (outputs middle before.writes.log) after.writes status ⊎ (status ≡ statuses.WantOfMemory) → IsCaused words before after status
 desk_failed words before after middle status same failed = elim failed [
   | inl sink ↦ by_sink sink.ends (subst (λ (n : ℕ). Rose n after.writes.sink.faults) same sink.rose)
   | inr nine ↦ by_memory nine
 ]
 
 -- a desk's run, by how it ended
-by_end : (how : DeskEnd) (words : Words) (store : List ℕ) (before after : Outside) (status : ℕ) → Asks words (Desk store)
+by_end : (how : DeskEnd) (words : Words) (store : List ℕ) (before after : Outside) (status : RunStatus) → Asks words (Desk store)
     → (h : RunsDesk before after status) → h.how ≡ how → Ran how before after h.middle → ToldFrom how before after h.middle status
     → IsCaused words before after status
 by_end (Served Done) words store before after status asked h e run told =
@@ -83,7 +88,7 @@ by_end (Served Done) words store before after status asked h e run told =
 by_end (Served Broken) words store before after status asked h e run told =
     by_desk (record { store = store; asked = asked; runs = h; statuses = subst (λ (k : DeskEnd). IsDeskStatus k status) (sym e) told.ends })
 by_end (Served (ReadFault fault)) words store before after status asked h e run told =
-    elim (Ends-of_tells (read_fault_reply 1 fault.before fault.after) (outputs h.middle before.writes.log) after.writes status told) [
+    elim (Ends-of_tells (read_fault_reply Source fault.before fault.after) (outputs h.middle before.writes.log) after.writes status told) [
       | inl whole ↦ by_inputs whole.ends (inl run.served.session.counted.fails)
       | inr failed ↦ desk_failed words before after h.middle status run.served.session.written.count failed
     ]
@@ -108,35 +113,35 @@ by_end (NotStarted NoMemory) words store before after status asked h e run told 
       | inr failed ↦ desk_failed words before after h.middle status (same_count _ before after h.middle run) failed
     ]
 
-of_desk : (words : Words) (store : List ℕ) (before after : Outside) (status : ℕ) → Asks words (Desk store)
+of_desk : (words : Words) (store : List ℕ) (before after : Outside) (status : RunStatus) → Asks words (Desk store)
     → RunsDesk before after status → IsCaused words before after status
 of_desk words store before after status asked h = by_end h.how words store before after status asked h refl h.run h.told
 
-of_usage : (words : Words) (before after : Outside) (status : ℕ) → AsksNothing words
+of_usage : (words : Words) (before after : Outside) (status : RunStatus) → AsksNothing words
     → AnswersUsage before after status → IsCaused words before after status
 of_usage words before after status none h = elim (Ends-of_tells usage_reply before.writes after.writes status h.told) [
   | inl told ↦ by_words told.ends none
   | inr failed ↦ elim failed [ inl sink ↦ by_sink sink.ends sink.rose | inr nine ↦ by_memory nine ]
 ]
 
-of_task : (words : Words) (task : Task) (before after : Outside) (status : ℕ) → Asks words task
+of_task : (words : Words) (task : Task) (before after : Outside) (status : RunStatus) → Asks words task
     → DoesTask task before after status → IsCaused words before after status
 of_task words (Book command) before after status asked h = of_book words command before after status asked h
 of_task words (Desk store) before after status asked h = of_desk words store before after status asked h
 of_task words (Sample size) before after status asked h = of_sample words size before after status asked h
 
-pub Does-caused : (words : Words) (before after : Outside) (status : ℕ) → Does words before after status → IsCaused words before after status
+pub Does-caused : (words : Words) (before after : Outside) (status : RunStatus) → Does words before after status → IsCaused words before after status
 Does-caused words before after status h = elim (asked_or_nothing words) [
   | inl a ↦ of_task words a.task before after status a.asks (h.asked a.task a.asks)
   | inr none ↦ of_usage words before after status none (h.nothing none)
 ]
 
-usage_status : (before after : Outside) (status : ℕ) → AnswersUsage before after status → (status ≡ 2) ⊎ (status ≡ 5) ⊎ (status ≡ 9)
+usage_status : (before after : Outside) (status : RunStatus) → AnswersUsage before after status → IsUsageStatus status
 usage_status before after status h = elim (Ends-of_tells usage_reply before.writes after.writes status h.told) [
   | inl told ↦ inl told.ends
   | inr failed ↦ elim failed [ inl sink ↦ inr (inl sink.ends) | inr nine ↦ inr (inr nine) ]
 ]
 
-pub Does-usage : (words : Words) (before after : Outside) (status : ℕ) → Does words before after status → AsksNothing words
-    → (status ≡ 2) ⊎ (status ≡ 5) ⊎ (status ≡ 9)
+pub Does-usage : (words : Words) (before after : Outside) (status : RunStatus) → Does words before after status → AsksNothing words
+    → IsUsageStatus status
 Does-usage words before after status h none = usage_status before after status (h.nothing none)

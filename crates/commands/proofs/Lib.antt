@@ -4,4 +4,6 @@ pub mod DeskTold
 pub mod Asked
 pub mod Caused
 pub mod Releasable
+pub mod DeskSure
 pub mod Sure
+pub mod Runs

@@ -1,6 +1,7 @@
--- A run that says that a book can be released, or keeps a released one, is right.
-use Rattle.std.proofs.Common.{◌≡◌, ℕ, List, Option, None, Some, sym, subst, inl, inr, arith}
-use Rattle.std.specs.Prelude.{IsOkAnd, IfSome, IsTrue, take}
+-- A run that says that a book can be released, or that it can't, or keeps a released one, is right.
+use Rattle.std.proofs.Common.{◌≡◌, ◌∙◌, ℕ, List, Option, None, Some, sym, subst, inl, inr}
+use Rattle.std.specs.Prelude.{◌⊎◌, IsOkAnd, IfSome, IsTrue, take}
+use Rattle.book_model.specs.Contents.{Contents}
 use Rattle.book_model.specs.Sound.{IsReleasable}
 use Rattle.book_text.specs.BookText.{book_of}
 use Rattle.pb_outside.specs.Source.{ReadsUpTo}
@@ -9,63 +10,100 @@ use Rattle.pb_outside.specs.Sink.{SinkTold}
 use Rattle.desk_run.specs.declared.end.DeskEnd.{DeskEnd}
 use Rattle.desk_run.specs.declared.end.DeskEnd.TheVariants.{NotStarted, Served}
 use Rattle.desk_run.proofs.Released.{run_released}
+use Rattle.book_commands.specs.Checks.{IsUnreleasable}
 use Rattle.book_commands.specs.Inputs.{input_limit}
-use Rattle.book_commands.specs.Replies.{asks_release}
+use Rattle.book_commands.specs.Replies.{asks_check, asks_release}
 use Rattle.book_commands.specs.declared.command.BookCommand.{BookCommand}
+use Rattle.book_commands.specs.declared.run_status.RunStatus.{RunStatus}
+use Rattle.book_commands.specs.declared.run_status.RunStatus.TheVariants as statuses
+use Rattle.book_commands.proofs.Blocked.{command-blocked}
 use Rattle.book_commands.proofs.Releasable.{command-releasable}
 use Rattle.commands.specs.DeskEnds.{desk_outside, RunsDesk}
 use Rattle.commands.specs.Outside.{Outside}
-use Rattle.commands.specs.Run.{GivesReply, IsCaused, by_words, by_inputs, by_sink, by_memory, by_reply, by_sample, by_desk, Does, AskRelease, IsReleasableInput, AskDesk, KeepsReleased}
+use Rattle.commands.specs.Causes.{GivesReply, IsCaused, by_words, by_inputs, by_sink, by_memory, by_reply, by_sample, by_desk}
+use Rattle.commands.specs.Does.{Does}
+use Rattle.commands.specs.Released.{AskRelease, AskCheck, AskDesk, IsReleasableInput, IsBlockedInput, KeepsBooks, KeepsReleased}
+use Rattle.commands.specs.Words.{Asks}
 use Rattle.commands.specs.declared.task.Task.TheVariants.{Book, Desk, Sample}
 use Rattle.commands.proofs.DeskTold.{Ran, ToldFrom, same_reads, unstarted_status}
 use Rattle.commands.proofs.Tasks.{one_task}
 
-of_input : (left left' : Option (List ℕ)) (input : List ℕ) → ReadsUpTo input_limit left left' input → IsOkAnd (book_of input) IsReleasable
-    → IfSome left (λ all. IsOkAnd (book_of (take input_limit all)) IsReleasable)
-of_input None left' input read h = tt
-of_input (Some all) left' input read h = subst (λ (i : List ℕ). IsOkAnd (book_of i) IsReleasable) read.0 h
+of_input : (IsRight : Contents → Type 0) (left left' : Option (List ℕ)) (input : List ℕ) → ReadsUpTo input_limit left left' input
+    → IsOkAnd (book_of input) IsRight → IfSome left (λ all. IsOkAnd (book_of (take input_limit all)) IsRight)
+of_input IsRight None left' input read h = tt
+of_input IsRight (Some all) left' input read h = subst (λ (i : List ℕ). IsOkAnd (book_of i) IsRight) read.0 h
 
 same_command : (c c' : BookCommand) → Book c ≡ Book c' → c ≡ c'
 same_command c c' e = cc
 
-of_reply : (words : Words) (before after : Outside) → AskRelease words → GivesReply words before after 0
-    → IsReleasableInput before.reads.source.left
-of_reply words before after asks h =
+-- a reply that says done, or refused
+done_reply : (words : Words) (before after : Outside) (status : RunStatus) → status ≡ statuses.Done → AskRelease words
+    → GivesReply words before after status → IsReleasableInput before.reads.source.left
+done_reply words before after status done asks h =
     let same : asks.command ≡ h.command = same_command asks.command h.command (one_task words (Book asks.command) (Book h.command) asks.asked h.asked) in
-    of_input before.reads.source.left after.reads.source.left h.input h.read.text
+    of_input IsReleasable before.reads.source.left after.reads.source.left h.input h.read.text
     (command-releasable h.command h.input before.reads.files after.reads.files h.reply
-    (subst (λ (c : BookCommand). IsTrue (asks_release c)) same asks.whether) h.replies h.told.ends)
+    (subst (λ (c : BookCommand). IsTrue (asks_release c)) same asks.whether) h.replies (sym done ∙ h.told.ends))
 
-done_released : (words : Words) (before after : Outside) (status : ℕ) → 0 ≡ status → AskRelease words → IsCaused words before after status
-    → IsReleasableInput before.reads.source.left
-done_released words before after status done asks (by_words two none) = absurd (omega (arith, done, two))
-done_released words before after status done asks (by_inputs four fails) = absurd (omega (arith, done, four))
-done_released words before after status done asks (by_sink five rose) = absurd (omega (arith, done, five))
-done_released words before after status done asks (by_memory nine) = absurd (omega (arith, done, nine))
-done_released words before after status done asks (by_reply h) = of_reply words before after asks (subst (λ (s : ℕ). GivesReply words before after s) (sym done) h)
-done_released words before after status done asks (by_sample h) =
-    let clash : Book asks.command ≡ Sample h.size = one_task words (Book asks.command) (Sample h.size) asks.asked h.asked in cc
-done_released words before after status done asks (by_desk h) =
-    let clash : Book asks.command ≡ Desk h.store = one_task words (Book asks.command) (Desk h.store) asks.asked h.asked in cc
+refused_reply : (words : Words) (before after : Outside) (status : RunStatus) → status ≡ statuses.Refused → AskCheck words
+    → GivesReply words before after status → IsBlockedInput before.reads.source.left
+refused_reply words before after status refused asks h =
+    let same : asks.command ≡ h.command = same_command asks.command h.command (one_task words (Book asks.command) (Book h.command) asks.asked h.asked) in
+    of_input IsUnreleasable before.reads.source.left after.reads.source.left h.input h.read.text
+    (command-blocked h.command h.input before.reads.files after.reads.files h.reply
+    (subst (λ (c : BookCommand). IsTrue (asks_check c)) same asks.what) h.replies (sym refused ∙ h.told.ends))
 
-pub IsCaused-released : (words : Words) (before after : Outside) (status : ℕ) → IsCaused words before after status → status ≡ 0
-    → AskRelease words → IsReleasableInput before.reads.source.left
-IsCaused-released words before after status h done asks = done_released words before after status (sym done) asks h
+-- words that ask of a book have no other cause of such a status than the reply
+by_reply_alone : (words : Words) (command : BookCommand) (before after : Outside) (status : RunStatus) (P : Type 0) → Asks words (Book command)
+    → (status ≡ statuses.Done) ⊎ (status ≡ statuses.Refused) → (GivesReply words before after status → P) → IsCaused words before after status → P
+by_reply_alone words command before after status P asked decided shown (by_words two none) = absurd (none (Book command) asked)
+by_reply_alone words command before after status P asked decided shown (by_inputs four fails) =
+    elim decided [
+      | inl done ↦ let clash : statuses.Done ≡ statuses.ReadFault = sym done ∙ four in cc
+      | inr refused ↦ let clash : statuses.Refused ≡ statuses.ReadFault = sym refused ∙ four in cc
+    ]
+by_reply_alone words command before after status P asked decided shown (by_sink five rose) =
+    elim decided [
+      | inl done ↦ let clash : statuses.Done ≡ statuses.WriteFault = sym done ∙ five in cc
+      | inr refused ↦ let clash : statuses.Refused ≡ statuses.WriteFault = sym refused ∙ five in cc
+    ]
+by_reply_alone words command before after status P asked decided shown (by_memory nine) =
+    elim decided [
+      | inl done ↦ let clash : statuses.Done ≡ statuses.WantOfMemory = sym done ∙ nine in cc
+      | inr refused ↦ let clash : statuses.Refused ≡ statuses.WantOfMemory = sym refused ∙ nine in cc
+    ]
+by_reply_alone words command before after status P asked decided shown (by_reply h) = shown h
+by_reply_alone words command before after status P asked decided shown (by_sample h) =
+    let clash : Book command ≡ Sample h.size = one_task words (Book command) (Sample h.size) asked h.asked in cc
+by_reply_alone words command before after status P asked decided shown (by_desk h) =
+    let clash : Book command ≡ Desk h.store = one_task words (Book command) (Desk h.store) asked h.asked in cc
+
+pub IsCaused-released : (words : Words) (before after : Outside) (status : RunStatus) → IsCaused words before after status
+    → status ≡ statuses.Done → AskRelease words → IsReleasableInput before.reads.source.left
+IsCaused-released words before after status h done asks =
+    by_reply_alone words asks.command before after status (IsReleasableInput before.reads.source.left) asks.asked (inl done)
+    (done_reply words before after status done asks) h
+
+pub IsCaused-blocked : (words : Words) (before after : Outside) (status : RunStatus) → IsCaused words before after status
+    → status ≡ statuses.Refused → AskCheck words → IsBlockedInput before.reads.source.left
+IsCaused-blocked words before after status h refused asks =
+    by_reply_alone words asks.command before after status (IsBlockedInput before.reads.source.left) asks.asked (inr refused)
+    (refused_reply words before after status refused asks) h
 
 -- what a desk keeps that was started
-by_end : (how : DeskEnd) (before after : Outside) (middle : SinkTold) (status : ℕ) → Ran how before after middle
+by_end : (how : DeskEnd) (before after : Outside) (middle : SinkTold) (status : RunStatus) → Ran how before after middle
     → ToldFrom how before after middle status → after.reads.files ≡ before.reads.files
-    → KeepsReleased before after status
+    → KeepsBooks how before after status
 by_end (Served end) before after middle status run told files =
-    inl (run_released (Served end) (desk_outside before before.writes.sink) (desk_outside after middle) run)
-by_end (NotStarted why) before after middle status run told files = inr (record {
+    run_released (Served end) (desk_outside before before.writes.sink) (desk_outside after middle) run
+by_end (NotStarted why) before after middle status run told files = record {
   untouched = same_reads why before after middle run files;
   statuses = unstarted_status why before after middle status told;
-})
+}
 
-desk_released : (before after : Outside) (status : ℕ) → RunsDesk before after status → KeepsReleased before after status
-desk_released before after status h = by_end h.how before after h.middle status h.run h.told h.files
+desk_released : (before after : Outside) (status : RunStatus) → RunsDesk before after status → KeepsReleased before after status
+desk_released before after status h = record { runs = h; books = by_end h.how before after h.middle status h.run h.told h.files }
 
-pub Does-released : (words : Words) (before after : Outside) (status : ℕ) → Does words before after status → AskDesk words
+pub Does-released : (words : Words) (before after : Outside) (status : RunStatus) → Does words before after status → AskDesk words
     → KeepsReleased before after status
 Does-released words before after status does asks = desk_released before after status (does.asked (Desk asks.store) asks.asked)

@@ -1,126 +1,135 @@
--- Valid words and inputs have their answer where nothing fails, memory allowing.
-use Rattle.std.proofs.Common.{◌≡◌, ◌≤◌, ◌∙◌, ℕ, List, true, false, length, sym, subst, ap, inl, inr, take, arith}
-use Rattle.std.specs.Prelude.{◌⊎◌, Option, None, Some, IsSomeAnd}
+-- Valid words and inputs have their answer where nothing fails, memory and the sink's room allowing.
+use Rattle.std.proofs.Common.{◌≡◌, ◌∙◌, ℕ, List, true, false, refl, sym, subst, ap, inl, inr}
+use Rattle.std.specs.Prelude.{◌⊎◌, IsSome}
 use Rattle.command_words.specs.Parts.{Words}
 use Rattle.pb_base.specs.declared.answer.Fail.TheVariants.{Memory as NoMemory}
 use Rattle.pb_outside.specs.Faults.{Rose}
-use Rattle.pb_outside.specs.Files.{FilesTold}
 use Rattle.pb_outside.specs.Sink.{SinkTold}
-use Rattle.session.specs.declared.end.SessionEnd.TheVariants.{Done, Memory}
+use Rattle.session.specs.declared.end.SessionEnd.TheVariants.{Done, WriteFault, Memory}
 use Rattle.desk_run.specs.Sure.{IsDoneOrMemory}
-use Rattle.desk_run.proofs.Sure.{run_sure, run_unfailing}
+use Rattle.desk_run.proofs.Sure.{run_unfailing}
 use Rattle.desk_run.specs.declared.end.DeskEnd.{DeskEnd}
 use Rattle.desk_run.specs.declared.end.DeskEnd.TheVariants.{NotStarted, Served}
 use Rattle.book_commands.specs.Due.{Due, answer, source_fault, file_fault, no_memory}
-use Rattle.book_commands.specs.Inputs.{input_limit}
-use Rattle.book_commands.specs.Replies.{IsValidCommand, RepliesTo}
+use Rattle.book_commands.specs.Ends.{EndsCommand, EndsSample}
+use Rattle.book_commands.specs.Inputs.{Inputs, ReadsInput, FailsAtInput}
+use Rattle.book_commands.specs.Replies.{FailsAtFile}
 use Rattle.book_commands.specs.RunReply.{RunReply, memory_reply, memory_text}
 use Rattle.book_commands.specs.Sample.{RepliesToSample}
 use Rattle.book_commands.specs.Size.{Size}
 use Rattle.book_commands.specs.Tells.{IsTold, IsWritten, outputs}
 use Rattle.book_commands.specs.declared.command.BookCommand.{BookCommand}
+use Rattle.book_commands.specs.declared.log.Note.{Note}
+use Rattle.book_commands.specs.declared.run_status.RunStatus.{RunStatus}
+use Rattle.book_commands.specs.declared.run_status.RunStatus.TheVariants as statuses
 use Rattle.book_commands.proofs.DueLaws.{file_rose}
-use Rattle.book_commands.proofs.Statuses.{IsAnswered, sample-answered}
-use Rattle.book_commands.proofs.Told.{Ends-of_tells, written_whole, told_whole}
+use Rattle.book_commands.proofs.Statuses.{sample-answered}
+use Rattle.book_commands.proofs.Told.{LacksRoomFor, Ends-of_tells, told_room, told_or_lacks, written_or_lacks}
 use Rattle.book_commands.proofs.Valid.{same_input, valid_answer, no_file_fault}
+use Rattle.commands.specs.Complete.{IsValidRead, IsValidTask, IsValidInput, CannotFailToRead, CannotFailToServe, CannotFailAt, CannotFail, NoCountRose, EndsNoted, EndsTask, IsAnswered, IsDueText, of_reply, of_sample, of_link, of_memory, LacksRoom}
 use Rattle.commands.specs.DeskEnds.{RunsDesk, desk_outside}
+use Rattle.commands.specs.Does.{AnswersBook, AnswersSample, DoesTask, Does}
 use Rattle.commands.specs.Outside.{Outside}
-use Rattle.commands.specs.Run.{AnswersBook, AnswersSample, DoesTask, Does, FitsReplies, FitsSample, IsValidTask, IsValid, IsServed, IsUnfailing, IsSureRead, IsSureDesk, IsSureTask, IsSure, IsValidDesk}
+use Rattle.commands.specs.Words.{Asks}
 use Rattle.commands.specs.declared.task.Task.{Task}
 use Rattle.commands.specs.declared.task.Task.TheVariants.{Book, Desk, Sample}
+use Rattle.commands.proofs.DeskSure.{IsShort, sure_or_short}
 use Rattle.commands.proofs.DeskTold.{Ran, ToldFrom, same_sink, desk_rose}
 
--- a reply that was told to a valid command
-told_answer : (reply : RunReply) (before after : Outside) (status : ℕ) → IsAnswered reply
-    → IsTold reply before.writes after.writes status → IsServed before after status
-told_answer reply before after status h told = elim h [
-  | inl done ↦ inl (subst (λ (s : ℕ). s ≤ 1) (sym told.ends) done)
-  | inr left ↦ inr (inl (record { ends = told.ends ∙ left.ends; notes = reply.notes; noted = told.notes; spent = left.spent }))
-]
+-- the task was answered, or memory was wanting
+abbrev EndsAt : Task → Outside → Outside → RunStatus → Type 0
+EndsAt task before after status = EndsTask task before after status ⊎ (status ≡ statuses.WantOfMemory)
 
--- nothing fails from here on
-sure : (command : BookCommand) (input : List ℕ) (before after : Outside) (status : ℕ) (reply : RunReply)
-    → IsSomeAnd before.reads.source.left (λ all. input ≡ take input_limit all)
-    → IsValidCommand command input before.reads.files.files
-    → before.reads.source.faults.faultless ≡ true → before.reads.files.faults.faultless ≡ true
-    → (IsSomeAnd before.writes.sink.room (FitsReplies command input before.reads.files))
-    → Due command before.reads after.reads reply
-    → ((IsSomeAnd before.writes.sink.room (λ bytes. length reply.text ≤ bytes)) → IsTold reply before.writes after.writes status ⊎ (status ≡ 9))
-    → IsServed before after status
-sure command input before after status reply given valid source files room (answer read reads replies) tells =
-    let same : input ≡ read = same_input before.reads.source.left after.reads.source.left input read given reads.text in
-    elim (tells (fits before.writes.sink.room same room)) [
-      | inl told ↦ told_answer reply before after status (valid_answer command input read before.reads.files after.reads.files reply same valid replies) told
-      | inr nine ↦ inr (inr nine)
-    ]
-  where
-    fits : (room' : Option ℕ) → input ≡ read → IsSomeAnd room' (FitsReplies command input before.reads.files) → IsSomeAnd room' (λ bytes. length reply.text ≤ bytes)
-    fits None same fit = fit
-    fits (Some bytes) same fit = fit.replies after.reads.files reply (subst (λ (i : List ℕ). RepliesTo command i before.reads.files after.reads.files reply) (sym same) replies)
-sure command input before after status reply given valid source files room (source_fault fails same is) tells =
-    let clash : true ≡ false = sym source ∙ fails.fault.possible in cc
-sure command input before after status reply given valid source files room (file_fault read reads fails is) tells =
-    absurd (no_file_fault command input read before.reads.files after.reads.files (same_input before.reads.source.left after.reads.source.left input read given reads.text) valid files fails)
-sure command input before after status reply given valid source files room (no_memory front is) tells =
-    elim (tells (fits before.writes.sink.room room)) [
-      | inl told ↦ inr (inr (told.ends ∙ ap (λ (r : RunReply). r.status) is))
-      | inr nine ↦ inr (inr nine)
-    ]
-  where
-    fits : (room' : Option ℕ) → IsSomeAnd room' (FitsReplies command input before.reads.files) → IsSomeAnd room' (λ bytes. length reply.text ≤ bytes)
-    fits None fit = fit
-    fits (Some bytes) fit = subst (λ (r : RunReply). length r.text ≤ bytes) (sym is) fit.memory
+-- or the sink lacks room
+abbrev EndsOrLacks : Words → Task → Outside → Outside → RunStatus → Type 0
+EndsOrLacks words task before after status = EndsAt task before after status ⊎ LacksRoom words before after status
 
-memory_fits : (room : Option ℕ) (command : BookCommand) (input : List ℕ) (files : FilesTold) → IsSomeAnd room (FitsReplies command input files)
-    → IsSomeAnd room (λ bytes. length memory_text ≤ bytes)
-memory_fits None command input files fit = fit
-memory_fits (Some bytes) command input files fit = fit.memory
+-- a reply that was told, with its notes
+noted : (IsEnd : RunStatus → List Note → Type 0) (reply : RunReply) (before after : Outside) (status : RunStatus) → IsEnd reply.status reply.notes
+    → IsTold reply before.writes after.writes status → EndsNoted IsEnd before after status
+noted IsEnd reply before after status h told = record {
+  notes = reply.notes;
+  noted = told.notes;
+  is_end = subst (λ (s : RunStatus). IsEnd s reply.notes) (sym told.ends) h;
+}
+
+lacks : (words : Words) (before after : Outside) (status : RunStatus) (text : List ℕ) → IsDueText words before after text
+    → LacksRoomFor text before.writes status → LacksRoom words before after status
+lacks words before after status text due h = record { ends = h.ends; text = text; due = due; room = h.room }
+
+-- what a command reads from doesn't fail
+record FailsNowhere (command : BookCommand) (before after : Inputs) : Type 0 where
+  pub source : FailsAtInput before.source after.source → ⊥
+  pub files : (input : List ℕ) → ReadsInput before.source after.source input → FailsAtFile command input before.files after.files → ⊥
+
+-- a reply to a valid command was told
+told_answer : (command : BookCommand) (before after : Outside) (status : RunStatus) (reply : RunReply) → IsValidRead command before.reads
+    → FailsNowhere command before.reads after.reads → Due command before.reads after.reads reply
+    → IsTold reply before.writes after.writes status → EndsAt (Book command) before after status
+told_answer command before after status reply v nowhere (answer read reads replies) told =
+    let same = same_input before.reads.source.left after.reads.source.left v.input read v.given reads.text in
+    inl (noted (EndsCommand command) reply before after status
+    (valid_answer command v.input read before.reads.files after.reads.files reply same v.valid replies) told)
+told_answer command before after status reply v nowhere (source_fault fails same is) told = absurd (nowhere.source fails)
+told_answer command before after status reply v nowhere (file_fault read reads fails is) told = absurd (nowhere.files read reads fails)
+told_answer command before after status reply v nowhere (no_memory front is) told = inr (told.ends ∙ ap (λ (r : RunReply). r.status) is)
 
 -- a sample whose reply was told, or that found no memory
-sample_told : (size : Size) (reply : RunReply) (before after : Outside) (status : ℕ) → RepliesToSample size reply ⊎ (reply ≡ memory_reply)
-    → IsTold reply before.writes after.writes status → IsServed before after status
-sample_told size reply before after status due told = elim due [
-  | inl replies ↦ told_answer reply before after status (sample-answered size reply replies) told
-  | inr is ↦ inr (inr (told.ends ∙ ap (λ (r : RunReply). r.status) is))
+told_sample : (size : Size) (reply : RunReply) (before after : Outside) (status : RunStatus) → RepliesToSample size reply ⊎ (reply ≡ memory_reply)
+    → IsTold reply before.writes after.writes status → EndsAt (Sample size) before after status
+told_sample size reply before after status due told = elim due [
+  | inl replies ↦ inl (noted EndsSample reply before after status (sample-answered size reply replies) told)
+  | inr is ↦ inr (told.ends ∙ ap (λ (r : RunReply). r.status) is)
 ]
 
-sample_fits : (room : Option ℕ) (size : Size) (reply : RunReply) → RepliesToSample size reply ⊎ (reply ≡ memory_reply) → IsSomeAnd room (FitsSample size)
-    → IsSomeAnd room (λ bytes. length reply.text ≤ bytes)
-sample_fits None size reply due fit = fit
-sample_fits (Some bytes) size reply due fit = elim due [
-  | inl replies ↦ fit.replies reply replies
-  | inr is ↦ subst (λ (r : RunReply). length r.text ≤ bytes) (sym is) fit.memory
+sample_text_due : (words : Words) (size : Size) (reply : RunReply) (before after : Outside) → Asks words (Sample size)
+    → RepliesToSample size reply ⊎ (reply ≡ memory_reply) → IsDueText words before after reply.text
+sample_text_due words size reply before after asked due = elim due [
+  | inl replies ↦ of_sample size reply asked replies refl
+  | inr is ↦ of_memory (ap (λ (r : RunReply). r.text) is)
 ]
 
-sample_memory_fits : (room : Option ℕ) (size : Size) → IsSomeAnd room (FitsSample size) → IsSomeAnd room (λ bytes. length memory_text ≤ bytes)
-sample_memory_fits None size fit = fit
-sample_memory_fits (Some bytes) size fit = fit.memory
+-- ---- no call fails from here on
 
-sure_book : (command : BookCommand) (before after : Outside) (status : ℕ) → IsSureRead command before → AnswersBook command before after status
-    → IsServed before after status
-sure_book command before after status s h =
-    sure command s.valid.input before after status h.reply s.valid.given s.valid.valid s.source s.files s.room h.due
-    (λ fits. told_whole h.reply before.writes after.writes status fits (memory_fits before.writes.sink.room command s.valid.input before.reads.files s.room) h.told)
+sure_reads : (command : BookCommand) (before after : Inputs) → IsValidRead command before → CannotFailToRead before → FailsNowhere command before after
+sure_reads command before after v calls = record {
+  source = λ fails. let clash : true ≡ false = sym calls.source ∙ fails.fault.possible in cc;
+  files = λ read reads fails.
+      no_file_fault command v.input read before.files after.files (same_input before.source.left after.source.left v.input read v.given reads.text)
+      v.valid calls.files fails;
+}
 
-sure_sample : (size : Size) (before after : Outside) (status : ℕ) → IsSureTask (Sample size) before → AnswersSample size before after status
-    → IsServed before after status
-sure_sample size before after status room h =
-    elim (told_whole h.tells.reply before.writes after.writes status (sample_fits before.writes.sink.room size h.tells.reply h.tells.due room)
-    (sample_memory_fits before.writes.sink.room size room) h.tells.told) [
-      | inl told ↦ sample_told size h.tells.reply before after status h.tells.due told
-      | inr nine ↦ inr (inr nine)
-    ]
+sure_book : (words : Words) (command : BookCommand) (before after : Outside) (status : RunStatus) → Asks words (Book command)
+    → IsValidRead command before.reads → CannotFailToRead before.reads → IsSome before.writes.sink.room → AnswersBook command before after status
+    → EndsOrLacks words (Book command) before after status
+sure_book words command before after status asked v calls room h = elim (told_or_lacks h.reply before.writes after.writes status room h.told) [
+  | inl told ↦ inl (told_answer command before after status h.reply v (sure_reads command before.reads after.reads v calls) h.due told)
+  | inr other ↦ elim other [
+    | inl short ↦ inr (lacks words before after status h.reply.text (of_reply command h.reply asked h.due refl) short)
+    | inr rest ↦ elim rest [ inl short ↦ inr (lacks words before after status memory_text (of_memory refl) short) | inr nine ↦ inl (inr nine) ]
+  ]
+]
+
+sure_sample : (words : Words) (size : Size) (before after : Outside) (status : RunStatus) → Asks words (Sample size)
+    → IsSome before.writes.sink.room → AnswersSample size before after status → EndsOrLacks words (Sample size) before after status
+sure_sample words size before after status asked room h = elim (told_or_lacks h.tells.reply before.writes after.writes status room h.tells.told) [
+  | inl told ↦ inl (told_sample size h.tells.reply before after status h.tells.due told)
+  | inr other ↦ elim other [
+    | inl short ↦ inr (lacks words before after status h.tells.reply.text (sample_text_due words size h.tells.reply before after asked h.tells.due) short)
+    | inr rest ↦ elim rest [ inl short ↦ inr (lacks words before after status memory_text (of_memory refl) short) | inr nine ↦ inl (inr nine) ]
+  ]
+]
 
 -- a desk that served its link to the end, or had no memory
-desk_done : (how : DeskEnd) (before after : Outside) (middle : SinkTold) (status : ℕ) → IsDoneOrMemory how
+desk_done : (store : List ℕ) (how : DeskEnd) (before after : Outside) (middle : SinkTold) (status : RunStatus) (P : Type 0) → IsDoneOrMemory how
     → ToldFrom how before after middle status
-    → (how ≡ NotStarted NoMemory → IsWritten memory_reply (outputs middle before.writes.log) after.writes status → status ≡ 9)
-    → IsServed before after status
-desk_done how before after middle status done told memory = elim done [
-  | inl served ↦ let ends : ToldFrom (Served Done) before after middle status = told_as (Served Done) served in inl (subst (λ (s : ℕ). s ≤ 1) (sym ends.ends) (omega arith))
+    → (how ≡ NotStarted NoMemory → IsWritten memory_reply (outputs middle before.writes.log) after.writes status → (status ≡ statuses.WantOfMemory) ⊎ P)
+    → EndsAt (Desk store) before after status ⊎ P
+desk_done store how before after middle status P done told memory = elim done [
+  | inl served ↦ let ends : ToldFrom (Served Done) before after middle status = told_as (Served Done) served in inl (inl ends.ends)
   | inr wanting ↦ elim wanting [
-    | inl served ↦ let ends : ToldFrom (Served Memory) before after middle status = told_as (Served Memory) served in inr (inr ends.ends)
-    | inr unstarted ↦ inr (inr (memory unstarted (told_as (NotStarted NoMemory) unstarted)))
+    | inl served ↦ let ends : ToldFrom (Served Memory) before after middle status = told_as (Served Memory) served in inl (inr ends.ends)
+    | inr unstarted ↦ elim (memory unstarted (told_as (NotStarted NoMemory) unstarted)) [ inl nine ↦ inl (inr nine) | inr p ↦ inr p ]
   ]
 ]
   where
@@ -133,72 +142,115 @@ unstarted_sink : (how : DeskEnd) (before after : Outside) (middle : SinkTold) �
 unstarted_sink how before after middle run e =
     same_sink NoMemory before after middle (subst (λ (h : DeskEnd). Ran h before after middle) e run)
 
--- a sink that is as before and has room for the line takes it
-sure_memory : (before after : Outside) (middle : SinkTold) (status : ℕ) → middle ≡ before.writes.sink
-    → IsSomeAnd before.writes.sink.room (λ bytes. length memory_text ≤ bytes)
-    → IsWritten memory_reply (outputs middle before.writes.log) after.writes status → status ≡ 9
-sure_memory before after middle status same room written =
-    let fits : IsSomeAnd middle.room (λ bytes. length memory_text ≤ bytes) =
-    subst (λ (k : SinkTold). IsSomeAnd k.room (λ bytes. length memory_text ≤ bytes)) (sym same) room in
-    (written_whole memory_reply (outputs middle before.writes.log) after.writes status fits written).ends
+-- the line of want of memory was told, or there was no room for it
+memory_told : (words : Words) (before after : Outside) (middle : SinkTold) (status : RunStatus) → middle ≡ before.writes.sink
+    → IsSome before.writes.sink.room → IsWritten memory_reply (outputs middle before.writes.log) after.writes status
+    → (status ≡ statuses.WantOfMemory) ⊎ LacksRoom words before after status
+memory_told words before after middle status same room written =
+    let from : IsWritten memory_reply before.writes after.writes status =
+    subst (λ (k : SinkTold). IsWritten memory_reply (outputs k before.writes.log) after.writes status) same written in
+    elim (written_or_lacks memory_reply before.writes after.writes status room from) [
+      | inl told ↦ inl told.ends
+      | inr other ↦ elim other [ inl short ↦ inr (lacks words before after status memory_text (of_memory refl) short) | inr nine ↦ inl nine ]
+    ]
 
-sure_desk : (before after : Outside) (status : ℕ) → IsSureDesk before → RunsDesk before after status → IsServed before after status
-sure_desk before after status s h =
-    desk_done h.how before after h.middle status (run_sure h.how (desk_outside before before.writes.sink) (desk_outside after h.middle) h.run s.desk) h.told
-    (λ e. sure_memory before after h.middle status (unstarted_sink h.how before after h.middle h.run e) s.room)
+-- the link took less than all that is due
+short_link : (words : Words) (store : List ℕ) (how : DeskEnd) (before after : Outside) (middle : SinkTold) (status : RunStatus) → Asks words (Desk store)
+    → IsSome before.writes.sink.room → IsShort how (desk_outside before before.writes.sink) → ToldFrom how before after middle status
+    → EndsOrLacks words (Desk store) before after status
+short_link words store how before after middle status asked room short told =
+    let unwritten : ToldFrom (Served (WriteFault short.fault)) before after middle status =
+    subst (λ (h : DeskEnd). ToldFrom h before after middle status) short.ends told in
+    elim unwritten.notes [
+      | inl noted ↦ inr (record {
+        ends = noted.1;
+        text = short.out;
+        due = of_link store short.old short.stop short.new asked short.started short.due;
+        room = told_room before.writes.sink.room short.out room short.no_room;
+      })
+      | inr unnoted ↦ inl (inr unnoted.1)
+    ]
 
-sure_task : (task : Task) (before after : Outside) (status : ℕ) → IsSureTask task before → DoesTask task before after status → IsServed before after status
-sure_task (Book command) before after status s h = sure_book command before after status s h
-sure_task (Desk store) before after status s h = sure_desk before after status s h
-sure_task (Sample size) before after status s h = sure_sample size before after status s h
+sure_desk : (words : Words) (store : List ℕ) (before after : Outside) (status : RunStatus) → Asks words (Desk store) → IsValidTask (Desk store) before
+    → CannotFailToServe before → IsSome before.writes.sink.room → RunsDesk before after status → EndsOrLacks words (Desk store) before after status
+sure_desk words store before after status asked v calls room h =
+    elim (sure_or_short h.how (desk_outside before before.writes.sink) (desk_outside after h.middle) v calls.source calls.keeper h.run) [
+      | inl done ↦ desk_done store h.how before after h.middle status (LacksRoom words before after status) done h.told
+          (λ e. memory_told words before after h.middle status (unstarted_sink h.how before after h.middle h.run e) room)
+      | inr short ↦ short_link words store h.how before after h.middle status asked room short h.told
+    ]
 
-pub Does-sure : (words : Words) (before after : Outside) (status : ℕ) → Does words before after status → IsSure words before → IsServed before after status
-Does-sure words before after status does s = sure_task s.task before after status s.sure (does.asked s.task s.asked)
+sure_task : (words : Words) (task : Task) (before after : Outside) (status : RunStatus) → Asks words task → IsValidTask task before
+    → CannotFailAt task before → IsSome before.writes.sink.room → DoesTask task before after status → EndsOrLacks words task before after status
+sure_task words (Book command) before after status asked v calls room h = sure_book words command before after status asked v calls room h
+sure_task words (Desk store) before after status asked v calls room h = sure_desk words store before after status asked v calls room h
+sure_task words (Sample size) before after status asked v calls room h = sure_sample words size before after status asked room h
 
--- no count rose
-unfailing : (command : BookCommand) (input : List ℕ) (before after : Outside) (status : ℕ) (reply : RunReply)
-    → IsSomeAnd before.reads.source.left (λ all. input ≡ take input_limit all)
-    → IsValidCommand command input before.reads.files.files → IsUnfailing before after
-    → Due command before.reads after.reads reply → IsTold reply before.writes after.writes status → IsServed before after status
-unfailing command input before after status reply given valid none (answer read reads replies) told =
-    let same : input ≡ read = same_input before.reads.source.left after.reads.source.left input read given reads.text in
-    told_answer reply before after status (valid_answer command input read before.reads.files after.reads.files reply same valid replies) told
-unfailing command input before after status reply given valid none (source_fault fails same is) told = absurd (none.source fails.fault.rose)
-unfailing command input before after status reply given valid none (file_fault read reads fails is) told =
-    absurd (none.files (file_rose command read before.reads.files after.reads.files fails))
-unfailing command input before after status reply given valid none (no_memory front is) told = inr (inr (told.ends ∙ ap (λ (r : RunReply). r.status) is))
+pub Does-sure : (words : Words) (before after : Outside) (status : RunStatus) → Does words before after status → CannotFail words before
+    → IsAnswered words before after status ⊎ LacksRoom words before after status
+Does-sure words before after status does s =
+    let task = s.input.task in
+    let asked = s.input.asked in
+    elim (sure_task words task before after status asked s.input.valid s.calls s.room (does.asked task asked)) [
+      | inl ends ↦ inl (record { task = task; asked = asked; ends = ends })
+      | inr short ↦ inr short
+    ]
 
-unfailing_desk : (before after : Outside) (status : ℕ) → IsValidDesk before → IsUnfailing before after → RunsDesk before after status
-    → IsServed before after status
-unfailing_desk before after status v none h =
-    desk_done h.how before after h.middle status
-    (run_unfailing h.how (desk_outside before before.writes.sink) (desk_outside after h.middle) h.run v (record {
+-- ---- no count rose
+
+unrisen_reads : (command : BookCommand) (before after : Outside) → NoCountRose before after → FailsNowhere command before.reads after.reads
+unrisen_reads command before after none = record {
+  source = λ fails. none.source fails.fault.rose;
+  files = λ read reads fails. none.files (file_rose command read before.reads.files after.reads.files fails);
+}
+
+unfailing_book : (command : BookCommand) (before after : Outside) (status : RunStatus) → IsValidRead command before.reads → NoCountRose before after
+    → AnswersBook command before after status → EndsAt (Book command) before after status
+unfailing_book command before after status v none h = elim (Ends-of_tells h.reply before.writes after.writes status h.told) [
+  | inl told ↦ told_answer command before after status h.reply v (unrisen_reads command before after none) h.due told
+  | inr failed ↦ elim failed [ inl sink ↦ absurd (none.sink sink.rose) | inr nine ↦ inr nine ]
+]
+
+unfailing_sample : (size : Size) (before after : Outside) (status : RunStatus) → NoCountRose before after → AnswersSample size before after status
+    → EndsAt (Sample size) before after status
+unfailing_sample size before after status none h = elim (Ends-of_tells h.tells.reply before.writes after.writes status h.tells.told) [
+  | inl told ↦ told_sample size h.tells.reply before after status h.tells.due told
+  | inr failed ↦ elim failed [ inl sink ↦ absurd (none.sink sink.rose) | inr nine ↦ inr nine ]
+]
+
+-- a sink that is as before, and whose count didn't rise, took the line of want of memory
+unrisen_memory : (before after : Outside) (middle : SinkTold) (status : RunStatus) → middle ≡ before.writes.sink → NoCountRose before after
+    → IsWritten memory_reply (outputs middle before.writes.log) after.writes status → (status ≡ statuses.WantOfMemory) ⊎ ⊥
+unrisen_memory before after middle status same none written =
+    elim (Ends-of_tells memory_reply (outputs middle before.writes.log) after.writes status (inl written)) [
+      | inl told ↦ inl told.ends
+      | inr failed ↦ elim failed [
+        | inl sink ↦ absurd (none.sink (subst (λ (k : SinkTold). Rose k.faults after.writes.sink.faults) same sink.rose))
+        | inr nine ↦ inl nine
+      ]
+    ]
+
+unfailing_desk : (store : List ℕ) (before after : Outside) (status : RunStatus) → IsValidTask (Desk store) before → NoCountRose before after
+    → RunsDesk before after status → EndsAt (Desk store) before after status
+unfailing_desk store before after status v none h =
+    let done = run_unfailing h.how (desk_outside before before.writes.sink) (desk_outside after h.middle) h.run v (record {
       source = none.source;
       sink = λ rose. none.sink (desk_rose h.how before after h.middle status h.run h.told rose);
       keeper = none.keeper;
-    })) h.told
-    (λ e written. elim (Ends-of_tells memory_reply (outputs h.middle before.writes.log) after.writes status (inl written)) [
-      | inl told ↦ told.ends
-      | inr failed ↦ elim failed [
-        | inl sink ↦ absurd (none.sink (subst (λ (k : SinkTold). Rose k.faults after.writes.sink.faults) (unstarted_sink h.how before after h.middle h.run e) sink.rose))
-        | inr nine ↦ nine
-      ]
-    ])
-
-unfailing_task : (task : Task) (before after : Outside) (status : ℕ) → IsValidTask task before → IsUnfailing before after
-    → DoesTask task before after status → IsServed before after status
-unfailing_task (Book command) before after status v none h =
-    elim (Ends-of_tells h.reply before.writes after.writes status h.told) [
-      | inl told ↦ unfailing command v.input before after status h.reply v.given v.valid none h.due told
-      | inr failed ↦ elim failed [ inl sink ↦ absurd (none.sink sink.rose) | inr nine ↦ inr (inr nine) ]
-    ]
-unfailing_task (Desk store) before after status v none h = unfailing_desk before after status v none h
-unfailing_task (Sample size) before after status v none h =
-    elim (Ends-of_tells h.tells.reply before.writes after.writes status h.tells.told) [
-      | inl told ↦ sample_told size h.tells.reply before after status h.tells.due told
-      | inr failed ↦ elim failed [ inl sink ↦ absurd (none.sink sink.rose) | inr nine ↦ inr (inr nine) ]
+    }) in
+    elim (desk_done store h.how before after h.middle status ⊥ done h.told
+    (λ e. unrisen_memory before after h.middle status (unstarted_sink h.how before after h.middle h.run e) none)) [
+      | inl ends ↦ ends
+      | inr never ↦ absurd never
     ]
 
-pub Does-unfailing : (words : Words) (before after : Outside) (status : ℕ) → Does words before after status → IsValid words before
-    → IsUnfailing before after → IsServed before after status
-Does-unfailing words before after status does v none = unfailing_task v.task before after status v.valid none (does.asked v.task v.asked)
+unfailing_task : (task : Task) (before after : Outside) (status : RunStatus) → IsValidTask task before → NoCountRose before after
+    → DoesTask task before after status → EndsAt task before after status
+unfailing_task (Book command) before after status v none h = unfailing_book command before after status v none h
+unfailing_task (Desk store) before after status v none h = unfailing_desk store before after status v none h
+unfailing_task (Sample size) before after status v none h = unfailing_sample size before after status none h
+
+pub Does-unfailing : (words : Words) (before after : Outside) (status : RunStatus) → Does words before after status → IsValidInput words before
+    → NoCountRose before after → IsAnswered words before after status
+Does-unfailing words before after status does v none =
+    record { task = v.task; asked = v.asked; ends = unfailing_task v.task before after status v.valid none (does.asked v.task v.asked) }

@@ -1,4 +1,9 @@
 pub mod Words
 pub mod Outside
 pub mod DeskEnds
+pub mod Does
+pub mod Causes
+pub mod Released
+pub mod Complete
 pub mod Run
+pub mod Limits

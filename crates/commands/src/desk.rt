@@ -6,7 +6,9 @@ ghost use Rattle.commands.specs.DeskEnds.{EndsDesk, EndsSession, EndsStart, Runs
 ghost use Rattle.commands.specs.Outside.{keeps, outside};
 
 use crate::run_end::RunEnd;
-use book_commands::{RunLog, RunReply, note_write_fault, tell_made, tell_want_of_memory};
+use book_commands::{
+    Object, RunLog, RunReply, RunStatus, note_write_fault, tell_made, tell_want_of_memory,
+};
 use command_words::FileName;
 use desk_run::{DeskEnd, run_desk};
 use keeper::Keeper;
@@ -16,14 +18,6 @@ use pb_gate::Gate;
 use pb_outside::{Sink, Source};
 use session::SessionEnd;
 use std::alloc::Global;
-
-// The number of the source in the log.
-const SOURCE: u8 = 1;
-
-// How a session ends in which a message was refused or cut.
-const BROKEN: u8 = 3;
-
-const WANT_OF_MEMORY: u8 = 9;
 
 /// Runs a desk over the rows that the keeper has in this store, serves the source and the sink as one link, and tells how that
 /// ended. Files are not touched.
@@ -51,7 +45,7 @@ pub fn run_store<S: Source, K: Sink, P: Keeper, G: Gate>(
 }
 
 // Tells how a desk's run ended, and gives the status. Where the session ended without a fault of its link nothing is told.
-fn tell_end<K: Sink>(alloc: Global, how: &DeskEnd, sink: &mut K, log: &mut RunLog) -> u8
+fn tell_end<K: Sink>(alloc: Global, how: &DeskEnd, sink: &mut K, log: &mut RunLog) -> RunStatus
     ensures { let before = outputs (K.output sink.old) log.old in
         let after = outputs (K.output sink.new) log.new in
         EndsDesk how.now before after result }
@@ -62,7 +56,12 @@ fn tell_end<K: Sink>(alloc: Global, how: &DeskEnd, sink: &mut K, log: &mut RunLo
     }
 }
 
-fn tell_start<K: Sink>(alloc: Global, why: &Fail<StartFault>, sink: &mut K, log: &mut RunLog) -> u8
+fn tell_start<K: Sink>(
+    alloc: Global,
+    why: &Fail<StartFault>,
+    sink: &mut K,
+    log: &mut RunLog,
+) -> RunStatus
     ensures { let before = outputs (K.output sink.old) log.old in
         let after = outputs (K.output sink.new) log.new in
         EndsStart why.now before after result }
@@ -73,23 +72,28 @@ fn tell_start<K: Sink>(alloc: Global, why: &Fail<StartFault>, sink: &mut K, log:
     }
 }
 
-fn tell_session<K: Sink>(alloc: Global, end: SessionEnd, sink: &mut K, log: &mut RunLog) -> u8
+fn tell_session<K: Sink>(
+    alloc: Global,
+    end: SessionEnd,
+    sink: &mut K,
+    log: &mut RunLog,
+) -> RunStatus
     ensures { let before = outputs (K.output sink.old) log.old in
         let after = outputs (K.output sink.new) log.new in
         EndsSession end before after result }
 {
     match end {
-        SessionEnd::Done => 0,
-        SessionEnd::Broken => BROKEN,
+        SessionEnd::Done => RunStatus::Done,
+        SessionEnd::Broken => RunStatus::Faulty,
         SessionEnd::ReadFault(fault) => {
             tell_made(
-                RunReply::read_fault(alloc, SOURCE, fault.before, fault.after),
+                RunReply::read_fault(alloc, Object::Source, fault.before, fault.after),
                 sink,
                 log,
             )
         }
         SessionEnd::WriteFault(fault) => note_write_fault(fault.before, fault.after, log),
-        SessionEnd::Memory => WANT_OF_MEMORY,
+        SessionEnd::Memory => RunStatus::WantOfMemory,
     }
 }
 

@@ -5,11 +5,12 @@ ghost use Rattle.command_words.specs.Prepared.{texts_of};
 ghost use Rattle.book_commands.specs.RunReply.{usage_reply, memory_reply};
 ghost use Rattle.book_commands.specs.Tells.{outputs, Tells};
 ghost use Rattle.commands.specs.Outside.{keeps, outside};
-ghost use Rattle.commands.specs.Run.{Does, AnswersUsage, AnswersMemory};
+ghost use Rattle.commands.specs.Does.{AnswersUsage, AnswersMemory};
+ghost use Rattle.commands.specs.Run.{IsRun};
 
 use crate::run_end::RunEnd;
 use crate::top_call::run;
-use book_commands::{RunLog, tell_usage, tell_want_of_memory};
+use book_commands::{RunLog, RunStatus, tell_usage, tell_want_of_memory};
 use keeper::Keeper;
 use pb_gate::Gate;
 use pb_outside::{Files, Sink, Source};
@@ -33,19 +34,19 @@ pub fn run_given<S: Source, K: Sink, F: Files, P: Keeper, G: Gate>(
         let kept' = keeps (P.told result.keeper) (P.failures result.keeper) in
         let before = outside (S.input source.old) (F.told files.old) (K.output sink.old) log.old kept in
         let after = outside (S.input source.new) (F.told files.new) (K.output sink.new) log.new kept' in
-        IfOk given (λ words. Does (texts_of words.items) before after result.status) }
+        IfOk given (λ words. IsRun (texts_of words.items) before after result.status) }
     ensures none { let kept = keeps (P.told keeper) (P.failures keeper) in
         let kept' = keeps (P.told result.keeper) (P.failures result.keeper) in
         let before = outside (S.input source.old) (F.told files.old) (K.output sink.old) log.old kept in
         let after = outside (S.input source.new) (F.told files.new) (K.output sink.new) log.new kept' in
-        IfErr given (λ error.
-        error_kind error ≢ ErrorKind.OutOfMemory → AnswersUsage before after result.status) }
+        let usage = AnswersUsage before after result.status in
+        IfErr given (λ error. error_kind error ≢ ErrorKind.OutOfMemory → usage) }
     ensures want { let kept = keeps (P.told keeper) (P.failures keeper) in
         let kept' = keeps (P.told result.keeper) (P.failures result.keeper) in
         let before = outside (S.input source.old) (F.told files.old) (K.output sink.old) log.old kept in
         let after = outside (S.input source.new) (F.told files.new) (K.output sink.new) log.new kept' in
-        IfErr given (λ error.
-        error_kind error ≡ ErrorKind.OutOfMemory → AnswersMemory before after result.status) }
+        let want = AnswersMemory before after result.status in
+        IfErr given (λ error. error_kind error ≡ ErrorKind.OutOfMemory → want) }
 {
     match given {
         Ok(words) => run(alloc, &words, source, sink, files, keeper, gate, log),
@@ -56,7 +57,7 @@ pub fn run_given<S: Source, K: Sink, F: Files, P: Keeper, G: Gate>(
     }
 }
 
-fn tell_no_words<K: Sink>(error: &io::Error, sink: &mut K, log: &mut RunLog) -> u8
+fn tell_no_words<K: Sink>(error: &io::Error, sink: &mut K, log: &mut RunLog) -> RunStatus
     ensures none { let before = outputs (K.output sink.old) log.old in
         let after = outputs (K.output sink.new) log.new in
         error_kind error.now ≢ ErrorKind.OutOfMemory → Tells usage_reply before after result }

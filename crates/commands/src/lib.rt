@@ -3,12 +3,14 @@
 
 mod desk;
 mod given;
+mod limits;
 mod run_end;
 mod task;
 mod top_call;
 mod words;
 
-pub use book_commands::{Note, RunLog};
+pub use book_commands::{Note, Object, RunLog, RunStatus};
 pub use given::run_given;
+pub use limits::limits_law;
 pub use run_end::RunEnd;
 pub use top_call::run;

@@ -1,7 +1,11 @@
 //! The program: it does what its words ask, mostly of a book that it reads from standard input.
 #![tactic(auto)]
 
-use commands::{RunLog, run_given};
+ghost use Rattle.std.specs.Prelude.{◌≡◌};
+ghost use Rattle.std.specs.Process.{exit_status};
+ghost use Rattle.book_commands.specs.Numbers.{status_number};
+
+use commands::{RunLog, RunStatus, run_given};
 use keeper_sql::SqlKeeper;
 use pb_gate::NoGate;
 use pb_outside::{StreamSink, StreamSource, SystemFiles};
@@ -28,7 +32,14 @@ fn main(rt: HostRuntime) -> ExitCode {
     );
     // What a store that can't be closed has in its log is there for the next run, so the status stays what it is.
     let _closed = end.keeper.close();
-    ExitCode::from(end.status)
+    exit_code(end.status)
+}
+
+// The status, as the system takes it.
+fn exit_code(status: RunStatus) -> ExitCode
+    ensures { exit_status result ≡ status_number status }
+{
+    ExitCode::from(status.number())
 }
 
 // The words after the program's name.

@@ -2,7 +2,8 @@
 
 use crate::named_text::NamedText;
 use crate::said::number_in;
-use crate::setting::{Object, Setting};
+use crate::setting::Setting;
+use commands::Object;
 use pb_base::{Memory, Text};
 use std::alloc::Global;
 

@@ -45,7 +45,7 @@ pub fn put_note(text: &mut Text, note: &Note) -> Result<(), Memory> {
             which,
             before,
             after,
-        } => put_numbers(text, "count", &[u64::from(*which), *before, *after]),
+        } => put_numbers(text, "count", &[u64::from(which.number()), *before, *after]),
     }
 }
 

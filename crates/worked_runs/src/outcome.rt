@@ -6,7 +6,7 @@ use crate::note_line::put_note;
 use crate::outside::{Outside, bytes_left, outside_of};
 use crate::rows::{put_rows_line, rows_of};
 use crate::run_words::words_of;
-use commands::{Note, RunEnd, run_given};
+use commands::{Note, RunEnd, RunStatus, run_given};
 use keeper::{Keeper, MemoryKeeper, Rows};
 use pb_base::{Memory, Text};
 use pb_gate::NoGate;
@@ -16,7 +16,7 @@ use std::alloc::Global;
 /// What came out of a run: its status, how often its keeper failed, the rows of the store, and how what it was handed is left.
 #[derive(Drop)]
 pub struct Outcome {
-    status: u8,
+    status: RunStatus,
     keeper_faults: u64,
     rows: Rows,
     outside: Outside,
@@ -130,9 +130,9 @@ fn put_notes(text: &mut Text, notes: &[Note]) -> Result<(), Memory> {
     Ok(())
 }
 
-fn put_status(text: &mut Text, status: u8) -> Result<(), Memory> {
+fn put_status(text: &mut Text, status: RunStatus) -> Result<(), Memory> {
     text.put(b"status ")?;
-    text.put_number(u64::from(status))?;
+    text.put_number(u64::from(status.number()))?;
     text.put(b"\n")
 }
 

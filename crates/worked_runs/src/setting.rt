@@ -1,6 +1,7 @@
 //! What a case sets for its runs.
 
 use crate::said::{cut, number_in};
+use commands::Object;
 
 /// What a case sets for its runs.
 #[derive(Clone, Copy)]
@@ -21,15 +22,6 @@ pub enum Setting<'a> {
     CutEverywhere,
     /// Each run is made once for each front of the input.
     EndedEverywhere,
-}
-
-/// An object that is handed to a run.
-#[derive(Clone, Copy)]
-pub enum Object {
-    Source,
-    Files,
-    Sink,
-    Keeper,
 }
 
 /// What a head sets, or None where it sets nothing.

@@ -1,6 +1,7 @@
 use Rattle.std.proofs.Common.{◌∙◌, [], ap, sym, inl}
 use Rattle.book_text.specs.BookText.{book_of}
 use Rattle.book_commands.specs.Sample.{released_text}
+use Rattle.book_commands.specs.declared.run_status.RunStatus.TheVariants.{Done}
 use Rattle.book_commands.proofs.sample.released_reply.Goals as goal
 
 pub returns : goal.returns
@@ -10,6 +11,6 @@ returns c = record {
   answer = inl (record {
     cert = c.args.released.now.cert;
     accepted = c.book-book.ensures.release.accepted;
-    answer = c.plain.ensures ∙ ap (λ text. record { text = text; status = 0; notes = [] }) (c.in_ok-text.ensures ∙ ap (released_text c.args.size.now) c.book-book.ensures.value);
+    answer = c.plain.ensures ∙ ap (λ text. record { text = text; status = Done; notes = [] }) (c.in_ok-text.ensures ∙ ap (released_text c.args.size.now) c.book-book.ensures.value);
   });
 }

@@ -1,0 +1,114 @@
+-- Which runs have to be answered.
+--     IsValidInput words before            the words ask for a task, and what it reads has no fault
+--     CannotFail words before              besides, no call on what it reads from fails from here on, and the sink tells its room
+--     NoCountRose before after             no count of faults rose
+--     IsAnswered words before after status the task was answered, memory allowing
+--     LacksRoom words before after status  the sink failed, which told less room than a text that was due has bytes
+use Rattle.std.specs.Prelude.{◌≡◌, ◌⊎◌, ℕ, ◌<◌, true, List, ◌++◌, IsSome, IsSomeAnd, length, take}
+use Rattle.pb_outside.specs.Faults.{Rose}
+use Rattle.command_words.specs.Parts.{Words}
+use Rattle.order_desk.specs.Tables.{State}
+use Rattle.answering.specs.Hand.{Hand}
+use Rattle.session.specs.Reading.{Stop}
+use Rattle.session.specs.Session.{IsDue}
+use Rattle.desk_run.specs.DeskRun.{IsStarted, hand_at}
+use Rattle.desk_run.specs.Sure.{IsOrderly}
+use Rattle.book_commands.specs.Due.{Due}
+use Rattle.book_commands.specs.Ends.{EndsCommand, EndsSample}
+use Rattle.book_commands.specs.Inputs.{Inputs, input_limit}
+use Rattle.book_commands.specs.Replies.{IsValidCommand}
+use Rattle.book_commands.specs.RunReply.{RunReply, memory_text}
+use Rattle.book_commands.specs.Sample.{RepliesToSample}
+use Rattle.book_commands.specs.Size.{Size}
+use Rattle.book_commands.specs.declared.command.BookCommand.{BookCommand}
+use Rattle.book_commands.specs.declared.log.Note.{Note}
+use Rattle.book_commands.specs.declared.run_status.RunStatus.{RunStatus}
+use Rattle.book_commands.specs.declared.run_status.RunStatus.TheVariants as statuses
+use Rattle.commands.specs.DeskEnds.{desk_outside}
+use Rattle.commands.specs.Outside.{Outside}
+use Rattle.commands.specs.Words.{Asks}
+use Rattle.commands.specs.declared.task.Task.{Task}
+use Rattle.commands.specs.declared.task.Task.TheVariants.{Book, Desk, Sample}
+
+-- ---- what is handed in
+
+-- neither the input nor a file has a fault
+pub record IsValidRead (command : BookCommand) (reads : Inputs) : Type 0 where
+  pub input : List ℕ
+  pub given : IsSomeAnd reads.source.left (λ all. input ≡ take input_limit all)
+  pub valid : IsValidCommand command input reads.files.files
+
+-- of a desk, the rows are right, and nothing in the stream is refused or cut; a sample reads nothing
+abbrev pub IsValidTask : Task → Outside → Type 0
+IsValidTask (Book command) before = IsValidRead command before.reads
+IsValidTask (Desk store) before = IsOrderly (desk_outside before before.writes.sink)
+IsValidTask (Sample size) before = Unit {0}
+
+pub record IsValidInput (words : Words) (before : Outside) : Type 0 where
+  pub task : Task
+  pub asked : Asks words task
+  pub valid : IsValidTask task before
+
+-- what a command reads from says that no call on it fails from here on
+pub record CannotFailToRead (reads : Inputs) : Type 0 where
+  pub source : reads.source.faults.faultless ≡ true
+  pub files : reads.files.faults.faultless ≡ true
+
+-- and so do the source and the keeper of a desk
+pub record CannotFailToServe (before : Outside) : Type 0 where
+  pub source : before.reads.source.faults.faultless ≡ true
+  pub keeper : before.keeper.faults.faultless ≡ true
+
+abbrev pub CannotFailAt : Task → Outside → Type 0
+CannotFailAt (Book command) before = CannotFailToRead before.reads
+CannotFailAt (Desk store) before = CannotFailToServe before
+CannotFailAt (Sample size) before = Unit {0}
+
+pub record CannotFail (words : Words) (before : Outside) : Type 0 where
+  pub input : IsValidInput words before
+  pub calls : CannotFailAt input.task before
+  pub room : IsSome before.writes.sink.room
+
+-- ---- what was done
+
+pub record NoCountRose (before after : Outside) : Type 0 where
+  pub source : ¬ Rose before.reads.source.faults.count after.reads.source.faults.count
+  pub files : ¬ Rose before.reads.files.faults.count after.reads.files.faults.count
+  pub sink : ¬ Rose before.writes.sink.faults after.writes.sink.faults
+  pub keeper : ¬ Rose before.keeper.faults.count after.keeper.faults.count
+
+-- the run ended so, with the notes that it put into the log
+pub record EndsNoted (IsEnd : RunStatus → List Note → Type 0) (before after : Outside) (status : RunStatus) : Type 0 where
+  pub notes : List Note
+  pub noted : after.writes.log ≡ before.writes.log ++ notes
+  pub is_end : IsEnd status notes
+
+-- an order is accepted or refused; a check or a proof says so of the book, or leaves a question; a certificate and a desk's
+-- link come to their end, and a sample does so or leaves a question
+abbrev pub EndsTask : Task → Outside → Outside → RunStatus → Type 0
+EndsTask (Book command) before after status = EndsNoted (EndsCommand command) before after status
+EndsTask (Desk store) before after status = status ≡ statuses.Done
+EndsTask (Sample size) before after status = EndsNoted EndsSample before after status
+
+pub record IsAnswered (words : Words) (before after : Outside) (status : RunStatus) : Type 0 where
+  pub task : Task
+  pub asked : Asks words task
+  pub ends : EndsTask task before after status ⊎ (status ≡ statuses.WantOfMemory)
+
+-- a text that is due: that of a reply to what was read, or to a sample, or all that a desk has to write to its link wherever
+-- reading stops, or the line of want of memory
+pub data IsDueText (words : Words) (before after : Outside) (text : List ℕ) : Type 0 where
+  of_reply : (command : BookCommand) (reply : RunReply) → Asks words (Book command) → Due command before.reads after.reads reply
+      → text ≡ reply.text → IsDueText words before after text
+  of_sample : (size : Size) (reply : RunReply) → Asks words (Sample size) → RepliesToSample size reply
+      → text ≡ reply.text → IsDueText words before after text
+  of_link : (store : List ℕ) (old : State) (stop : Stop) (new : Hand) → Asks words (Desk store)
+      → IsStarted (desk_outside before before.writes.sink) old → IsDue stop before.reads.source.left (hand_at old) text new
+      → IsDueText words before after text
+  of_memory : text ≡ memory_text → IsDueText words before after text
+
+pub record LacksRoom (words : Words) (before after : Outside) (status : RunStatus) : Type 0 where
+  pub ends : status ≡ statuses.WriteFault
+  pub text : List ℕ
+  pub due : IsDueText words before after text
+  pub room : IsSomeAnd before.writes.sink.room (λ bytes. bytes < length text)

@@ -1,0 +1,64 @@
+-- What a run does.
+--     DoesTask task before after status    one that does this task
+--     Does words before after status       one that does what the words ask
+use Rattle.std.specs.Prelude.{◌≡◌, ◌⊎◌}
+use Rattle.pb_outside.specs.Faults.{IsLater}
+use Rattle.command_words.specs.Parts.{Words}
+use Rattle.book_commands.specs.Due.{Due}
+use Rattle.book_commands.specs.Replies.{KeepsFiles}
+use Rattle.book_commands.specs.RunReply.{RunReply, usage_reply, memory_reply}
+use Rattle.book_commands.specs.Sample.{RepliesToSample}
+use Rattle.book_commands.specs.Size.{Size}
+use Rattle.book_commands.specs.Tells.{Outputs, Tells}
+use Rattle.book_commands.specs.declared.command.BookCommand.{BookCommand}
+use Rattle.book_commands.specs.declared.run_status.RunStatus.{RunStatus}
+use Rattle.commands.specs.DeskEnds.{RunsDesk}
+use Rattle.commands.specs.Outside.{Outside}
+use Rattle.commands.specs.Words.{Asks, AsksNothing}
+use Rattle.commands.specs.declared.task.Task.{Task}
+use Rattle.commands.specs.declared.task.Task.TheVariants.{Book, Desk, Sample}
+
+-- a command was answered: its reply is due, and was told; the keeper was not touched
+pub record AnswersBook (command : BookCommand) (before after : Outside) (status : RunStatus) : Type 0 where
+  pub reply : RunReply
+  pub due : Due command before.reads after.reads reply
+  pub told : Tells reply before.writes after.writes status
+  pub source_later : IsLater before.reads.source.faults after.reads.source.faults
+  pub files_kept : KeepsFiles command before.reads.files after.reads.files
+  pub kept : after.keeper ≡ before.keeper
+
+-- nothing was read, and the keeper was not touched
+pub record ReadsNothing (before after : Outside) : Type 0 where
+  pub untouched : after.reads ≡ before.reads
+  pub kept : after.keeper ≡ before.keeper
+
+-- the words are of no form
+pub record AnswersUsage (before after : Outside) (status : RunStatus) : Type 0 where
+  pub told : Tells usage_reply before.writes after.writes status
+  pub nothing : ReadsNothing before after
+
+-- the words could not be had, for want of memory
+pub record AnswersMemory (before after : Outside) (status : RunStatus) : Type 0 where
+  pub told : Tells memory_reply before.writes after.writes status
+  pub nothing : ReadsNothing before after
+
+-- the reply to a sample was told, or memory was wanting
+pub record TellsSample (size : Size) (before after : Outputs) (status : RunStatus) : Type 0 where
+  pub reply : RunReply
+  pub due : RepliesToSample size reply ⊎ (reply ≡ memory_reply)
+  pub told : Tells reply before after status
+
+-- a sample was answered
+pub record AnswersSample (size : Size) (before after : Outside) (status : RunStatus) : Type 0 where
+  pub tells : TellsSample size before.writes after.writes status
+  pub nothing : ReadsNothing before after
+
+abbrev pub DoesTask : Task → Outside → Outside → RunStatus → Type 0
+DoesTask (Book command) = AnswersBook command
+DoesTask (Desk store) = RunsDesk
+DoesTask (Sample size) = AnswersSample size
+
+-- whatever the words ask was done, and where they ask for nothing, the usage was told
+pub record Does (words : Words) (before after : Outside) (status : RunStatus) : Type 0 where
+  pub asked : (task : Task) → Asks words task → DoesTask task before after status
+  pub nothing : AsksNothing words → AnswersUsage before after status

@@ -1,0 +1,59 @@
+-- What a run's status says of the book that was read, and which books a desk keeps.
+use Rattle.std.specs.Prelude.{◌≡◌, ◌⊎◌, ℕ, List, Option, IfSome, IsOkAnd, IsTrue, All, take}
+use Rattle.book_model.specs.Sound.{IsReleasable}
+use Rattle.book_text.specs.BookText.{book_of}
+use Rattle.command_words.specs.Parts.{Words}
+use Rattle.desk_run.specs.Released.{IsReleasedRow}
+use Rattle.desk_run.specs.declared.end.DeskEnd.{DeskEnd}
+use Rattle.desk_run.specs.declared.end.DeskEnd.TheVariants.{NotStarted, Served}
+use Rattle.book_commands.specs.Checks.{IsUnreleasable}
+use Rattle.book_commands.specs.Inputs.{input_limit}
+use Rattle.book_commands.specs.Replies.{asks_check, asks_release}
+use Rattle.book_commands.specs.declared.command.BookCommand.{BookCommand}
+use Rattle.book_commands.specs.declared.run_status.RunStatus.{RunStatus}
+use Rattle.book_commands.specs.declared.run_status.RunStatus.TheVariants as statuses
+use Rattle.commands.specs.DeskEnds.{RunsDesk}
+use Rattle.commands.specs.Outside.{Outside}
+use Rattle.commands.specs.Words.{Asks}
+use Rattle.commands.specs.declared.task.Task.TheVariants.{Book, Desk}
+
+-- the words ask whether the book can be released
+pub record AskRelease (words : Words) : Type 0 where
+  pub command : BookCommand
+  pub asked : Asks words (Book command)
+  pub whether : IsTrue (asks_release command)
+
+-- the words ask what keeps the book from its release
+pub record AskCheck (words : Words) : Type 0 where
+  pub command : BookCommand
+  pub asked : Asks words (Book command)
+  pub what : IsTrue (asks_check command)
+
+-- the input is a book that can be released: on every day of its term some set of codes is good, and every good set
+-- selects one variant at each mandatory position and nowhere two
+abbrev pub IsReleasableInput : Option (List ℕ) → Type 0
+IsReleasableInput left = IfSome left (λ all. IsOkAnd (book_of (take input_limit all)) IsReleasable)
+
+-- the input is a book that can't be released
+abbrev pub IsBlockedInput : Option (List ℕ) → Type 0
+IsBlockedInput left = IfSome left (λ all. IsOkAnd (book_of (take input_limit all)) IsUnreleasable)
+
+-- the words ask for a desk
+pub record AskDesk (words : Words) : Type 0 where
+  pub store : List ℕ
+  pub asked : Asks words (Desk store)
+
+-- no desk was started, and so nothing was read
+pub record IsUnstarted (before after : Outside) (status : RunStatus) : Type 0 where
+  pub untouched : after.reads ≡ before.reads
+  pub statuses : (status ≡ statuses.WriteFault) ⊎ (status ≡ statuses.NotStarted) ⊎ (status ≡ statuses.WantOfMemory)
+
+-- by how a desk's run ended: where a link was served, each book that is kept can be released. A keeper that tells no rows, as
+-- that over a file, leaves this empty; that the tables of the last state are valid the run itself says
+abbrev pub KeepsBooks : DeskEnd → Outside → Outside → RunStatus → Type 0
+KeepsBooks (Served end) before after status = IfSome after.keeper.rows (λ kept. All IsReleasedRow kept.books)
+KeepsBooks (NotStarted why) before after status = IsUnstarted before after status
+
+pub record KeepsReleased (before after : Outside) (status : RunStatus) : Type 0 where
+  pub runs : RunsDesk before after status
+  pub books : KeepsBooks runs.how before after status
