@@ -1,8 +1,9 @@
 -- Wherever calls get, legal steps lead there.
-use Rattle.std.proofs.Common.{◌≡◌, ◌+◌, ◌∙◌, ℕ, Bool, true, false, List, [], ◌∷◌, ◌++◌, refl, sym, ap, subst, arith, inl, inr, length-append, append_assoc}
-use Rattle.std.specs.Prelude.{Some, None, Result, Ok, Err, MatchBool, if◌then◌else◌}
+use Rattle.std.proofs.Common.{◌≡◌, ◌+◌, ◌∙◌, ℕ, true, false, List, [], ◌∷◌, ◌++◌, refl, sym, ap, subst, arith, inl, inr, length-append, append_assoc}
+use Rattle.std.specs.Prelude.{Option, Some, None, Result, Ok, Err, MatchOption}
 use Rattle.std.proofs.lemmas.List.{append-nil}
 use Rattle.turn_book.specs.History.{end_of, entry, IsHistory}
+use Rattle.turn_book.specs.Standing.{Opened}
 use Rattle.turn_book.proofs.Histories.{end_of_append, history_append}
 use Rattle.book_model.specs.Contents.{Contents}
 use Rattle.parts_usage.specs.declared.fault.OrderFault.{OrderFault}
@@ -26,7 +27,7 @@ use Rattle.order_desk.specs.Step.{Step}
 use Rattle.order_desk.specs.Tables.{State}
 use Rattle.answering.specs.Answers.{IsKeptBack, IsChecked, after_looking, after_placing, after_reading, after_taking, by_accepted, by_outcome, commits, course_of, either, no_more, placing, to_release, told_again}
 use Rattle.answering.specs.Course.{Course, asks, ends, ends_with, never, or_memory, plain, unless_said}
-use Rattle.answering.specs.Hand.{Begins, Hand, Made, Stepped, Takes}
+use Rattle.answering.specs.Hand.{Begins, Hand, Made, Stepped, Takes, with_made}
 use Rattle.answering.specs.declared.said.Said.{Said}
 use Rattle.answering.specs.LaterHand.{AddsSteps, IsLaterHand}
 
@@ -48,19 +49,19 @@ reaches_step x y e a fits step = (entry e a y ∷ [], (fits, step, tt), refl)
 
 -- ---- holders
 
-abbrev MadeOn : Bool → Hand → Hand → Type 0
-MadeOn alone h new = MatchBool alone (new.made ≡ h.made) (AddsSteps h new)
+abbrev MadeOn : Option (Opened State) → Hand → Hand → Type 0
+MadeOn book h new = MatchOption book (new.made ≡ h.made) (λ _. AddsSteps h new)
 
-made_same : (alone : Bool) (h : Hand) → MadeOn alone h h
-made_same true h = refl
-made_same false h = ([], sym (append-nil h.made), omega arith)
+made_same : (book : Option (Opened State)) (h : Hand) → MadeOn book h h
+made_same None h = refl
+made_same (Some book) h = ([], sym (append-nil h.made), omega arith)
 
 pub hand_same : (h : Hand) → IsLaterHand h h
-hand_same h = record { reaches = reaches_same h.state; left = omega arith; made = made_same h.alone h; alone = refl }
+hand_same h = record { reaches = reaches_same h.state; left = omega arith; made = made_same h.book h; book = refl }
 
-made_twice : (alone : Bool) (h i j : Hand) → MadeOn alone h i → MadeOn alone i j → MadeOn alone h j
-made_twice true h i j first second = second ∙ first
-made_twice false h i j first second = (
+made_twice : (book : Option (Opened State)) (h i j : Hand) → MadeOn book h i → MadeOn book i j → MadeOn book h j
+made_twice None h i j first second = second ∙ first
+made_twice (Some book) h i j first second = (
   first.0 ++ second.0,
   second.1 ∙ ap (λ (l : List Made). l ++ second.0) first.1 ∙ append_assoc h.made first.0 second.0,
   (let a = first.2 in let b = second.2 in omega (arith, length-append first.0 second.0)),
@@ -70,27 +71,27 @@ pub hand_twice : (h i j : Hand) → IsLaterHand h i → IsLaterHand i j → IsLa
 hand_twice h i j first second = record {
   reaches = reaches_twice h.state i.state j.state first.reaches second.reaches;
   left = let a = first.left in let b = second.left in omega arith;
-  made = made_twice h.alone h i j first.made (subst (λ (b : Bool). MadeOn b i j) first.alone second.made);
-  alone = second.alone ∙ first.alone;
+  made = made_twice h.book h i j first.made (subst (λ (b : Option (Opened State)). MadeOn b i j) first.book second.made);
+  book = second.book ∙ first.book;
 }
 
-pub begins_reached : (alone : Bool) (seen first : State) → Begins alone seen first → Reaches seen first
-begins_reached true seen first same = subst (λ (s : State). Reaches seen s) (sym same) (reaches_same seen)
-begins_reached false seen first reached = reached
+pub begins_reached : (book : Option (Opened State)) (seen first : State) → Begins book seen first → Reaches seen first
+begins_reached None seen first same = subst (λ (s : State). Reaches seen s) (sym same) (reaches_same seen)
+begins_reached (Some book) seen first reached = reached
 
-made_one : (alone : Bool) (h new : Hand) (one : Made) → new.made ≡ (if alone then h.made else h.made ++ one ∷ []) → h.left ≡ new.left + 1 → MadeOn alone h new
-made_one true h new one made left = made
-made_one false h new one made left = (one ∷ [], made, omega arith)
+made_one : (book : Option (Opened State)) (h new : Hand) (one : Made) → new.made ≡ with_made book h.made one → h.left ≡ new.left + 1 → MadeOn book h new
+made_one None h new one made left = made
+made_one (Some book) h new one made left = (one ∷ [], made, omega arith)
 
 pub hand_stepped : (h : Hand) (e : Event) (a : Answer) (new : Hand) → Stepped h e a new → IsLaterHand h new
 hand_stepped h e a new s = record {
-  reaches = reaches_twice h.state s.first new.state (begins_reached h.alone h.state s.first s.begins) (reaches_step s.first new.state e a s.fits s.step);
+  reaches = reaches_twice h.state s.first new.state (begins_reached h.book h.state s.first s.begins) (reaches_step s.first new.state e a s.fits s.step);
   left = let less = s.left in omega arith;
-  made = made_one h.alone h new (record { event = e; answer = a }) s.made s.left;
-  alone = s.alone;
+  made = made_one h.book h new (record { event = e; answer = a }) s.made s.left;
+  book = s.book;
 }
 
-hand_takes : (h : Hand) (e : Event) (a : Answer) (new : Hand) → Takes h e a new → IsLaterHand h new
+pub hand_takes : (h : Hand) (e : Event) (a : Answer) (new : Hand) → Takes h e a new → IsLaterHand h new
 hand_takes h e a new (inl over) = subst (λ (k : Hand). IsLaterHand h k) (sym over.same) (hand_same h)
 hand_takes h e a new (inr stepped) = hand_stepped h e a new stepped
 

@@ -1,4 +1,6 @@
 mod ToldLaws
 mod TableLaws
 pub mod LaterHands
+pub mod Seats
 mod NewOrders
+pub mod BookNames

@@ -1,5 +1,5 @@
 -- A new order is accepted exactly where it can be built.
-use Rattle.std.proofs.Common.{◌≡◌, ◌≢◌, ◌∙◌, ◌⊎◌, ℕ, ◌+◌, ◌<◌, ◌≤◌, ◌-◌, zero, suc, Bool, true, false, List, [], ◌∷◌, Option, None, Some, Ok, Err, Result, refl, sym, ap, subst, arith, inl, inr}
+use Rattle.std.proofs.Common.{◌≡◌, ◌≢◌, ◌∙◌, ◌⊎◌, ℕ, ◌≤◌, ◌-◌, zero, suc, Bool, true, false, List, [], ◌∷◌, None, Some, Ok, Err, Result, refl, sym, ap, subst, arith, inl, inr}
 use Rattle.std.specs.Prelude.{length, nat_lt, ok_or, slice_get, if◌then◌else◌}
 use Rattle.std.specs.List.{AllByRecursion}
 use Rattle.std.proofs.lemmas.Bool.{lt-ltb}
@@ -11,7 +11,7 @@ use Rattle.parts_usage.specs.declared.fault.OrderFault.{OrderFault}
 use Rattle.parts_usage.specs.declared.judgement.Outcome.{Outcome}
 use Rattle.parts_usage.specs.declared.judgement.Outcome.TheVariants as outcome
 use Rattle.order_text.specs.OutcomeText.{accepted_text, construct_id}
-use Rattle.release.specs.Orders.{IsBuilt, IsTurnedAway, IsWellFormed, can_be_built, supplemented}
+use Rattle.release.specs.Orders.{IsWellFormed, can_be_built, supplemented}
 use Rattle.release.specs.Release.{Release, IsRelease}
 use Rattle.release.proofs.OrderLaws.{built, turned_away}
 use Rattle.desk_words.specs.declared.order_words.OrderWords.{OrderWords}
@@ -21,24 +21,22 @@ use Rattle.desk_words.specs.declared.reply.Reply.{Reply}
 use Rattle.desk_words.specs.declared.reply.Reply.TheVariants as reply
 use Rattle.order_desk.specs.declared.answer.Answer.{Answer}
 use Rattle.order_desk.specs.declared.answer.Answer.TheVariants as answer
-use Rattle.order_desk.specs.declared.event.Event.{Event}
 use Rattle.order_desk.specs.declared.event.Event.TheVariants.{Look, Place}
 use Rattle.order_desk.specs.declared.kept_book.KeptBook.{KeptBook}
 use Rattle.order_desk.specs.declared.limits.TheConstants.{MOST_ORDERS}
-use Rattle.order_desk.specs.Effect.{Effect, shows, keeps, go_on, book_of, look, place, to_place, unless_kept}
+use Rattle.order_desk.specs.Effect.{shows, keeps, go_on, book_of, look, place, to_place, unless_kept}
 use Rattle.order_desk.specs.Fits.{IsReleaseOf}
-use Rattle.order_desk.specs.History.{IsLaterBook, Reaches, Stays}
+use Rattle.order_desk.specs.History.{IsLaterBook, Stays}
 use Rattle.order_desk.specs.Step.{Follows, IsKept, IsNotKept, IsOrMemory, IsStoreFault}
-use Rattle.order_desk.specs.Tables.{Tables, State, book_at, key_of, order_at, with_order}
+use Rattle.order_desk.specs.Tables.{Tables, State, book_at, key_of, with_order}
 use Rattle.order_desk.specs.Valid.{IsValid}
 use Rattle.order_desk.proofs.EffectWrites.{effect_writes, unchanged}
 use Rattle.order_desk.proofs.Growth.{place_of_number, reaches_grows}
 use Rattle.order_desk.proofs.StepValid.{reaches_valid}
-use Rattle.answering.specs.Answers.{after_looking, after_placing, by_accepted, by_outcome, ordering, placing, told_again}
+use Rattle.answering.specs.Answers.{after_looking, after_placing, by_accepted, by_outcome, ordering, placing}
 use Rattle.answering.specs.Course.{ends_with, or_memory, plain, unless_said}
-use Rattle.answering.specs.Hand.{Begins, Hand, Stepped, Takes}
-use Rattle.answering.specs.Headline.{AcceptsExactly, IsAccepted, IsNewOrder, IsRefused, IsUnwritten, LastStep, PlacesOrder, WantsMemory, list_text}
-use Rattle.answering.specs.LaterHand.{IsLaterHand}
+use Rattle.answering.specs.Hand.{Begins, Hand, Stepped}
+use Rattle.answering.specs.Headline.{AcceptsExactly, IsAccepted, IsNewOrder, IsUnwritten, PlacesOrder, WantsMemory, list_text}
 use Rattle.answering.specs.Told.{IsBookThere}
 use Rattle.answering.specs.declared.said.Said.{Said}
 use Rattle.answering.proofs.LaterHands.{begins_reached, hand_same, hand_stepped}
@@ -151,11 +149,11 @@ module _ (caller : List ℕ) (number : ℕ) (order : OrderWords) where
     same_state =
         unchanged (look s.first.tables caller number order) s.first a mid.state (effect_writes (λ t. ⊥) s.first.tables (Look caller number order) tt) s.step
 
-    begun : h.alone ≡ true → s.first ≡ h.state
+    begun : h.book ≡ None → s.first ≡ h.state
     begun alone = subst (λ b. Begins b h.state s.first) alone s.begins
 
     valid_first : IsValid h.state.tables → IsValid s.first.tables
-    valid_first valid = reaches_valid h.state s.first (begins_reached h.alone h.state s.first s.begins) valid
+    valid_first valid = reaches_valid h.state s.first (begins_reached h.book h.state s.first s.begins) valid
 
     ended : (said : Said) → ((b : KeptBook) → IsNewOrder s.first.tables caller number order b → Comes s.first b.released.book said mid.state)
         → PlacesOrder h caller number order said mid
@@ -237,7 +235,7 @@ module _ (caller : List ℕ) (number : ℕ) (order : OrderWords) where
       valid_mid = reaches_valid h.state mid.state (hand_stepped h (Look caller number order) (answer.Book r) mid s).reaches valid
 
       valid_placed : IsValid p.first.tables
-      valid_placed = reaches_valid mid.state p.first (begins_reached mid.alone mid.state p.first p.begins) valid_mid
+      valid_placed = reaches_valid mid.state p.first (begins_reached mid.book mid.state p.first p.begins) valid_mid
 
       shown : IsBookThere mid.state.tables order.book r
       shown = told_book caller number order h (answer.Book r) mid (inr s)
@@ -246,7 +244,7 @@ module _ (caller : List ℕ) (number : ℕ) (order : OrderWords) where
       same_book : (b : KeptBook) → IsNewOrder p.first.tables caller number order b → r ≡ b.released
       same_book b fresh =
           sym (stays_released mid.state.tables p.first.tables order.book shown.book b
-          ((reaches_grows mid.state p.first (begins_reached mid.alone mid.state p.first p.begins)).books order.book) shown.there fresh.there
+          ((reaches_grows mid.state p.first (begins_reached mid.book mid.state p.first p.begins)).books order.book) shown.there fresh.there
           ∙ shown.its_release)
 
       outcome_there : (b : KeptBook) → IsNewOrder p.first.tables caller number order b
@@ -308,7 +306,7 @@ module _ (caller : List ℕ) (number : ℕ) (order : OrderWords) where
           before = hand_stepped h (Look caller number order) (answer.Book r) mid s;
           step = p;
           at_once = λ alone.
-              subst (λ b. Begins b mid.state p.first) (s.alone ∙ alone) p.begins
+              subst (λ b. Begins b mid.state p.first) (s.book ∙ alone) p.begins
               ∙ same_state h (answer.Book r) mid s ∙ begun h (answer.Book r) mid s alone;
         },
         λ b fresh. record {
@@ -361,7 +359,7 @@ module _ (caller : List ℕ) (number : ℕ) (order : OrderWords) where
   places_order h said new valid left (inr (a, mid, inr s, rest)) = after_look h valid left a mid s said new rest
 
   -- who is alone finds the desk as it was when the call began
-  pub places_alone : (h : Hand) (said : Said) (new : Hand) → h.alone ≡ true → IsValid h.state.tables → 2 ≤ h.left
+  pub places_alone : (h : Hand) (said : Said) (new : Hand) → h.book ≡ None → IsValid h.state.tables → 2 ≤ h.left
       → ordering caller number order h said new → (b : KeptBook) → IsNewOrder h.state.tables caller number order b
       → AcceptsExactly h.state caller number order b.released.book said new.state
   places_alone h said new alone valid left ends b fresh = by (places_order h said new valid left ends)

@@ -1,10 +1,10 @@
 -- What one knows and may do who makes steps of the desk.
---     Hand                  whether nobody else steps, the state after all that was seen, how many steps are left, and which
---                           were made
+--     Hand                  the turn book that it stands on, if others step too, the state after all that was seen, how many
+--                           steps are left, and which were made
 --     Stepped h e a new     the event e was taken and answered with a
 --     IsOver h a new        no step is left, and the answer says so
 --     Takes h e a new       the one or the other
-use Rattle.std.specs.Prelude.{◌≡◌, ◌⊎◌, ℕ, ◌+◌, Bool, true, false, List, [], ◌∷◌, ◌++◌, if◌then◌else◌}
+use Rattle.std.specs.Prelude.{◌≡◌, ◌⊎◌, ℕ, ◌+◌, List, [], ◌∷◌, ◌++◌, Option, None, Some}
 use Rattle.desk_words.specs.declared.reply.FullOf.TheVariants as full
 use Rattle.desk_words.specs.declared.reply.Reply.TheVariants as reply
 use Rattle.order_desk.specs.declared.answer.Answer.{Answer}
@@ -14,35 +14,40 @@ use Rattle.order_desk.specs.Fits.{Fits}
 use Rattle.order_desk.specs.History.{Reaches}
 use Rattle.order_desk.specs.Step.{Step}
 use Rattle.order_desk.specs.Tables.{State}
+use Rattle.turn_book.specs.Standing.{Opened}
 
 -- an event that was taken, and its answer
 pub record Made : Type 0 where
   pub event : Event
   pub answer : Answer
 
--- who is alone keeps no list of the steps made
+-- who is alone stands on no turn book, and keeps no list of the steps made
 pub record Hand : Type 0 where
-  pub alone : Bool
+  pub book : Option (Opened State)
   pub state : State
   pub left : ℕ
   pub made : List Made
 
 -- a step begins at the state that was seen; where others step too, at one that their steps lead to from there
-abbrev pub Begins : Bool → State → State → Type 0
-Begins true seen first = first ≡ seen
-Begins false seen first = Reaches seen first
+abbrev pub Begins : Option (Opened State) → State → State → Type 0
+Begins None seen first = first ≡ seen
+Begins (Some book) seen first = Reaches seen first
+
+abbrev pub with_made : Option (Opened State) → List Made → Made → List Made
+with_made None made one = made
+with_made (Some book) made one = made ++ one ∷ []
 
 abbrev pub made_then : Hand → Event → Answer → List Made
-made_then h event answer = if h.alone then h.made else h.made ++ record { event = event; answer = answer } ∷ []
+made_then h event answer = with_made h.book h.made (record { event = event; answer = answer })
 
 pub record Stepped (h : Hand) (event : Event) (answer : Answer) (new : Hand) : Type 0 where
   pub first : State
-  pub begins : Begins h.alone h.state first
+  pub begins : Begins h.book h.state first
   pub fits : Fits first.tables event
   pub step : Step first event answer new.state
   pub left : h.left ≡ new.left + 1
   pub made : new.made ≡ made_then h event answer
-  pub alone : new.alone ≡ h.alone
+  pub book : new.book ≡ h.book
 
 pub record IsOver (h : Hand) (answer : Answer) (new : Hand) : Type 0 where
   pub said : answer ≡ Say (reply.Full full.Calls)

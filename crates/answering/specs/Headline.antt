@@ -72,7 +72,7 @@ pub record LastStep (h : Hand) (caller : List ℕ) (number : ℕ) (order : Order
   pub its_event : (event ≡ Look caller number order) ⊎ (event ≡ Place caller number order)
   pub before : IsLaterHand h between
   pub step : Stepped between event answer new
-  pub at_once : h.alone ≡ true → step.first ≡ h.state
+  pub at_once : h.book ≡ None → step.first ≡ h.state
 
 abbrev pub PlacesOrder : Hand → List ℕ → ℕ → OrderWords → Said → Hand → Type 0
 PlacesOrder h caller number order said new =

@@ -1,6 +1,6 @@
 -- What calls come to for the holder who makes their steps.
 --     IsLaterHand h new    legal steps lead from h to new: of the holder and, where it isn't alone, of others
-use Rattle.std.specs.Prelude.{◌≡◌, ◌+◌, ◌≤◌, List, ◌++◌, MatchBool, length}
+use Rattle.std.specs.Prelude.{◌≡◌, ◌+◌, ◌≤◌, List, ◌++◌, MatchOption, length}
 use Rattle.order_desk.specs.History.{Reaches}
 use Rattle.answering.specs.Hand.{Hand, Made}
 
@@ -12,5 +12,5 @@ AddsSteps h new = (more : List Made) × (new.made ≡ h.made ++ more) × (length
 pub record IsLaterHand (h new : Hand) : Type 0 where
   pub reaches : Reaches h.state new.state
   pub left : new.left ≤ h.left
-  pub made : MatchBool h.alone (new.made ≡ h.made) (AddsSteps h new)
-  pub alone : new.alone ≡ h.alone
+  pub made : MatchOption h.book (new.made ≡ h.made) (λ book. AddsSteps h new)
+  pub book : new.book ≡ h.book

@@ -4,4 +4,6 @@ pub mod Told
 pub mod Answers
 pub mod LaterHand
 pub mod Alone
+pub mod Seat
 pub mod Headline
+pub mod Dealt

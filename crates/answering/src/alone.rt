@@ -45,6 +45,11 @@ impl<P: Keeper> Turns for Alone<P> {
 
     ghost hand = { λ a. hand_alone a };
 
+    fn left(&self) -> u64 {
+        let _counts = self.desk.counts();
+        self.left
+    }
+
     fn step(&mut self, event: Event) -> Answer {
         if self.left == 0 {
             let _counts = self.desk.counts();

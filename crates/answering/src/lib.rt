@@ -8,10 +8,12 @@ mod headline;
 mod one_event;
 mod orders;
 mod said;
+mod seat;
 mod turns;
 
 pub use alone::Alone;
 pub use calls::{answer_call, answers_law};
 pub use headline::headline_laws;
 pub use said::Said;
+pub use seat::Seat;
 pub use turns::Turns;

@@ -1,4 +1,5 @@
 //! Who makes steps of the desk.
+ghost use Rattle.std.specs.Prelude.{◌≡◌};
 ghost use Rattle.order_desk.specs.Fits.{Fits};
 ghost use Rattle.order_desk.specs.Valid.{IsValid};
 ghost use Rattle.answering.specs.Hand.{Takes};
@@ -11,6 +12,11 @@ pub trait Turns {
 
     /// What the holder knows and may do.
     ghost hand: { Self → Hand };
+
+    /// How many steps are left. The state that was seen is valid.
+    fn left(&self) -> u64
+        ensures left { result ≡ (hand self.now).left }
+        ensures valid { IsValid (hand self.now).state.tables };
 
     /// The answer to an event. Where no step is left it says that the calls are used up, and nothing changes.
     fn step(&mut self, event: Event) -> Answer

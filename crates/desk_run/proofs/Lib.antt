@@ -1,4 +1,5 @@
 mod Faults
+mod Dealt
 mod Serving
 pub mod Released
 pub mod Sure

@@ -54,11 +54,11 @@ served : (end : SessionEnd) (before after : DeskOutside) → IsOrderly before �
     → IsDoneOrMemory (Served end)
 served Done before after orderly nowhere is = inl refl
 served Broken before after orderly nowhere is =
-    let s = is.served.session in
+    let s = is.served.dealt.session in
     absurd (not_broken s.stop before.link.input.left s.due.messages s.stops orderly.stream s.due.read)
-served (ReadFault fault) before after orderly nowhere is = absurd (nowhere.source is.served.session.counted.fails)
+served (ReadFault fault) before after orderly nowhere is = absurd (nowhere.source is.served.dealt.session.counted.fails)
 served (WriteFault fault) before after orderly nowhere is =
-    let s = is.served.session in
+    let s = is.served.dealt.session in
     absurd (nowhere.sink is.old s.stop s.out is.served.new is.started s.due s.written.refused)
 served Memory before after orderly nowhere is = inr (inl refl)
 

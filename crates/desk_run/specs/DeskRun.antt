@@ -16,7 +16,8 @@ use Rattle.order_desk.specs.Tables.{State}
 use Rattle.order_desk.specs.Valid.{IsValid}
 use Rattle.answering.specs.Alone.{hand_alone}
 use Rattle.answering.specs.Hand.{Hand}
-use Rattle.session.specs.Session.{LinkTold, IsSession}
+use Rattle.session.specs.Dealing.{HasDealt}
+use Rattle.session.specs.Session.{LinkTold}
 use Rattle.session.specs.declared.end.SessionEnd.{SessionEnd}
 use Rattle.desk_run.specs.declared.end.DeskEnd.{DeskEnd}
 use Rattle.desk_run.specs.declared.end.DeskEnd.TheVariants.{NotStarted, Served}
@@ -56,7 +57,7 @@ hand_at old = hand_alone (record { state = old; left = MOST_STEPS })
 -- a desk in this state served the link, and its keeper was handed back with the rows of the last state
 pub record ServesLink (old : State) (end : SessionEnd) (link : LinkTold) (after : DeskOutside) : Type 0 where
   pub new : Hand
-  pub session : IsSession end (hand_at old) link after.link new
+  pub dealt : HasDealt end (hand_at old) link after.link new
   pub reaches : Reaches old new.state
   pub valid : IsValid new.state.tables
   pub rows : IfSome after.rows (λ rows. rows ≡ rows_of new.state.tables)

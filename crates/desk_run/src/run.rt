@@ -1,6 +1,7 @@
 //! The run: a desk is started, serves one link, and is finished.
 ghost use Rattle.answering.specs.LaterHand.{IsLaterHand};
-ghost use Rattle.session.specs.Session.{IsSession, told};
+ghost use Rattle.session.specs.Dealing.{HasDealt};
+ghost use Rattle.session.specs.Session.{told};
 ghost use Rattle.desk_run.specs.DeskRun.{IsDeskRun, ServesLink, outside};
 ghost use Rattle.desk_run.specs.Released.{HasReleasedBooks};
 ghost use Rattle.desk_run.specs.Sure.{IsDoneOrMemory, IsOrderly, IsSure, IsUnfailing};
@@ -103,9 +104,9 @@ fn serve_ends<S: Source, K: Sink, T: Turns, G: Gate>(
     turns: &mut T,
     gate: &G,
 ) -> SessionEnd
-    ensures serves { let link = told (S.input source.old) (K.output sink.old) in
+    ensures dealt { let link = told (S.input source.old) (K.output sink.old) in
         let link' = told (S.input source.new) (K.output sink.new) in
-        IsSession result (T.hand turns.old) link link' (T.hand turns.new) }
+        HasDealt result (T.hand turns.old) link link' (T.hand turns.new) }
     ensures steps { IsLaterHand (T.hand turns.old) (T.hand turns.new) }
 {
     session(alloc, &mut Halves::new(source, sink), turns, gate)

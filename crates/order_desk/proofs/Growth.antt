@@ -1,9 +1,8 @@
 -- What a change of the tables leaves as it is, and that each step, and so each legal history, leaves it so.
-use Rattle.std.proofs.Common.{◌≡◌, ℕ, ◌+◌, ◌-◌, ◌==◌, zero, suc, Bool, true, false, List, [], ◌∷◌, ◌++◌, Option, None, Some, refl, sym, subst, ◌∙◌, arith, inl, inr}
-use Rattle.std.specs.Prelude.{Result, Ok, Err, not, ok_or, ◌⊎◌, nat_lt, length, slice_get, slice_set, if◌then◌else◌}
+use Rattle.std.proofs.Common.{◌≡◌, ℕ, ◌+◌, ◌-◌, ◌==◌, zero, suc, Bool, true, false, List, [], ◌∷◌, ◌++◌, Option, None, Some, refl, sym, subst, ◌∙◌, arith}
+use Rattle.std.specs.Prelude.{Result, Ok, Err, not, ok_or, nat_lt, slice_get, slice_set, if◌then◌else◌}
 use Rattle.desk_words.specs.declared.order_words.OrderWords.{OrderWords}
 use Rattle.order_desk.specs.declared.answer.Answer.{Answer}
-use Rattle.order_desk.specs.declared.answer.Answer.TheVariants as answer
 use Rattle.order_desk.specs.declared.limits.TheConstants.{MOST_REVISION}
 use Rattle.desk_words.specs.declared.reply.Reply.TheVariants as reply
 use Rattle.desk_words.specs.declared.reply.Reply.{Reply}
@@ -16,9 +15,9 @@ use Rattle.order_desk.specs.declared.event.Event.{Event}
 use Rattle.order_desk.specs.declared.event.Event.TheVariants as event
 use Rattle.order_desk.specs.declared.kept_book.KeptBook.{KeptBook}
 use Rattle.order_desk.specs.declared.order_key.OrderKey.{OrderKey}
-use Rattle.order_desk.specs.Effect.{Effect, says, shows, keeps, go_on, effect, draft_of, owned, next_of, next_draft, put_draft, give_draft, read_draft, read_owner, to_release, to_take, take_draft, commit, book_of, read_book, read_cert, withdraw, shows_kept, same_order, unless_kept, to_place, look, place, read_order}
+use Rattle.order_desk.specs.Effect.{effect, draft_of, owned, next_of, next_draft, book_of, place}
 use Rattle.order_desk.specs.History.{Stays, IsLaterDraft, IsLaterBook, IsSameOrder, Grows, IsLegal, Reaches}
-use Rattle.order_desk.specs.Step.{Follows, Step, IsKept, IsNotKept}
+use Rattle.order_desk.specs.Step.{Step}
 use Rattle.order_desk.specs.Tables.{Tables, State, key_of, draft_at, book_at, order_at, with_draft, with_book, with_order, with_withdrawn}
 use Rattle.order_desk.proofs.EffectWrites.{Changes, effect_writes, followed}
 use Rattle.order_desk.proofs.Entries.{stays-insert, stays-same}
@@ -191,7 +190,7 @@ event_grows t (event.ReadOrder caller number) = tt
 
 -- ---- each step, and each history
 
-step_grows : (old : State) (e : Event) (given : Answer) (new : State) → Step old e given new → Grows old.tables new.tables
+pub step_grows : (old : State) (e : Event) (given : Answer) (new : State) → Step old e given new → Grows old.tables new.tables
 step_grows old e given new f =
     followed (Grows old.tables) (effect old.tables e) old given new (grows-same old.tables)
     (effect_writes (Grows old.tables) old.tables e (event_grows old.tables e)) f

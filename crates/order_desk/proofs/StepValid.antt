@@ -1,5 +1,5 @@
 -- Each step of a fitting event leaves valid tables valid, and so does each legal history.
-use Rattle.std.proofs.Common.{◌≡◌, ℕ, false, List, [], ◌∷◌, sym, subst}
+use Rattle.std.proofs.Common.{false, List, [], ◌∷◌, sym, subst}
 use Rattle.order_desk.specs.declared.answer.Answer.{Answer}
 use Rattle.order_desk.specs.declared.event.Event.{Event}
 use Rattle.order_desk.specs.declared.event.Event.TheVariants as event

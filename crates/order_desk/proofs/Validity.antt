@@ -14,7 +14,7 @@ use Rattle.order_desk.specs.Valid.{HasRoom, IsDraft, IsValid, are_of_one}
 use Rattle.order_desk.proofs.Entries.{weaker, sorted-insert, all-insert, length-new, length-over}
 use Rattle.order_desk.proofs.Growth.{grows-with_draft, grows-with_book, grows-with_withdrawn, place_of_number}
 use Rattle.order_desk.proofs.Keys.{by_name_total, by_name_exact, by_key_total, by_key_exact}
-use Rattle.order_desk.proofs.Lasting.{release_stays, placed_stays}
+use Rattle.order_desk.specs.Lasting.{release_stays, placed_stays}
 
 -- ---- a draft
 

@@ -7,6 +7,8 @@ pub mod Judging
 pub mod Fits
 pub mod Valid
 pub mod History
+pub mod Lasting
+pub mod Turn
 pub mod Rows
 pub mod RightRows
 pub mod Start

@@ -15,6 +15,7 @@ mod order_rows;
 mod rising;
 mod shared_book;
 mod start;
+mod turn;
 mod withdrawn_rows;
 mod writing;
 

@@ -15,7 +15,7 @@ on_asked : (asked : Result Call Denied) (m : Message) (h : Hand) (text : List �
 on_asked (Ok call) m h text new answers = on_course call.caller call.what h answers.0 new answers.1
 on_asked (Err denied) m h text new answers = subst (λ (k : Hand). IsLaterHand h k) (sym answers.1) (hand_same h)
 
-on_message : (m : Message) (h : Hand) (text : List ℕ) (new : Hand) → AnswersMessage m h text new → IsLaterHand h new
+pub on_message : (m : Message) (h : Hand) (text : List ℕ) (new : Hand) → AnswersMessage m h text new → IsLaterHand h new
 on_message m h text new (inl call) = on_asked call.asked m h text new call.answers
 on_message m h text new (inr unasked) = subst (λ (k : Hand). IsLaterHand h k) (sym unasked.no_effect) (hand_same h)
 

@@ -6,3 +6,4 @@ mod Ending
 mod Ranges
 mod Asked
 mod Hands
+mod Dealings

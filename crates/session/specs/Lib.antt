@@ -1,4 +1,5 @@
 pub mod Reading
 pub mod Responses
 pub mod Session
+pub mod Dealing
 pub mod Steps

@@ -1,6 +1,7 @@
 //! The messages of one link, answered in order.
 ghost use Rattle.std.specs.Prelude.{◌≡◌, OnOk, IfErr};
 ghost use Rattle.answering.specs.LaterHand.{IsLaterHand};
+ghost use Rattle.session.specs.Dealing.{HasDealt};
 ghost use Rattle.session.specs.Session.{IsSession, told};
 ghost use Rattle.session.specs.Steps.{GoesOn, seen};
 
@@ -28,8 +29,28 @@ pub fn session<L: Link, T: Turns, G: Gate>(
     ensures serves { let before = told (L.input link.old) (L.output link.old) in
         let after = told (L.input link.new) (L.output link.new) in
         IsSession result (T.hand turns.old) before after (T.hand turns.new) }
+    // In the words of the trade.
+    ensures dealt { let before = told (L.input link.old) (L.output link.old) in
+        let after = told (L.input link.new) (L.output link.new) in
+        HasDealt result (T.hand turns.old) before after (T.hand turns.new) }
     // Whatever the link tells.
     ensures steps { IsLaterHand (T.hand turns.old) (T.hand turns.new) }
+    ensures same_names { L.names link.new ≡ L.names link.old }
+{
+    let _left = turns.left();
+    begin(alloc, link, turns, gate)
+}
+
+// The same, where the holder has seen valid tables.
+fn begin<L: Link, T: Turns, G: Gate>(
+    alloc: Global,
+    link: &mut L,
+    turns: &mut T,
+    gate: &G,
+) -> SessionEnd
+    ensures serves { let before = told (L.input link.old) (L.output link.old) in
+        let after = told (L.input link.new) (L.output link.new) in
+        IsSession result (T.hand turns.old) before after (T.hand turns.new) }
     ensures same_names { L.names link.new ≡ L.names link.old }
 {
     match Routes::new(alloc) {

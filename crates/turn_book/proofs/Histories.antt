@@ -56,6 +56,12 @@ module _ {M C R : Type 0} where
     history_front x [] ys h = tt
     history_front x (e ∷ es) ys h = (h.0, h.1, history_front e.after es ys h.2)
 
+    -- what each legal step keeps to, the history keeps to
+    pub history_weaker : (less : M → C → R → M → Type 0) → ((x : M) (c : C) (r : R) (y : M) → legal x c r y → less x c r y)
+        → (x : M) (log : List (Entry M C R)) → IsHistory fits legal x log → IsHistory fits less x log
+    history_weaker less so x [] h = tt
+    history_weaker less so x (e ∷ es) h = (h.0, so x e.call e.reply e.after h.1, history_weaker less so e.after es h.2)
+
     module _ (valid : M → Type 0) (stays_valid : StaysValid valid fits legal) where
       pub end_valid : (x : M) (xs : List (Entry M C R)) → valid x → IsHistory fits legal x xs → valid (end_of x xs)
       end_valid x [] v h = v

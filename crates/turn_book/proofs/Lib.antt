@@ -1,5 +1,6 @@
 pub mod Totals
 pub mod Histories
+pub mod Places
 pub mod Seats
 pub mod Tickets
 pub mod Counting

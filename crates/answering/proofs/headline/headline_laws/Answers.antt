@@ -1,6 +1,7 @@
 use Rattle.std.proofs.Common.{subst}
 use Rattle.desk_words.specs.declared.call.What.{What}
 use Rattle.answering.specs.Answers.{course_of}
+use Rattle.answering.proofs.BookNames.{is_dealt, released_book}
 use Rattle.answering.proofs.NewOrders.{places_alone, places_order}
 use Rattle.answering.proofs.headline.headline_laws.Goals as goal
 
@@ -12,3 +13,9 @@ pub returns-clause-alone : goal.returns-clause-alone
 returns-clause-alone c call number order h said new b is valid left answers alone fresh =
     places_alone call.caller number order h said new alone valid left
     (subst (λ (w : What). course_of call.caller w h said new) is answers) b fresh
+
+pub returns-clause-books : goal.returns-clause-books
+returns-clause-books c = released_book
+
+pub returns-clause-calls : goal.returns-clause-calls
+returns-clause-calls c call h said new valid answers = is_dealt call h said new valid answers

@@ -1,0 +1,120 @@
+-- A call of a pass is a step of the one who holds it.
+use Rattle.std.proofs.Common.{◌≡◌, ◌∙◌, ℕ, ◌+◌, ◌-◌, List, [], ◌∷◌, ◌++◌, length, map, refl, sym, ap, subst, arith, length-append}
+use Rattle.std.proofs.lemmas.List.{map-append}
+use Rattle.turn_book.specs.History.{AddsCall, IsHistory, end_of, entry}
+use Rattle.turn_book.specs.Places.{Rises, at_places}
+use Rattle.turn_book.specs.Standing.{Opened, Standing}
+use Rattle.turn_book.specs.declared.entry.Entry.{Entry}
+use Rattle.turn_book.proofs.Histories.{end_of_append, history_front, history_rest, history_weaker}
+use Rattle.turn_book.proofs.Places.{at_last, at_places_append, at_places_longer, rises_push, rises_wider}
+use Rattle.order_desk.specs.declared.answer.Answer.{Answer}
+use Rattle.order_desk.specs.declared.event.Event.{Event}
+use Rattle.order_desk.specs.Fits.{Fits}
+use Rattle.order_desk.specs.History.{IsLegal}
+use Rattle.order_desk.specs.Step.{Step}
+use Rattle.order_desk.specs.Tables.{State}
+use Rattle.order_desk.specs.Turn.{IsTurn}
+use Rattle.order_desk.specs.Valid.{IsValid}
+use Rattle.answering.specs.Hand.{Stepped}
+use Rattle.answering.specs.Seat.{IsSeated, hand_of, made_of, sitting}
+
+-- a pass that has seen nothing
+pub seated_new : (book : Opened State) (pass : Standing State Event Answer) → pass.table ≡ book.table → pass.seen ≡ [] → pass.own ≡ []
+    → IsValid book.start.tables → IsSeated (sitting book pass)
+seated_new book pass table seen own valid = record {
+  table = table;
+  legal = subst (IsLegal book.start) (sym seen) tt;
+  valid = subst (λ (l : List (Entry State Event Answer)). IsValid (end_of book.start l).tables) (sym seen) valid;
+  rises = subst (Rises 0 (length pass.seen)) (sym own) (omega arith);
+}
+
+-- a pass that was cut off another
+pub seated_cut : (book : Opened State) (pass cut : Standing State Event Answer) → cut.table ≡ pass.table → cut.seen ≡ pass.seen → cut.own ≡ []
+    → IsSeated (sitting book pass) → IsSeated (sitting book cut)
+seated_cut book pass cut table seen own seated = record {
+  table = table ∙ seated.table;
+  legal = subst (IsLegal book.start) (sym seen) seated.legal;
+  valid = subst (λ (l : List (Entry State Event Answer)). IsValid (end_of book.start l).tables) (sym seen) seated.valid;
+  rises = subst (Rises 0 (length cut.seen)) (sym own) (omega arith);
+}
+
+abbrev Log : Type 0
+Log = List (Entry State Event Answer)
+
+abbrev FitsAt : State → Event → Type 0
+FitsAt s event = Fits s.tables event
+
+-- a history of turns is a legal history of steps
+pub legal_turns : (start : State) (log : Log) → IsHistory FitsAt IsTurn start log → IsLegal start log
+legal_turns start log history = history_weaker FitsAt IsTurn Step (λ x c r y turn. turn.step) start log history
+
+module _ (book : Opened State) (pass : Standing State Event Answer) (seated : IsSeated (sitting book pass)) (event : Event) (answer : Answer)
+    (between : Log) (after : State) where
+  abbrev front : Log
+  front = pass.seen ++ between
+
+  abbrev one : Entry State Event Answer
+  one = entry event answer after
+
+  -- the pass behind the call
+  abbrev next : ℕ → Standing State Event Answer
+  next left = record { table = pass.table; seen = front ++ one ∷ []; own = pass.own ++ length front ∷ []; left = left }
+
+  rises_front : Rises 0 (length front) pass.own
+  rises_front =
+      rises_wider 0 0 (length pass.seen) (length front) pass.own (omega arith) (omega (arith, length-append pass.seen between)) seated.rises
+
+  own_made : at_places (front ++ one ∷ []) (pass.own ++ length front ∷ []) ≡ at_places pass.seen pass.own ++ one ∷ []
+  own_made =
+      at_places_append (front ++ one ∷ []) pass.own (length front ∷ [])
+      ∙ ap (λ (l : Log). l ++ at_places (front ++ one ∷ []) (length front ∷ [])) (at_places_longer 0 front (one ∷ []) pass.own rises_front
+      ∙ at_places_longer 0 pass.seen between pass.own seated.rises)
+      ∙ ap (λ (l : Log). at_places pass.seen pass.own ++ l) (at_last front one)
+
+  steps : (left : ℕ) → left + 1 ≡ pass.left → IsLegal book.start (front ++ one ∷ [])
+      → Stepped (hand_of (sitting book pass)) event answer (hand_of (sitting book (next left)))
+  steps left fewer legal =
+      let last = history_rest FitsAt Step book.start front (one ∷ []) legal in
+      let until = history_front FitsAt Step book.start front (one ∷ []) legal in
+      record {
+        first = end_of book.start front;
+        begins = (between, history_rest FitsAt Step book.start pass.seen between until, sym (end_of_append book.start pass.seen between));
+        fits = last.0;
+        step = subst (λ (s : State). Step (end_of book.start front) event answer s) (sym (end_of_append book.start front (one ∷ []))) last.1;
+        left = sym fewer;
+        made = ap (map made_of) own_made ∙ map-append made_of (at_places pass.seen pass.own) (one ∷ []);
+        book = refl;
+      }
+
+  seated_next : (left : ℕ) → IsLegal book.start (front ++ one ∷ []) → IsValid (end_of book.start (front ++ one ∷ [])).tables
+      → IsSeated (sitting book (next left))
+  seated_next left legal valid = record {
+    table = seated.table;
+    legal = legal;
+    valid = valid;
+    rises = subst (λ (n : ℕ). Rises 0 n (pass.own ++ length front ∷ [])) (sym (length-append front (one ∷ [])))
+        (rises_push 0 (length front) pass.own rises_front);
+  }
+
+pub record IsCalled (book : Opened State) (pass : Standing State Event Answer) (event : Event) (answer : Answer) (new : Standing State Event Answer)
+    : Type 0 where
+  pub step : Stepped (hand_of (sitting book pass)) event answer (hand_of (sitting book new))
+  pub seated : IsSeated (sitting book new)
+
+pub called : (book : Opened State) (pass new : Standing State Event Answer) (event : Event) (answer : Answer) → IsSeated (sitting book pass)
+    → new.table ≡ pass.table → IsHistory FitsAt IsTurn book.start new.seen → IsValid (end_of book.start new.seen).tables
+    → AddsCall pass.seen event answer new.seen → new.own ≡ pass.own ++ (length new.seen - 1) ∷ [] → new.left + 1 ≡ pass.left
+    → IsCalled book pass event answer new
+called book pass new event answer seated table history valid (between, after, adds) place left =
+    let all = (pass.seen ++ between) ++ entry event answer after ∷ [] in
+    let front = pass.seen ++ between in
+    let legal : IsLegal book.start all = subst (IsLegal book.start) adds (legal_turns book.start new.seen history) in
+    let last : length new.seen - 1 ≡ length front = omega (arith, ap length adds, length-append front (entry event answer after ∷ [])) in
+    let own : new.own ≡ pass.own ++ length front ∷ [] = place ∙ ap (λ (n : ℕ). pass.own ++ n ∷ []) last in
+    let same : new ≡ next book pass seated event answer between after new.left =
+    λ i. record { table = table i; seen = adds i; own = own i; left = new.left } in
+    subst (IsCalled book pass event answer) (sym same) (record {
+      step = steps book pass seated event answer between after new.left left legal;
+      seated = seated_next book pass seated event answer between after new.left legal
+          (subst (λ (l : Log). IsValid (end_of book.start l).tables) adds valid);
+    })

@@ -1,0 +1,48 @@
+-- A holder of the desk in turn with others: it makes its steps with the calls of a pass.
+--     Sitting       the turn book, and the pass
+--     hand_of s     what such a holder knows and may do
+--     IsSeated s    the pass is of this book, it has seen a legal history that leads to valid tables, and its own places are
+--                   places of that history, and rise
+use Rattle.std.specs.Prelude.{◌≡◌, [], Option, None, Some, length, map}
+use Rattle.order_desk.specs.declared.answer.Answer.{Answer}
+use Rattle.order_desk.specs.declared.event.Event.{Event}
+use Rattle.order_desk.specs.History.{IsLegal}
+use Rattle.order_desk.specs.Tables.{State}
+use Rattle.order_desk.specs.Valid.{IsValid}
+use Rattle.turn_book.specs.History.{end_of}
+use Rattle.turn_book.specs.Places.{Rises, at_places}
+use Rattle.turn_book.specs.Standing.{Opened, Standing}
+use Rattle.turn_book.specs.declared.entry.Entry.{Entry}
+use Rattle.answering.specs.Hand.{Hand, Made}
+
+pub record Sitting : Type 0 where
+  pub book : Opened State
+  pub pass : Standing State Event Answer
+
+abbrev pub sitting : Opened State → Standing State Event Answer → Sitting
+sitting book pass = record { book = book; pass = pass }
+
+-- the pass is away only within a step
+abbrev pub pass_of : Opened State → Option (Standing State Event Answer) → Standing State Event Answer
+pass_of book None = record { table = book.table; seen = []; own = []; left = 0 }
+pass_of book (Some pass) = pass
+
+abbrev pub state_seen : Sitting → State
+state_seen s = end_of s.book.start s.pass.seen
+
+abbrev pub made_of : Entry State Event Answer → Made
+made_of e = record { event = e.call; answer = e.reply }
+
+abbrev pub hand_of : Sitting → Hand
+hand_of s = record {
+  book = Some s.book;
+  state = state_seen s;
+  left = s.pass.left;
+  made = map made_of (at_places s.pass.seen s.pass.own);
+}
+
+pub record IsSeated (s : Sitting) : Type 0 where
+  pub table : s.pass.table ≡ s.book.table
+  pub legal : IsLegal s.book.start s.pass.seen
+  pub valid : IsValid (state_seen s).tables
+  pub rises : Rises 0 (length s.pass.seen) s.pass.own
