@@ -89,11 +89,11 @@ by_end (Served Broken) words store before after status asked h e run told =
     by_desk (record { store = store; asked = asked; runs = h; statuses = subst (λ (k : DeskEnd). IsDeskStatus k status) (sym e) told.ends })
 by_end (Served (ReadFault fault)) words store before after status asked h e run told =
     elim (Ends-of_tells (read_fault_reply Source fault.before fault.after) (outputs h.middle before.writes.log) after.writes status told) [
-      | inl whole ↦ by_inputs whole.ends (inl run.served.session.counted.fails)
-      | inr failed ↦ desk_failed words before after h.middle status run.served.session.written.count failed
+      | inl whole ↦ by_inputs whole.ends (inl run.served.dealt.session.counted.fails)
+      | inr failed ↦ desk_failed words before after h.middle status run.served.dealt.session.written.count failed
     ]
 by_end (Served (WriteFault fault)) words store before after status asked h e run told = elim told.notes [
-  | inl noted ↦ by_sink noted.1 (subst (λ (s : SinkTold). Rose before.writes.sink.faults s.faults) (sym told.sink) run.served.session.written.refused.rose)
+  | inl noted ↦ by_sink noted.1 (subst (λ (s : SinkTold). Rose before.writes.sink.faults s.faults) (sym told.sink) run.served.dealt.session.written.refused.rose)
   | inr unnoted ↦ by_memory unnoted.1
 ]
 by_end (Served Memory) words store before after status asked h e run told = by_memory told.ends

@@ -63,7 +63,7 @@ sure_or_short (Served Broken) before after orderly source keeper is =
     let s = is.served.session in
     absurd (not_broken s.stop before.link.input.left s.due.messages s.stops orderly.stream s.due.read)
 sure_or_short (Served (ReadFault fault)) before after orderly source keeper is =
-    absurd (never_fails before.link.input.faults after.link.input.faults source is.served.session.counted.fails)
+    absurd (never_fails before.link.input.faults after.link.input.faults source is.served.dealt.session.counted.fails)
 sure_or_short (Served (WriteFault fault)) before after orderly source keeper is =
     let s = is.served.session in
     inr (record {

@@ -84,7 +84,7 @@ desk_rose (Served Done) before after middle status run told rose = silent_rose _
 desk_rose (Served Broken) before after middle status run told rose = silent_rose _ middle after.writes _ told.untouched rose
 desk_rose (Served (ReadFault fault)) before after middle status run told rose =
     told_rose (read_fault_reply Source fault.before fault.after) before.writes.sink.faults (outputs middle before.writes.log) after.writes status told
-    run.served.session.written.count rose
+    run.served.dealt.session.written.count rose
 desk_rose (Served (WriteFault fault)) before after middle status run told rose =
     subst (λ (s : SinkTold). Rose before.writes.sink.faults s.faults) (sym told.sink) rose
 desk_rose (Served Memory) before after middle status run told rose = silent_rose _ middle after.writes _ told.untouched rose

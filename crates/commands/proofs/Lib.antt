@@ -6,4 +6,5 @@ pub mod Caused
 pub mod Releasable
 pub mod DeskSure
 pub mod Sure
+pub mod Traded
 pub mod Runs

@@ -7,6 +7,7 @@ use Rattle.commands.specs.Run.{IsRun}
 use Rattle.commands.proofs.Caused.{Does-caused, Does-usage}
 use Rattle.commands.proofs.Releasable.{IsCaused-released, IsCaused-blocked, Does-released}
 use Rattle.commands.proofs.Sure.{Does-sure, Does-unfailing}
+use Rattle.commands.proofs.Traded.{Does-trades}
 
 pub Does-run : (words : Words) (before after : Outside) (status : RunStatus) → Does words before after status → IsRun words before after status
 Does-run words before after status does = record {
@@ -16,6 +17,7 @@ Does-run words before after status does = record {
   released = IsCaused-released words before after status (Does-caused words before after status does);
   blocked = IsCaused-blocked words before after status (Does-caused words before after status does);
   kept_released = Does-released words before after status does;
+  trades = Does-trades words before after status does;
   complete = Does-sure words before after status does;
   unfailing = Does-unfailing words before after status does;
 }

@@ -5,5 +5,6 @@ pub mod Does
 pub mod Causes
 pub mod Released
 pub mod Complete
+pub mod Traded
 pub mod Run
 pub mod Limits

@@ -8,6 +8,7 @@ use Rattle.commands.specs.Complete.{IsValidInput, CannotFail, NoCountRose, IsAns
 use Rattle.commands.specs.Does.{Does}
 use Rattle.commands.specs.Outside.{Outside}
 use Rattle.commands.specs.Released.{AskRelease, AskCheck, AskDesk, IsReleasableInput, IsBlockedInput, KeepsReleased}
+use Rattle.commands.specs.Traded.{Trades}
 use Rattle.commands.specs.Words.{AsksNothing}
 
 pub record IsRun (words : Words) (before after : Outside) (status : RunStatus) : Type 0 where
@@ -22,6 +23,8 @@ pub record IsRun (words : Words) (before after : Outside) (status : RunStatus) :
   pub blocked : status ≡ statuses.Refused → AskCheck words → IsBlockedInput before.reads.source.left
   -- whatever the status, each book that a desk keeps can be released, those that it found at its start included
   pub kept_released : AskDesk words → KeepsReleased before after status
+  -- a desk that was started deals with each order and each release as the words of the trade say
+  pub trades : AskDesk words → Trades before after status
   -- where no call fails from here on, valid words and inputs have their answer, memory and the sink's room allowing
   pub complete : CannotFail words before → IsAnswered words before after status ⊎ LacksRoom words before after status
   -- and they have it where no count rose, memory allowing
