@@ -60,12 +60,12 @@ sure_or_short (NotStarted (Refused (Store first last))) before after orderly sou
 sure_or_short (NotStarted NoMemory) before after orderly source keeper is = inl (inr (inr refl))
 sure_or_short (Served Done) before after orderly source keeper is = inl (inl refl)
 sure_or_short (Served Broken) before after orderly source keeper is =
-    let s = is.served.session in
+    let s = is.served.dealt.session in
     absurd (not_broken s.stop before.link.input.left s.due.messages s.stops orderly.stream s.due.read)
 sure_or_short (Served (ReadFault fault)) before after orderly source keeper is =
     absurd (never_fails before.link.input.faults after.link.input.faults source is.served.dealt.session.counted.fails)
 sure_or_short (Served (WriteFault fault)) before after orderly source keeper is =
-    let s = is.served.session in
+    let s = is.served.dealt.session in
     inr (record {
       fault = fault;
       ends = refl;
