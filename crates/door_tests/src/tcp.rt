@@ -1,0 +1,121 @@
+//! Connections over TCP, from this machine to itself.
+ghost use Rattle.std.specs.Prelude.{◌≡◌, false, IfOk};
+
+use pb_door::{Door, DoorPort};
+use pb_outside::{OutError, Sink, Source};
+use std::alloc::Global;
+use std::io::{Read, Write};
+use std::net::{Net, Shutdown, SocketAddr, TcpListener, TcpStream};
+use std::test::Fail;
+use std::{io, thread};
+use tcp_door::{TcpDoor, TcpLink, TcpPort};
+
+// How many pieces a long request has: 2 MiB in all.
+const PIECES: u32 = 256;
+
+// The port of a door for one worker.
+fn only_port<R: Net<Listener = TcpListener, Stream = TcpStream>>(
+    alloc: Global,
+    door: &mut TcpDoor<'_, R>,
+    links: u32,
+) -> Result<TcpPort, OutError>
+    ensures { IfOk result (λ port. port.out ≡ false) }
+{
+    let mut ports = door.listen(alloc, 0, 1, links)?;
+    match ports.pop() {
+        Some(port) => Ok(port),
+        None => Err(OutError::Memory),
+    }
+}
+
+// Reads what a link gives, to its end.
+fn read_all(alloc: Global, link: &mut TcpLink) -> Result<Vec<u8>, OutError> {
+    let mut bytes = Vec::new(alloc);
+    for _ in 0..100_000 {
+        if link.read(&mut bytes, 8_192)? == 0 {
+            break;
+        }
+    }
+    Ok(bytes)
+}
+
+#[test]
+fn links_come_and_go(rt: HostRuntime) -> Result<(), Fail> {
+    let alloc = rt.alloc();
+    let mut door = TcpDoor::new(alloc, &rt);
+    let mut port = only_port(alloc, &mut door, 2)?;
+    let address = port.address()?;
+    let mut client = TcpStream::connect(&rt, address)?;
+    client.write_all(b"ping")?;
+    client.shutdown(Shutdown::Write)?;
+    match port.next()? {
+        Some(mut link) => {
+            assert_eq!(rt; read_all(alloc, &mut link)?.as_slice(), b"ping".as_slice());
+            link.write(b"pong")?;
+            port.done(link);
+        }
+        None => panic!(rt; "a connection waits"),
+    }
+    let mut answer = Vec::new(alloc);
+    client.read_to_end(&mut answer)?;
+    assert_eq!(rt; answer.as_slice(), b"pong".as_slice());
+    let second = TcpStream::connect(&rt, address)?;
+    second.shutdown(Shutdown::Write)?;
+    match port.next()? {
+        Some(link) => port.done(link),
+        None => panic!(rt; "a second connection waits"),
+    }
+    assert!(rt; port.next()?.is_none());
+    assert_eq!(rt; port.faults(), 0);
+    Ok(())
+}
+
+// Sends a long request and reads the answer only then.
+fn send_all<R: Net<Listener = TcpListener, Stream = TcpStream>>(
+    rt: &R,
+    alloc: Global,
+    address: SocketAddr,
+) -> io::Result<Vec<u8>> {
+    let mut client = TcpStream::connect(rt, address)?;
+    let piece = [0; 8_192];
+    for _ in 0..PIECES {
+        client.write_all(&piece)?;
+    }
+    let mut answer = Vec::new(alloc);
+    client.read_to_end(&mut answer)?;
+    Ok(answer)
+}
+
+// Refuses the next link when it has read a few bytes of it.
+fn refuse_early(alloc: Global, port: &mut TcpPort) -> Result<(), OutError>
+    requires { port.old.out ≡ false }
+{
+    match port.next()? {
+        Some(mut link) => {
+            let mut bytes = Vec::new(alloc);
+            let read = link.read(&mut bytes, 100);
+            let written = link.write(b"too large");
+            port.done(link);
+            read?;
+            written
+        }
+        None => Err(OutError::Memory),
+    }
+}
+
+#[test]
+fn an_early_refusal_reaches_a_client_that_sends_on(rt: HostRuntime) -> Result<(), Fail> {
+    let alloc = rt.alloc();
+    let mut door = TcpDoor::new(alloc, &rt);
+    let mut port = only_port(alloc, &mut door, 1)?;
+    let address = port.address()?;
+    let (rt, port) = (&rt, &mut port);
+    let (refused, answer) = thread::join(
+        rt,
+        move || refuse_early(alloc, port),
+        move || send_all(rt, alloc, address),
+    );
+    refused?;
+    assert_eq!(rt; answer?.as_slice(), b"too large".as_slice());
+    Ok(())
+}

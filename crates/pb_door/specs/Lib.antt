@@ -1,0 +1,5 @@
+pub mod LinkTold
+pub mod PortTold
+pub mod DoorTold
+pub mod MemoryPort
+pub mod MemoryDoor
