@@ -1,0 +1,2 @@
+mod OnePut
+mod Stopped

@@ -1,0 +1,48 @@
+use Rattle.std.proofs.Common.{ap, ◌∙◌}
+use Rattle.std.specs.Option.{option_map}
+use Rattle.std.proofs.lemmas.Result.{on_ok_weaker, on_err_weaker}
+use Rattle.keeper.specs.Rows.{begun}
+use Rattle.journal_keeper.specs.Stage.{seen_by, IsBegun}
+use Rattle.journal_keeper.proofs.Moments.{and_then, widened}
+use Rattle.journal_keeper.proofs.Told.{at_err}
+use Rattle.journal_keeper.proofs.Begins.{begun_left}
+use Rattle.journal_keeper.proofs.Answered.{sound_stays, begun_wider}
+use Rattle.journal_keeper.proofs.beginning.begin.Goals as goal
+
+pub returns-in_err-file-clause-sound : goal.returns-in_err-file-clause-sound
+returns-in_err-file-clause-sound g c =
+    sound_stays c.args.stage.now (g.D.Disk.content c.args.disk.now) (g.D.Disk.content c.read_synced.new.disk) (g.D.Disk.may_leave c.args.disk.now) (g.D.Disk.may_leave c.read_synced.new.disk)
+    c.read_synced.ensures.kept c.read_synced.ensures.crash c.requires
+
+pub returns-in_err-file-clause-unchanged : goal.returns-in_err-file-clause-unchanged
+returns-in_err-file-clause-unchanged g c = at_err c.from_residual.result (ap (option_map (seen_by c.args.stage.now)) c.read_synced.ensures.kept)
+
+pub returns-in_err-file-clause-any_moment : goal.returns-in_err-file-clause-any_moment
+returns-in_err-file-clause-any_moment g c = λ file told.
+    let leaves = g.D.Disk.may_leave c.args.disk.now in
+    widened g.D.Disk.moment g.D.Disk.left_since c.args.disk.now c.read_synced.new.disk (IsBegun c.args.stage.now file leaves) leaves c.read_synced.ensures.any_moment
+    (λ image left. begun_left c.args.stage.now (g.D.Disk.content c.args.disk.now) leaves file image c.requires told left)
+
+pub begin_with-requires-clause-sound : goal.begin_with-requires-clause-sound
+begin_with-requires-clause-sound g c =
+    sound_stays c.args.stage.now (g.D.Disk.content c.args.disk.now) (g.D.Disk.content c.read_synced.new.disk) (g.D.Disk.may_leave c.args.disk.now) (g.D.Disk.may_leave c.read_synced.new.disk)
+    c.read_synced.ensures.kept c.read_synced.ensures.crash c.requires
+
+pub returns-clause-done : goal.returns-clause-done
+returns-clause-done g c =
+    on_ok_weaker c.begin_with.result (λ e. e ∙ ap (λ content. option_map begun (option_map (seen_by c.args.stage.now) content)) c.read_synced.ensures.kept) c.begin_with.ensures.done
+
+pub returns-clause-unchanged : goal.returns-clause-unchanged
+returns-clause-unchanged g c =
+    on_err_weaker c.begin_with.result (λ e. e ∙ ap (option_map (seen_by c.args.stage.now)) c.read_synced.ensures.kept) c.begin_with.ensures.unchanged
+
+pub returns-clause-any_moment : goal.returns-clause-any_moment
+returns-clause-any_moment g c = λ file told.
+    let leaves = g.D.Disk.may_leave c.args.disk.now in
+    let leaves' = g.D.Disk.may_leave c.read_synced.new.disk in
+    let P = IsBegun c.args.stage.now file leaves in
+    let first = widened g.D.Disk.moment g.D.Disk.left_since c.args.disk.now c.read_synced.new.disk P leaves c.read_synced.ensures.any_moment
+    (λ image left. begun_left c.args.stage.now (g.D.Disk.content c.args.disk.now) leaves file image c.requires told left) in
+    and_then g.D.Disk.moment g.D.Disk.left_since c.args.disk.now c.read_synced.new.disk c.begin_with.new.disk P (IsBegun c.args.stage.now file leaves') first
+    (c.begin_with.ensures.any_moment file (c.read_synced.ensures.kept ∙ told))
+    (λ image begun. begun_wider c.args.stage.now file leaves leaves' image c.read_synced.ensures.crash begun)

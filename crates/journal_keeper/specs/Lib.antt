@@ -1,0 +1,12 @@
+pub mod Disk
+pub mod Record
+pub mod Journal
+pub mod Reading
+pub mod Stage
+pub mod Sound
+pub mod Counts
+pub mod Tables
+pub mod Keeping
+pub mod Tape
+pub mod Calls
+pub mod MemoryDisk

@@ -1,0 +1,120 @@
+//! Begins a journal.
+ghost use Rattle.std.specs.Prelude.{◌≡◌, ◌≢◌, true, false, List, ℕ, IfOk, OnOk, OnErr};
+ghost use Rattle.std.specs.Option.{option_map};
+ghost use Rattle.keeper.specs.Rows.{bare, begun};
+ghost use Rattle.journal_keeper.specs.Disk.{WhereTold, Becomes, Only, LeavesOnly, CountsFaults};
+ghost use Rattle.journal_keeper.specs.Journal.{unopened};
+ghost use Rattle.journal_keeper.specs.Stage.{seen_by, counts_empty, IsBlank, KeepsBlank, IsBegun, IsFound};
+ghost use Rattle.journal_keeper.specs.Sound.{IsSound};
+
+use crate::reading::{counts_as_empty, stage_of};
+use crate::through::{cut_through, write_through};
+use crate::{Disk, Stage};
+use pb_outside::OutError;
+use std::alloc::Global;
+
+// What stands behind the first byte: the rest of the header, and a closed gate.
+const BEHIND_FIRST: &[u8] = b"PBJOURN\0";
+
+// Writes a journal without records but for its first byte.
+fn clear<D: Disk>(disk: &mut D) -> Result<(), OutError>
+    ensures done { OnOk result (D.content disk.new ≡ option_map (λ _. unopened) (D.content disk.old)) }
+    ensures durable { OnOk result (WhereTold (D.content disk.new) (λ file. Only file
+        (D.may_leave disk.new))) }
+    ensures kept { OnErr result (Becomes KeepsBlank (D.content disk.old) (D.content disk.new)) }
+    ensures any_moment { WhereTold (D.content disk.old) (λ file. IsBlank file → Only file
+        (D.may_leave disk.old)
+        → LeavesOnly D.moment D.left_since disk.old disk.new IsBlank) }
+    ensures no_memory { result ≢ Err OutError.Memory }
+    ensures count { CountsFaults result (D.failures disk.old) (D.failures disk.new) }
+{
+    cut_through(disk, 0)?;
+    write_through(disk, 0, &[0])?;
+    write_through(disk, 1, BEHIND_FIRST)?;
+    Ok(())
+}
+
+// Makes a journal without records of what counts as an empty store.
+fn format<D: Disk>(disk: &mut D, stage: &mut Stage) -> Result<(), OutError>
+    requires empty { WhereTold (D.content disk.old) (λ file. (counts_empty stage.old file
+        ≡ true) × IsBlank file) }
+    requires durable { WhereTold (D.content disk.old) (λ file. Only file (D.may_leave disk.old)) }
+    ensures sound { IsSound stage.new (D.content disk.new) (D.may_leave disk.new) }
+    ensures done { OnOk result (option_map (seen_by stage.new) (D.content disk.new)
+        ≡ option_map (λ _. bare 2) (D.content disk.old)) }
+    ensures unchanged { OnErr result (option_map (seen_by stage.new) (D.content disk.new)
+        ≡ option_map (λ _. bare 0) (D.content disk.old)) }
+    ensures found { OnOk result (stage.new ≡ Stage.Open 8 false) }
+    ensures any_moment { WhereTold (D.content disk.old) (λ _.
+        LeavesOnly D.moment D.left_since disk.old disk.new IsBlank) }
+    ensures no_memory { result ≢ Err OutError.Memory }
+    ensures count { CountsFaults result (D.failures disk.old) (D.failures disk.new) }
+{
+    clear(disk)?;
+    // From here on the journal may be there.
+    *stage = Stage::Late;
+    write_through(disk, 0, &[1])?;
+    *stage = Stage::Open {
+        gate: 8,
+        in_doubt: false,
+    };
+    Ok(())
+}
+
+// Begins with a file that was read, all of it on the disk.
+fn begin_with<D: Disk>(disk: &mut D, stage: &mut Stage, file: &[u8]) -> Result<(), OutError>
+    requires sound { IsSound stage.old (D.content disk.old) (D.may_leave disk.old) }
+    requires read { WhereTold (D.content disk.old) (λ told. file.now ≡ told) }
+    requires durable { WhereTold (D.content disk.old) (λ file. Only file (D.may_leave disk.old)) }
+    ensures sound { IsSound stage.new (D.content disk.new) (D.may_leave disk.new) }
+    ensures done { OnOk result (option_map (seen_by stage.new) (D.content disk.new)
+        ≡ option_map begun (option_map (seen_by stage.old) (D.content disk.old))) }
+    ensures unchanged { OnErr result (option_map (seen_by stage.new) (D.content disk.new)
+        ≡ option_map (seen_by stage.old) (D.content disk.old)) }
+    ensures found { OnOk result (WhereTold (D.content disk.new) (IsFound stage.new)) }
+    ensures any_moment { WhereTold (D.content disk.old) (λ file.
+        LeavesOnly D.moment D.left_since disk.old disk.new (IsBegun stage.old file (D.may_leave disk.old))) }
+    ensures no_memory { result ≢ Err OutError.Memory }
+    ensures count { CountsFaults result (D.failures disk.old) (D.failures disk.new) }
+{
+    if counts_as_empty(*stage, file) {
+        return format(disk, stage);
+    }
+    let Stage::Shut = *stage else {
+        return Ok(());
+    };
+    *stage = stage_of(file);
+    Ok(())
+}
+
+// The file, all of it on the disk.
+fn read_synced<D: Disk>(alloc: Global, disk: &mut D) -> Result<Vec<u8>, OutError>
+    ensures bytes { IfOk result (λ bytes. WhereTold (D.content disk.new) (λ file. bytes.items ≡ file)) }
+    ensures kept { D.content disk.new ≡ D.content disk.old }
+    ensures durable { OnOk result (WhereTold (D.content disk.new) (λ file. Only file
+        (D.may_leave disk.new))) }
+    ensures crash { (image : List ℕ) → D.may_leave disk.new image → D.may_leave disk.old image }
+    ensures any_moment { LeavesOnly D.moment D.left_since disk.old disk.new (D.may_leave disk.old) }
+    ensures count { CountsFaults result (D.failures disk.old) (D.failures disk.new) }
+{
+    disk.sync()?;
+    disk.read(alloc)
+}
+
+/// Begins to keep rows. A store that counts as empty becomes a journal without records, and every other file is left as
+/// it is.
+pub(crate) fn begin<D: Disk>(alloc: Global, disk: &mut D, stage: &mut Stage) -> Result<(), OutError>
+    requires { IsSound stage.old (D.content disk.old) (D.may_leave disk.old) }
+    ensures sound { IsSound stage.new (D.content disk.new) (D.may_leave disk.new) }
+    ensures done { OnOk result (option_map (seen_by stage.new) (D.content disk.new)
+        ≡ option_map begun (option_map (seen_by stage.old) (D.content disk.old))) }
+    ensures unchanged { OnErr result (option_map (seen_by stage.new) (D.content disk.new)
+        ≡ option_map (seen_by stage.old) (D.content disk.old)) }
+    ensures found { OnOk result (WhereTold (D.content disk.new) (IsFound stage.new)) }
+    ensures any_moment { WhereTold (D.content disk.old) (λ file.
+        LeavesOnly D.moment D.left_since disk.old disk.new (IsBegun stage.old file (D.may_leave disk.old))) }
+    ensures count { CountsFaults result (D.failures disk.old) (D.failures disk.new) }
+{
+    let file = read_synced(alloc, disk)?;
+    begin_with(disk, stage, &file)
+}

@@ -1,0 +1,223 @@
+//! A keeper over a journal.
+ghost use Rattle.std.specs.Prelude.{◌≡◌, List, ℕ, IfOk, IfSome, OnOk, OnErr};
+ghost use Rattle.std.specs.Option.{option_map};
+ghost use Rattle.keeper.specs.Causes.{HasCause};
+ghost use Rattle.keeper.specs.Rows.{kept_of, with_draft, with_book, with_order, with_withdrawn, begun, migrated, IsInOrder};
+ghost use Rattle.journal_keeper.specs.Disk.{WhereTold, LeavesOnly};
+ghost use Rattle.journal_keeper.specs.Record.{Draft, Book, Order, Withdrawn};
+ghost use Rattle.journal_keeper.specs.Stage.{seen_by, is_refused, IsBegun, IsFound, StillStands, StandsOrGrew};
+ghost use Rattle.journal_keeper.specs.Counts.{count_of, Refuses};
+
+use crate::beginning::begin;
+use crate::loading::load;
+use crate::putting::put;
+use crate::{Disk, Stage};
+use keeper::{BookRow, DraftRow, Keeper, OrderRow, Rows};
+use pb_outside::{FaultCount, OutError};
+use std::alloc::Global;
+use std::marker::Model;
+
+/// Rows in a journal on a disk. A stop at any moment leaves the rows that were put so far, each put that was answered
+/// with Ok among them. It has no use for the name that `begin` is given.
+#[derive(Drop)]
+pub struct JournalKeeper<D: Disk> {
+    alloc: Global,
+    disk: D,
+    stage: Stage,
+    refusals: FaultCount,
+}
+
+impl<D: Disk> Model for JournalKeeper<D> {
+    ghost use Rattle.journal_keeper.specs.Keeping.{Keeping};
+
+    ghost Value = { Keeping D };
+
+    ghost use Rattle.journal_keeper.specs.Sound.{IsSound};
+
+    ghost view = { λ k. record { disk = k.disk; stage = k.stage; refusals = k.refusals } };
+
+    ghost invariant = { λ k. IsSound k.stage (D.content k.disk) (D.may_leave k.disk) };
+}
+
+impl<D: Disk> JournalKeeper<D> {
+    /// A keeper that has not begun yet.
+    pub fn new(alloc: Global, disk: D) -> JournalKeeper<D>
+        ensures disk { result.disk ≡ disk }
+        ensures stage { result.stage ≡ Stage.Shut }
+        ensures refusals { result.refusals ≡ 0 }
+    {
+        JournalKeeper {
+            alloc,
+            disk,
+            stage: Stage::Shut,
+            refusals: FaultCount::new(),
+        }
+    }
+
+    /// The disk as it is now.
+    pub fn into_disk(self) -> D
+        ensures { result ≡ self.disk }
+    {
+        let JournalKeeper {
+            alloc: _,
+            disk,
+            stage: _,
+            refusals: _,
+        } = self;
+        disk
+    }
+}
+
+impl<D: Disk> Keeper for JournalKeeper<D> {
+    ghost told = { λ k. option_map (seen_by k.stage) (D.content k.disk) };
+
+    ghost failures = { λ k. count_of (D.failures k.disk) k.refusals };
+
+    fn begin(&mut self, _: &str) -> Result<(), OutError>
+        ensures done { OnOk result (option_map (seen_by self.new.stage) (D.content self.new.disk)
+            ≡ option_map begun (option_map (seen_by self.old.stage) (D.content self.old.disk))) }
+        ensures unchanged { OnErr result (option_map (seen_by self.new.stage) (D.content self.new.disk)
+            ≡ option_map (seen_by self.old.stage) (D.content self.old.disk)) }
+        ensures count { HasCause result (count_of (D.failures self.old.disk) self.old.refusals)
+            (count_of (D.failures self.new.disk) self.new.refusals) }
+
+        // What it found, and what each stop leaves in the call and until the next one.
+        ensures found { OnOk result (WhereTold (D.content self.new.disk) (IsFound self.new.stage)) }
+        ensures any_moment { WhereTold (D.content self.old.disk) (λ file. LeavesOnly D.moment D.left_since
+            self.old.disk self.new.disk (IsBegun self.old.stage file (D.may_leave self.old.disk))) }
+        ensures stands { WhereTold (D.content self.new.disk) (λ file. (image : List ℕ)
+            → D.may_leave self.new.disk image → StillStands self.new.stage file image) }
+    {
+        begin(self.alloc, &mut self.disk, &mut self.stage)
+    }
+
+    fn load(&mut self) -> Result<Rows, OutError>
+        ensures rows { IfOk result (λ rows. IfSome (option_map (seen_by self.old.stage)
+            (D.content self.old.disk))
+            (λ kept. kept_of rows ≡ kept)) }
+        ensures unchanged { option_map (seen_by self.new.stage) (D.content self.new.disk)
+            ≡ option_map (seen_by self.old.stage) (D.content self.old.disk) }
+        ensures count { HasCause result (count_of (D.failures self.old.disk) self.old.refusals)
+            (count_of (D.failures self.new.disk) self.new.refusals) }
+        ensures any_moment { WhereTold (D.content self.old.disk) (λ file. LeavesOnly D.moment D.left_since
+            self.old.disk self.new.disk (StillStands self.old.stage file)) }
+    {
+        load(self.alloc, &mut self.disk, &mut self.stage)
+    }
+
+    fn put_draft(&mut self, row: &DraftRow) -> Result<(), OutError>
+        ensures done { OnOk result (option_map (seen_by self.new.stage) (D.content self.new.disk)
+            ≡ option_map (with_draft row.now) (option_map (seen_by self.old.stage)
+            (D.content self.old.disk))) }
+        ensures unchanged { OnErr result (option_map (seen_by self.new.stage) (D.content self.new.disk)
+            ≡ option_map (seen_by self.old.stage) (D.content self.old.disk)) }
+        ensures in_order { IfSome (option_map (seen_by self.old.stage) (D.content self.old.disk)) IsInOrder
+            → IfSome (option_map (seen_by self.new.stage) (D.content self.new.disk)) IsInOrder }
+        ensures count { HasCause result (count_of (D.failures self.old.disk) self.old.refusals)
+            (count_of (D.failures self.new.disk) self.new.refusals) }
+        ensures any_moment { WhereTold (D.content self.old.disk) (λ file. LeavesOnly D.moment D.left_since
+            self.old.disk self.new.disk (StandsOrGrew (Draft row.now) self.old.stage file)) }
+        ensures refuses { Refuses result (is_refused self.old.stage (Draft row.now))
+            (D.failures self.old.disk)
+            (D.failures self.new.disk) self.old.refusals self.new.refusals }
+    {
+        put(
+            self.alloc,
+            &mut self.disk,
+            &mut self.stage,
+            &mut self.refusals,
+            row,
+        )
+    }
+
+    fn put_book(&mut self, row: &BookRow) -> Result<(), OutError>
+        ensures done { OnOk result (option_map (seen_by self.new.stage) (D.content self.new.disk)
+            ≡ option_map (with_book row.now) (option_map (seen_by self.old.stage)
+            (D.content self.old.disk))) }
+        ensures unchanged { OnErr result (option_map (seen_by self.new.stage) (D.content self.new.disk)
+            ≡ option_map (seen_by self.old.stage) (D.content self.old.disk)) }
+        ensures in_order { IfSome (option_map (seen_by self.old.stage) (D.content self.old.disk)) IsInOrder
+            → IfSome (option_map (seen_by self.new.stage) (D.content self.new.disk)) IsInOrder }
+        ensures count { HasCause result (count_of (D.failures self.old.disk) self.old.refusals)
+            (count_of (D.failures self.new.disk) self.new.refusals) }
+        ensures any_moment { WhereTold (D.content self.old.disk) (λ file. LeavesOnly D.moment D.left_since
+            self.old.disk self.new.disk (StandsOrGrew (Book row.now) self.old.stage file)) }
+        ensures refuses { Refuses result (is_refused self.old.stage (Book row.now)) (D.failures self.old.disk)
+            (D.failures self.new.disk) self.old.refusals self.new.refusals }
+    {
+        put(
+            self.alloc,
+            &mut self.disk,
+            &mut self.stage,
+            &mut self.refusals,
+            row,
+        )
+    }
+
+    fn put_order(&mut self, row: &OrderRow) -> Result<(), OutError>
+        ensures done { OnOk result (option_map (seen_by self.new.stage) (D.content self.new.disk)
+            ≡ option_map (with_order row.now) (option_map (seen_by self.old.stage)
+            (D.content self.old.disk))) }
+        ensures unchanged { OnErr result (option_map (seen_by self.new.stage) (D.content self.new.disk)
+            ≡ option_map (seen_by self.old.stage) (D.content self.old.disk)) }
+        ensures in_order { IfSome (option_map (seen_by self.old.stage) (D.content self.old.disk)) IsInOrder
+            → IfSome (option_map (seen_by self.new.stage) (D.content self.new.disk)) IsInOrder }
+        ensures count { HasCause result (count_of (D.failures self.old.disk) self.old.refusals)
+            (count_of (D.failures self.new.disk) self.new.refusals) }
+        ensures any_moment { WhereTold (D.content self.old.disk) (λ file. LeavesOnly D.moment D.left_since
+            self.old.disk self.new.disk (StandsOrGrew (Order row.now) self.old.stage file)) }
+        ensures refuses { Refuses result (is_refused self.old.stage (Order row.now))
+            (D.failures self.old.disk)
+            (D.failures self.new.disk) self.old.refusals self.new.refusals }
+    {
+        put(
+            self.alloc,
+            &mut self.disk,
+            &mut self.stage,
+            &mut self.refusals,
+            row,
+        )
+    }
+
+    fn put_withdrawn(&mut self, number: u64) -> Result<(), OutError>
+        ensures done { OnOk result (option_map (seen_by self.new.stage) (D.content self.new.disk)
+            ≡ option_map (with_withdrawn number) (option_map (seen_by self.old.stage)
+            (D.content self.old.disk))) }
+        ensures unchanged { OnErr result (option_map (seen_by self.new.stage) (D.content self.new.disk)
+            ≡ option_map (seen_by self.old.stage) (D.content self.old.disk)) }
+        ensures in_order { IfSome (option_map (seen_by self.old.stage) (D.content self.old.disk)) IsInOrder
+            → IfSome (option_map (seen_by self.new.stage) (D.content self.new.disk)) IsInOrder }
+        ensures count { HasCause result (count_of (D.failures self.old.disk) self.old.refusals)
+            (count_of (D.failures self.new.disk) self.new.refusals) }
+        ensures any_moment { WhereTold (D.content self.old.disk) (λ file. LeavesOnly D.moment D.left_since
+            self.old.disk self.new.disk (StandsOrGrew (Withdrawn number) self.old.stage file)) }
+        ensures refuses { Refuses result (is_refused self.old.stage (Withdrawn number))
+            (D.failures self.old.disk)
+            (D.failures self.new.disk) self.old.refusals self.new.refusals }
+    {
+        put(
+            self.alloc,
+            &mut self.disk,
+            &mut self.stage,
+            &mut self.refusals,
+            &number,
+        )
+    }
+
+    fn migrate(&mut self) -> Result<(), OutError>
+        ensures done { OnOk result (option_map (seen_by self.new.stage) (D.content self.new.disk)
+            ≡ option_map migrated (option_map (seen_by self.old.stage) (D.content self.old.disk))) }
+        ensures unchanged { OnErr result (option_map (seen_by self.new.stage) (D.content self.new.disk)
+            ≡ option_map (seen_by self.old.stage) (D.content self.old.disk)) }
+        ensures count { HasCause result (count_of (D.failures self.old.disk) self.old.refusals)
+            (count_of (D.failures self.new.disk) self.new.refusals) }
+        ensures nothing { self.new ≡ self.old }
+    {
+        // A journal has form 2 from the start.
+        Ok(())
+    }
+
+    fn faults(&self) -> u64 {
+        self.disk.faults().saturating_add(self.refusals.faults())
+    }
+}

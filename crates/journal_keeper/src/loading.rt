@@ -1,0 +1,101 @@
+//! Loads all rows.
+ghost use Rattle.std.specs.Prelude.{◌≡◌, List, ℕ, IfOk, IfSome};
+ghost use Rattle.std.specs.Option.{option_map};
+ghost use Rattle.keeper.specs.Rows.{kept_of, bare};
+ghost use Rattle.journal_keeper.specs.Disk.{WhereTold, LeavesOnly, CountsFaults};
+ghost use Rattle.journal_keeper.specs.Journal.{entries_from, rows_of, kept_in};
+ghost use Rattle.journal_keeper.specs.Stage.{seen_by, StillStands};
+ghost use Rattle.journal_keeper.specs.Sound.{IsSound};
+ghost use Rattle.journal_keeper.specs.Tables.{kept_where_found};
+
+use crate::journal::settle;
+use crate::reading::{body_of, is_empty_store, record_at};
+use crate::tables::Tables;
+use crate::{Disk, Stage};
+use keeper::Rows;
+use pb_base::Memory;
+use pb_outside::OutError;
+use std::alloc::Global;
+
+fn no_rows(alloc: Global, form: u64) -> Rows
+    ensures { kept_of result ≡ bare form }
+{
+    Rows {
+        form,
+        drafts: Vec::new(alloc),
+        books: Vec::new(alloc),
+        orders: Vec::new(alloc),
+        withdrawn: Vec::new(alloc),
+    }
+}
+
+// The rows of what begins with a gate, or None where that is no journal.
+fn gathered(alloc: Global, body: &[u8]) -> Result<Option<Tables>, Memory>
+    ensures { IfOk result (λ found. rows_of (entries_from body.now) ≡ kept_where_found found) }
+{
+    let mut tables = Tables::new(alloc);
+    let mut rest = body;
+    while let Some((1, line)) = rest.split_first() {
+        let Some((read, next)) = record_at(line) else {
+            return Ok(None);
+        };
+        tables.set(alloc, read)?;
+        rest = next;
+    }
+    if rest.is_empty() {
+        return Ok(None);
+    }
+    Ok(Some(tables))
+}
+
+// The rows that a file keeps.
+fn rows_in(alloc: Global, file: &[u8]) -> Result<Rows, Memory>
+    ensures { IfOk result (λ rows. kept_of rows ≡ kept_in file.now) }
+{
+    if is_empty_store(file) {
+        return Ok(no_rows(alloc, 0));
+    }
+    let Some(body) = body_of(file) else {
+        return Ok(no_rows(alloc, 3));
+    };
+    match gathered(alloc, body)? {
+        Some(tables) => tables.into_rows(alloc),
+        None => Ok(no_rows(alloc, 3)),
+    }
+}
+
+// The rows of the file as it is.
+fn read_rows<D: Disk>(alloc: Global, disk: &mut D) -> Result<Rows, OutError>
+    ensures rows { IfOk result (λ rows. WhereTold (D.content disk.old) (λ file. kept_of rows
+        ≡ kept_in file)) }
+    ensures kept { D.content disk.new ≡ D.content disk.old }
+    ensures crash { (image : List ℕ) → D.may_leave disk.new image → D.may_leave disk.old image }
+    ensures any_moment { LeavesOnly D.moment D.left_since disk.old disk.new (D.may_leave disk.old) }
+    ensures count { CountsFaults result (D.failures disk.old) (D.failures disk.new) }
+{
+    let file = disk.read(alloc)?;
+    Ok(rows_in(alloc, &file)?)
+}
+
+/// All rows, in the order of their keys.
+pub(crate) fn load<D: Disk>(
+    alloc: Global,
+    disk: &mut D,
+    stage: &mut Stage,
+) -> Result<Rows, OutError>
+    requires { IsSound stage.old (D.content disk.old) (D.may_leave disk.old) }
+    ensures rows { IfOk result (λ rows. IfSome (option_map (seen_by stage.old) (D.content disk.old))
+        (λ kept. kept_of rows ≡ kept)) }
+    ensures sound { IsSound stage.new (D.content disk.new) (D.may_leave disk.new) }
+    ensures told { option_map (seen_by stage.new) (D.content disk.new)
+        ≡ option_map (seen_by stage.old) (D.content disk.old) }
+    ensures any_moment { WhereTold (D.content disk.old) (λ file.
+        LeavesOnly D.moment D.left_since disk.old disk.new (StillStands stage.old file)) }
+    ensures count { CountsFaults result (D.failures disk.old) (D.failures disk.new) }
+{
+    if let Stage::Late = *stage {
+        return Ok(no_rows(alloc, 0));
+    }
+    settle(disk, stage)?;
+    read_rows(alloc, disk)
+}
