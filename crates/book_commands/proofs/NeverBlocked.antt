@@ -1,22 +1,20 @@
 -- A book that can be released has no finding that keeps it from its release.
-use Rattle.std.proofs.Common.{◌≡◌, ◌∙◌, ℕ, suc, zero, ◌+◌, ◌-◌, ◌≤◌, Bool, true, false, not, cond, ◌&&◌, ◌||◌, ◌==◌, List, [], ◌∷◌, ◌++◌, Option, None, Some, Ok, length, map, refl, sym, ap, subst, inl, inr, arith}
+use Rattle.std.proofs.Common.{◌≡◌, ◌∙◌, ℕ, suc, zero, ◌+◌, ◌-◌, ◌≤◌, Bool, true, false, not, ◌&&◌, ◌||◌, ◌==◌, List, [], ◌∷◌, ◌++◌, None, Some, Ok, length, map, refl, sym, ap, subst, inl, inr, arith}
 use Rattle.std.specs.Prelude.{nat_le, if◌then◌else◌}
 use Rattle.std.specs.List.{filter, flat_map, list_any, range_with_len, slice_get, AllByRecursion}
-use Rattle.std.specs.Option.{option_map_or}
 use Rattle.std.proofs.lemmas.Bool.{false≢true, true≢false, cases_Bool, and_parts, or_left, cond-true, cond-false, eqb-true, leb-true}
 use Rattle.std.proofs.lemmas.List.Elements.{recursion_from_All}
 use Rattle.std.proofs.lemmas.List.Folds.{list_any-append}
-use Rattle.pb_base.specs.Rule.{never, holds}
+use Rattle.pb_base.specs.Rule.{holds}
 use Rattle.book_model.specs.Activity.{is_within}
 use Rattle.book_model.specs.Book.{IsBook}
 use Rattle.book_model.specs.Contents.{Contents}
 use Rattle.book_model.specs.Good.{is_good}
-use Rattle.book_model.specs.Parts.{variants_of, is_selected, is_selected_at, is_active_position, selected}
+use Rattle.book_model.specs.Parts.{variants_of, is_selected_at, is_active_position, selected}
 use Rattle.book_model.specs.Slices.{slices_of, all_slices, days_in, IsOrdered}
 use Rattle.book_model.specs.Sound.{permits, is_fit, are_fit_from, is_sound, IsReleasable}
 use Rattle.book_model.specs.declared.record.Position.{Position}
 use Rattle.book_model.specs.declared.record.Slice.{Slice}
-use Rattle.book_model.specs.declared.record.Variant.{Variant}
 use Rattle.book_model.proofs.SliceLaws.{slices_partition, slices_ordered}
 use Rattle.clausify.specs.Choices.{Choice, usage, is_active_variant, active_variants, choices_from, choices}
 use Rattle.clausify.specs.Coded.{slice_asked}

@@ -1,5 +1,5 @@
 -- A report that says that its book can be released is right in it.
-use Rattle.std.proofs.Common.{◌≡◌, ℕ, suc, ◌+◌, ◌-◌, ◌<◌, ◌≤◌, Bool, true, false, ◌||◌, ◌&&◌, not, cond, List, [], ◌∷◌, ◌++◌, Option, Some, None, Result, Ok, Err, All, length, map, refl, sym, ap, subst, ◌∙◌, arith, inl, inr}
+use Rattle.std.proofs.Common.{◌≡◌, ℕ, suc, ◌-◌, ◌≤◌, Bool, true, false, ◌||◌, List, [], ◌∷◌, Some, Result, Ok, Err, All, map, refl, sym, ap, subst, ◌∙◌, arith, inl, inr}
 use Rattle.std.specs.List.{AllByRecursion, list_any, filter, flat_map, slice_get}
 use Rattle.std.proofs.lemmas.List.Folds.{list_any-append}
 use Rattle.std.proofs.lemmas.Bool.{cases_Bool, or_parts, and_from, true≢false, false≢true, cond-true, cond-false, le-leb}
@@ -23,9 +23,9 @@ use Rattle.clausify.specs.declared.question.Question.TheVariants.{Void, Necessar
 use Rattle.clausify.proofs.QuestionLaws.{asked_in_order}
 use Rattle.derivation.specs.Limits.{slices_within}
 use Rattle.derivation.proofs.LimitLaws.{slices_are_all, slices_from_within}
-use Rattle.derivation.proofs.Refuted.{IsRefuted, AllRefuted}
+use Rattle.derivation.proofs.Refuted.{AllRefuted}
 use Rattle.derivation.proofs.Fit.{sound_from_refuted}
-use Rattle.findings.specs.Notes.{Inquiry, InParts, IsReport, SliceNotes, QuestionNotes, AfterVoid, OwnNotes, IsNoteOf, is_asked, is_blocking, is_fault, is_left, verdict_of}
+use Rattle.findings.specs.Notes.{Inquiry, InParts, IsReport, SliceNotes, AfterVoid, OwnNotes, IsNoteOf, is_asked, is_blocking, verdict_of}
 use Rattle.findings.specs.Answering.{stops}
 use Rattle.findings.specs.Findings.{NeedsNoNote}
 use Rattle.findings.specs.declared.report.Ask.{Ask}

@@ -25,7 +25,7 @@ use Rattle.parts_usage.specs.declared.fault.OrderFault.{OrderFault}
 use Rattle.parts_usage.specs.declared.judgement.Outcome.{Outcome}
 use Rattle.parts_usage.specs.declared.judgement.Outcome.TheVariants.{Accepted, Refused, Unfit}
 use Rattle.pb_outside.specs.Files.{NamedBytes, FilesTold, content_of, within_room, ReadsFile}
-use Rattle.book_commands.specs.Ends.{IsDecided, IsOrderStatus, IsCheckStatus, IsVerifyStatus, IsReplyStatus, IsSampleStatus, IsLeft, EndsCheck, EndsCommand, EndsSample}
+use Rattle.book_commands.specs.Ends.{IsDecided, IsOrderStatus, IsCheckStatus, IsVerifyStatus, IsReplyStatus, IsSampleStatus, EndsCheck, EndsCommand, EndsSample}
 use Rattle.book_commands.specs.Logged.{logged_behind, is_spent}
 use Rattle.book_commands.specs.RunReply.{RunReply, outcome_status, judged_reply, order_reply, certified_reply, content_reply}
 use Rattle.book_commands.specs.RunReply.{verdict_status, report_reply}

@@ -2,7 +2,7 @@
 --     HasTraded end before after status    a desk was started from the rows, its session was one of such exchanges, the rows that
 --                                          are kept are those of its last state, and its end was told
 --     Trades before after status           a desk was run, and where it was started it has traded
-use Rattle.std.specs.Prelude.{◌≡◌, ℕ, IfSome}
+use Rattle.std.specs.Prelude.{◌≡◌, IfSome}
 use Rattle.pb_outside.specs.Sink.{SinkTold}
 use Rattle.order_desk.specs.Rows.{rows_of}
 use Rattle.order_desk.specs.Tables.{State}

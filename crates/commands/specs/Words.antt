@@ -6,7 +6,7 @@
 --     desk STORE                    the order desk over the rows that this store keeps
 --     sample START CODES ORDERS     the release of the generated book of this size, and what its orders come to
 -- The words of these forms, and of those that the program doesn't have, are those of command_words.
-use Rattle.std.specs.Prelude.{◌≡◌, ◌<◌, ◌≤◌, ℕ, List, Option, None, Some}
+use Rattle.std.specs.Prelude.{◌≡◌, ◌<◌, ◌≤◌, ℕ, Option, None, Some}
 use Rattle.book_sample.specs.Law.{MaySample}
 use Rattle.command_words.specs.Meaning.{IsForm}
 use Rattle.command_words.specs.Parts.{Words}
