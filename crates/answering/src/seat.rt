@@ -100,7 +100,8 @@ fn called<R: Wait, P: Keeper>(
 ) -> (Answer, Pass<Desk<P>>)
     requires seated { IsSeated (sitting book.now pass) }
     requires fits { Fits (hand_of (sitting book.now pass)).state.tables event }
-    ensures takes { Takes (hand_of (sitting book.now pass)) event result.0 (hand_of (sitting book.now result.1)) }
+    ensures takes { Takes (hand_of (sitting book.now pass)) event result.0
+        (hand_of (sitting book.now result.1)) }
     ensures seated { IsSeated (sitting book.now result.1) }
 {
     if pass.left() == 0 {
