@@ -79,11 +79,12 @@ def picture(rows):
     return "\n".join(out + ["</svg>"]) + "\n"
 
 
-def shown(value, unit=1):
+def shown(value):
     """A number as the tables show it."""
     if value is None:
         return "-"
-    value *= unit
+    if value < 0.005:
+        return "< 0.01"
     return f"{value:,.0f}" if value >= 100 else f"{value:.1f}" if value >= 10 else f"{value:.2f}"
 
 
