@@ -79,11 +79,12 @@ def picture(rows):
     return "\n".join(out + ["</svg>"]) + "\n"
 
 
-def shown(value, unit=1):
+def shown(value):
     """A number as the tables show it."""
     if value is None:
-        return ""
-    value *= unit
+        return "-"
+    if value < 0.005:
+        return "< 0.01"
     return f"{value:,.0f}" if value >= 100 else f"{value:.1f}" if value >= 10 else f"{value:.2f}"
 
 
@@ -105,6 +106,6 @@ if __name__ == "__main__":
         ("`check` s", "check_s", False), ("MB", "check_mb", False), ("`prove` s", "prove_s", False), ("MB", "prove_mb", False),
         ("certificate MB", "cert_mb", False), ("`verify` s", "verify_s", False), ("MB", "verify_mb", False)]))
     print()
-    print(table(rows, size + [("`order` s", "order_s", False), ("MB", "order_mb", False),
+    print(table(rows, size + [("Book KB", "kb", True), ("`order`, million instructions", "order_mi", True), ("MB", "order_mb", False),
         ("release s", "desk_release_s", False), ("MB", "desk_release_mb", False), ("an order ms", "desk_order_ms", False),
         ("a start s", "desk_start_s", False), ("MB", "desk_start_mb", False)]))
