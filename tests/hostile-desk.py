@@ -1,13 +1,14 @@
 #!/usr/bin/env python3
 """Tries a desk on a machine that lets it down: a full disk, a store that can't be written any more, an output that nobody takes,
-and a kill at random moments.
+a kill at random moments, a log or a store that was being written when the power failed, and many desks at one new store.
 
     tests/hostile-desk.py [--seed N] [--kills N] [PROGRAM [SUBJECT..]]
 
-PROGRAM is crates/partsbook/out/partsbook without the word, SUBJECT one of output, disk, locked and kill. What must hold each
-time: every order that was answered 201 is in the store that is left, and at most one more, which was sent and not answered 201;
-`integrity_check` says ok; an order that is kept can be read while nothing can be written; and when the cause is away a desk
-starts over the store, and has these orders.
+PROGRAM is crates/partsbook/out/partsbook without the word, SUBJECT one of output, disk, locked, kill, torn and race. What must
+hold each time: every order that was answered 201 is in the store that is left, and at most one more, which was sent and not
+answered 201; `integrity_check` says ok; an order that is kept can be read while nothing can be written; and when the cause is
+away a desk starts over the store, and has these orders. `torn` takes away what a disk may lose when the power fails, which a
+kill doesn't: there the orders that are left are the first ones that were kept, none left out, and the store starts.
 
 `disk` and `locked` mount a small disk in memory and make files immutable, so they are for root. It isn't part of the gate. It
 needs the built program and python3, and mount and chattr for these two. The status is 1 where something doesn't hold."""
@@ -23,7 +24,7 @@ import tempfile
 import threading
 import time
 
-from desk_stream import PROGRAM, TOP, NotWhole, example, request, rows_of, rows_left, split_messages
+from desk_stream import PROGRAM, TOP, NotWhole, example, request, rows_left, rows_of, work_place
 
 NOBODY = 65534
 FAULT = "503 store fault"
@@ -336,8 +337,87 @@ def kill(program, store, first, draw):
     return answered, numbers, "while it answered" if answers else "before an order was answered"
 
 
+# A log and a store that were being written when the power failed.
+
+
+def try_torn(program, given):
+    draw = random.Random(given.seed)
+    with tempfile.TemporaryDirectory(dir=work_place()) as folder:
+        store = os.path.join(folder, "desk.db")
+        desk = Desk(program, store)
+        orders = list(range(1, 41))
+        must("the orders", [desk.ask(message) for message in (PUT, RELEASE, *map(place, orders))][2:] == ["201 accepted"] * 40)
+        desk.process.kill()
+        desk.process.communicate()
+        old, log = contents(store), contents(store + "-wal")
+
+        def orders_over(some_store, some_log):
+            for path, bytes_there in ((store, some_store), (store + "-wal", some_log)):
+                with open(path, "wb") as file:
+                    file.write(bytes_there)
+            done = subprocess.run([program, "desk", store], stdin=subprocess.DEVNULL, capture_output=True)
+            must("a start", (done.returncode, done.stdout, done.stderr) == (0, b"", b""), done)
+            return sorted(orders_of(rows_of(store)))
+
+        must("the whole log", orders_over(old, log) == orders)
+        new = contents(store)
+        for _ in range(300):
+            left = orders_over(old, log[: draw.randrange(len(log) + 1)])
+            must("the first orders", left == orders[: len(left)], left)
+        for _ in range(300):
+            at = draw.randrange(32, len(log))
+            left = orders_over(old, log[:at] + draw.randbytes(512) + log[at + 512 :])
+            must("the first orders", left == orders[: len(left)], left)
+        for _ in range(300):
+            must("all orders", orders_over(mix(old, new, draw), log) == orders)
+    return "300 logs that were cut, 300 with 512 other bytes, 300 stores into which a log was copied in part"
+
+
+def contents(path):
+    with open(path, "rb") as file:
+        return file.read()
+
+
+def mix(old, new, draw):
+    """The store in the midst of its log's copy: of each page a front is new, and not all pages may be there yet."""
+    pages = []
+    for at in range(0, len(new), 4096):
+        front = draw.choice((0, 512, 2048, 4096))
+        pages.append(new[at : at + front] + old[at + front : at + 4096].ljust(4096 - front, b"\0"))
+    return b"".join(pages)[: draw.choice((len(new), draw.randrange(4096, len(new) + 1)))]
+
+
+# Many desks at one new store.
+
+
+def try_race(program, given):
+    ends = collections.Counter()
+    for _ in range(20):
+        with tempfile.TemporaryDirectory(dir=work_place()) as folder:
+            store = os.path.join(folder, "desk.db")
+            kept, failed = set(), []
+
+            def run(caller):
+                for number in range(3 * caller + 1, 3 * caller + 4):
+                    done = subprocess.run([program, "desk", store], input=PUT + RELEASE + place(number), capture_output=True)
+                    if done.returncode == 0 and b"accepted" in done.stdout:
+                        kept.add(number)
+                    elif (done.returncode, done.stdout) != (6, b"store fault\n"):
+                        failed.append(done)
+                    ends[done.returncode] += 1
+
+            threads = [threading.Thread(target=run, args=(caller,)) for caller in range(6)]
+            for thread in threads:
+                thread.start()
+            for thread in threads:
+                thread.join()
+            must("a desk, or a store fault", not failed, failed)
+            start_over(program, store, kept, set())
+    return f"360 desks, six at a time: {ends[0]} held the store, {ends[6]} were refused"
+
+
 def main():
-    subjects = {"output": try_output, "disk": try_disk, "locked": try_locked, "kill": try_kill}
+    subjects = {"output": try_output, "disk": try_disk, "locked": try_locked, "kill": try_kill, "torn": try_torn, "race": try_race}
     reader = argparse.ArgumentParser(usage="tests/hostile-desk.py [--seed N] [--kills N] [--place FOLDER] [PROGRAM [SUBJECT..]]")
     reader.add_argument("--seed", type=int, default=1)
     reader.add_argument("--kills", type=int, default=100)
