@@ -14,6 +14,16 @@ PAGE = TOP / "docs" / "WRONG-BODIES.md"
 
 # What the changed code would do. An edit that has no line here is shown by its name alone.
 WOULD = {
+    "a_closed_gate_written_again": "the gate could be torn open by a write to it while the record behind it was never synced",
+    "a_gate_in_doubt_forgotten": "a change that failed late would be told as never made, and be there at the next start",
+    "a_gate_opened_before_its_record_is_synced": "a stop in the middle of a change would leave a record of bytes that nobody wrote",
+    "an_answer_before_the_last_sync": "a change would be answered that a loss of power still takes away",
+    "a_port_that_failed_and_no_fault_of_the_door": "a desk with a broken port would end as if nothing had failed",
+    "a_port_that_keeps_its_last_link": "a connection would be taken and never served",
+    "links_that_come_back_in_another_order": "who served which connection could no longer be told",
+    "a_failed_accept_told_as_the_end": "a worker would stop at the first connection that fails, as if no more came",
+    "a_port_that_failed_told_as_over": "a desk that could take no more connections would end as if all had been served",
+    "a_port_that_is_over_told_as_failed": "a desk that has served all would end with a fault",
     "a_file_of_just_the_limit_is_too_long": "a file that may just be read would be refused as too long",
     "a_short_write_whose_rest_is_dropped": "where a write takes a part of the bytes, the others would be lost without a word",
     "the_end_after_a_fault_of_reading": "a failed read would be taken for the end of the input, and half a book for a whole one",
