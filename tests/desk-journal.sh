@@ -63,7 +63,8 @@ round=0
 most=0
 while [ $round -lt "$kills" ]; do
     rm -f "$store"
-    desk < "$work/load.http" > "$work/load.out" &
+    # Called by its name and not by the function, so that the kill meets the program.
+    "$top/partsbook" desk "$store" < "$work/load.http" > "$work/load.out" &
     child=$!
     sleep "0.$(od -An -N2 -tu2 /dev/urandom | tr -d ' ')"
     kill -9 $child 2> /dev/null

@@ -1,5 +1,5 @@
 -- What an event keeps is the rows with one put, and every order stays.
-use Rattle.std.proofs.Common.{◌≡◌, ℕ, ◌+◌, Bool, true, false, List, Option, None, Some, length, refl, sym, ap, subst, ◌∙◌}
+use Rattle.std.proofs.Common.{◌≡◌, ℕ, ◌+◌, Bool, true, false, List, Option, None, Some, length, refl, ap, subst, ◌∙◌}
 use Rattle.std.specs.Prelude.{Result, Ok, Err, if◌then◌else◌}
 use Rattle.desk_words.specs.declared.order_words.OrderWords.{OrderWords}
 use Rattle.desk_words.specs.declared.reply.Reply.{Reply}
@@ -15,7 +15,7 @@ use Rattle.order_desk.specs.declared.order_key.OrderKey.{OrderKey}
 use Rattle.order_desk.specs.Effect.{Effect, says, keeps, go_on, effect, owned, book_of, withdraw}
 use Rattle.order_desk.specs.History.{Stays, IsSameOrder}
 use Rattle.order_desk.specs.Rows.{draft_row, book_row, order_row, rows_of}
-use Rattle.order_desk.specs.Tables.{Tables, key_of, order_at, by_key, with_withdrawn, with_order}
+use Rattle.order_desk.specs.Tables.{Tables, key_of, order_at, with_withdrawn, with_order}
 use Rattle.order_desk.proofs.EffectWrites.{Writes, Changes, effect_writes}
 use Rattle.order_desk.proofs.Entries.{lookup-same}
 use Rattle.order_desk.proofs.Growth.{book_there, grows-with_order}

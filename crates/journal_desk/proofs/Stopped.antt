@@ -1,12 +1,12 @@
 -- What a start finds after a stop.
-use Rattle.std.proofs.Common.{◌≡◌, ◌⊎◌, inl, inr, ℕ, Bool, List, Option, None, Some, refl, sym, ap, subst, ◌∙◌}
+use Rattle.std.proofs.Common.{◌≡◌, inl, inr, ℕ, Bool, List, Option, None, Some, refl, sym, ap, ◌∙◌}
 use Rattle.desk_words.specs.declared.order_words.OrderWords.{OrderWords}
 use Rattle.journal_keeper.specs.declared.stage.Stage.TheVariants as Stage
 use Rattle.journal_keeper.specs.Journal.{kept_in}
 use Rattle.journal_keeper.specs.Record.{Entry}
 use Rattle.journal_keeper.specs.Record as put
 use Rattle.journal_keeper.specs.Stage.{seen_by, doubted_by, StandsOrGrew}
-use Rattle.keeper.specs.Rows.{Kept, begun}
+use Rattle.keeper.specs.Rows.{begun}
 use Rattle.order_desk.specs.declared.answer.Answer.{Answer}
 use Rattle.order_desk.specs.declared.event.Event.{Event}
 use Rattle.order_desk.specs.declared.order_key.OrderKey.{OrderKey}

@@ -2,7 +2,7 @@
 --     put_of t event    the put of an event, where it keeps anything: the row that it sets
 --     MayFind           the rows that a start finds after the stop
 --     IsEither          the tables from before the call, or those after it
-use Rattle.std.specs.Prelude.{◌≡◌, ◌⊎◌, ℕ, ◌+◌, Bool, false, List, length, Option, None, Some, Result, Ok, Err}
+use Rattle.std.specs.Prelude.{◌≡◌, ◌⊎◌, ℕ, ◌+◌, false, List, length, Option, None, Some, Result, Ok, Err}
 use Rattle.desk_words.specs.declared.reply.Reply.{Reply}
 use Rattle.journal_keeper.specs.declared.stage.Stage.{Stage}
 use Rattle.journal_keeper.specs.Journal.{kept_in}
