@@ -1,0 +1,7 @@
+//! Tests of the journal: what its bytes are, and what is there after a stop at each call.
+#![tactic(auto)]
+
+#[cfg(test)]
+mod rows;
+#[cfg(test)]
+mod stops;
