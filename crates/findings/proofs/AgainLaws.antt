@@ -3,7 +3,7 @@ use Rattle.std.proofs.Common.{◌≡◌, ℕ, List, sym, subst}
 use Rattle.clause_pool.specs.Clause.{AreBelow}
 use Rattle.clause_pool.specs.Derivation.{Derivation, kernel_of}
 use Rattle.derivation.specs.Showing.{StandsOver}
-use Rattle.solver.specs.Solver.{Grows}
+use Rattle.chains.specs.Growth.{Grows}
 use Rattle.findings.proofs.SliceLaws.{stands_over, over_kernel}
 
 -- over the same given clauses

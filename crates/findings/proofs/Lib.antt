@@ -5,4 +5,5 @@ pub mod SliceLaws
 pub mod BookLaws
 pub mod SolverLaws
 pub mod AgainLaws
+pub mod LeftLaws
 mod WorkedReports

@@ -1,15 +1,15 @@
 -- What an answer over the clauses of a slice says of the sets that are good on its days.
-use Rattle.std.proofs.Common.{◌≡◌, ℕ, ◌≤◌, Bool, true, not, eqb, List, [], ◌∷◌, Some, length, refl, sym, ap, ◌∙◌, arith}
+use Rattle.std.proofs.Common.{◌≡◌, ℕ, ◌≤◌, Bool, true, not, List, Some, length, sym, ap, ◌∙◌, arith}
 use Rattle.std.specs.Prelude.{IsTrue}
-use Rattle.std.specs.List.{slice_get, list_all}
-use Rattle.std.proofs.lemmas.Bool.{and_from, le-leb, eq-eqb, true≢false, or_left, or_right}
+use Rattle.std.specs.List.{slice_get}
+use Rattle.std.proofs.lemmas.Bool.{and_from, le-leb, true≢false}
 use Rattle.pb_base.specs.Rule.{holds}
 use Rattle.book_model.specs.Activity.{is_within}
 use Rattle.book_model.specs.Contents.{Contents}
 use Rattle.book_model.specs.Good.{is_good}
 use Rattle.book_model.specs.declared.record.Slice.{Slice}
-use Rattle.clause_pool.specs.Literal.{complement, is_true}
-use Rattle.clause_pool.specs.Clause.{has, Follows}
+use Rattle.clause_pool.specs.Literal.{is_true}
+use Rattle.clause_pool.specs.Clause.{Follows}
 use Rattle.clause_pool.proofs.LiteralLaws.{is_true-complement}
 use Rattle.clause_pool.proofs.ClauseLaws.{TrueLiteral, true_literal, all_found}
 use Rattle.clausify.specs.Coded.{slice_clauses, slice_asked}
@@ -17,8 +17,8 @@ use Rattle.clausify.specs.Lifting.{BeginsWith, BeginsGood}
 use Rattle.clausify.specs.Questions.{goal, HasSet}
 use Rattle.clausify.specs.declared.question.Asked.{Asked}
 use Rattle.clausify.specs.declared.question.Question.{Question}
-use Rattle.derivation.specs.After.{closes}
-use Rattle.solver.specs.Answer.{Begins, Refutes}
+use Rattle.chains.specs.Growth.{Refutes}
+use Rattle.solver.specs.Answer.{Begins}
 use Rattle.findings.specs.Findings.{MeetsThrough}
 use Rattle.findings.specs.Answering.{SliceFacts}
 
@@ -46,14 +46,14 @@ meets_from_begins b s k a x facts is h =
     }
 
 -- a set that is good on the first day of the slice is good on each
-pub good_through : (b : Contents) (s : Slice) (x : List Bool) → SliceFacts b s → length x ≡ length b.codes → is_good b s.first x ≡ true
+good_through : (b : Contents) (s : Slice) (x : List Bool) → SliceFacts b s → length x ≡ length b.codes → is_good b s.first x ≡ true
     → (day : ℕ) → IsTrue (is_within s.first s.last day) → is_good b day x ≡ true
 good_through b s x facts counted good day within =
     let lift = (facts.on_each_day s.first (on_first s facts.order)).lifts x good in
     ((facts.on_each_day day within).begins_good lift.0 x counted lift.1.begins lift.1.satisfies).is_good_then
 
 -- a set that is good on each day of the slice and meets a goal on the first of them meets it on each
-pub meets_from_first : (b : Contents) (s : Slice) (k : ℕ) (a : Asked) (x : List Bool) → SliceFacts b s → slice_get (slice_asked b s.first) k ≡ Some a
+meets_from_first : (b : Contents) (s : Slice) (k : ℕ) (a : Asked) (x : List Bool) → SliceFacts b s → slice_get (slice_asked b s.first) k ≡ Some a
     → length x ≡ length b.codes → ((day : ℕ) → IsTrue (is_within s.first s.last day) → is_good b day x ≡ true) → holds (goal b s.first a.question) x ≡ true
     → MeetsThrough b s a.question x
 meets_from_first b s k a x facts is counted good met =
@@ -66,6 +66,11 @@ meets_from_first b s k a x facts is counted good met =
       met_then = λ day within.
           sym (goal_on_day b s day k a x lift.0 is (then day within)) ∙ goal_on_day b s s.first k a x lift.0 is (then s.first first) ∙ met;
     }
+
+-- so does one that is good on the first day
+pub meets_from_found : (b : Contents) (s : Slice) (k : ℕ) (a : Asked) (x : List Bool) → SliceFacts b s → slice_get (slice_asked b s.first) k ≡ Some a
+    → length x ≡ length b.codes → is_good b s.first x ≡ true → holds (goal b s.first a.question) x ≡ true → MeetsThrough b s a.question x
+meets_from_found b s k a x facts is counted good met = meets_from_first b s k a x facts is counted (good_through b s x facts counted good) met
 
 -- a question whose goal a set meets through the slice has a set
 pub has_from_meets : (b : Contents) (s : Slice) (q : Question) (x : List Bool) → s.first ≤ s.last → MeetsThrough b s q x → HasSet b s q
@@ -86,11 +91,3 @@ none_from_clause b s k a c facts is follows refutes has_set =
     let found : TrueLiteral met.assignment c = true_literal met.assignment c (follows met.assignment met.satisfies) in
     true≢false
     (sym found.holds ∙ ap (is_true met.assignment) (refutes found.literal found.is_in) ∙ is_true-complement met.assignment a.goal ∙ ap not met.meets)
-
--- such a clause closes the question
-pub closes_from_refutes : (goal : ℕ) (c : List ℕ) → Refutes goal c → closes goal c ≡ true
-closes_from_refutes goal [] h = refl
-closes_from_refutes goal (x ∷ xs) h =
-    and_from (eqb x (complement goal)) (list_all (λ l. eqb l (complement goal)) xs)
-    (eq-eqb x (complement goal) (h x (or_left (eqb x x) (has xs x) (eq-eqb x x refl))))
-    (closes_from_refutes goal xs (λ l is_in. h l (or_right (eqb x l) (has xs l) is_in)))

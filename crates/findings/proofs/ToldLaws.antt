@@ -5,21 +5,21 @@ use Rattle.std.proofs.lemmas.Bool.{cases_Bool, cond_both, cond-true, cond-false,
 use Rattle.std.proofs.lemmas.List.{get_or_append_left, take_more, length-take-le}
 use Rattle.std.proofs.lemmas.List.Elements.{filter-append}
 use Rattle.std.proofs.lemmas.List.Folds.{list_any-append}
-use Rattle.std.proofs.lemmas.Option.{slice_get_within, get_or_from_slice_get}
 use Rattle.std.proofs.lemmas.Slice.Zip.{all_zipped_more}
 use Rattle.book_model.specs.Contents.{Contents}
 use Rattle.book_model.specs.declared.record.Slice.{Slice}
 use Rattle.clause_pool.specs.Derivation.{Derivation}
+use Rattle.clause_pool.specs.PoolContents.{PoolContents}
+use Rattle.clausify.specs.Coded.{slice_clauses, slice_variables}
 use Rattle.clausify.specs.Questions.{HasSet, QuestionFits, is_to_close}
 use Rattle.clausify.specs.declared.question.Asked.{Asked}
 use Rattle.clausify.specs.declared.question.Question.{Question}
 use Rattle.clausify.specs.declared.question.Question.TheVariants.{Void, Necessary, Inadmissible, Superfluous, Ambiguous, Uncovered}
-use Rattle.derivation.specs.After.{closes}
 use Rattle.derivation.specs.Showing.{Closes, AllClosed}
 use Rattle.derivation.specs.Stage.{to_close}
 use Rattle.derivation.specs.declared.closing.Closing.{Closing}
 use Rattle.derivation.specs.declared.closing.ToClose.{ToClose}
-use Rattle.solver.specs.Solver.{Extends}
+use Rattle.chains.specs.Growth.{Extends}
 use Rattle.findings.specs.Findings.{MeetsThrough}
 use Rattle.findings.specs.Notes.{Inquiry, InParts, OwnNotes, is_asked, is_blocking}
 use Rattle.findings.specs.Outcomes.{outcome_of_set, outcome_of_clause, notes_of, closings_of}
@@ -29,8 +29,10 @@ use Rattle.findings.specs.declared.outcome.Outcome.TheVariants.{Fine, Closed, No
 use Rattle.findings.specs.declared.outcome.Told.{Told}
 use Rattle.findings.specs.declared.report.Ask.{Ask}
 use Rattle.findings.specs.declared.report.Ask.TheVariants as asks
-use Rattle.findings.specs.declared.report.Note.TheVariants.{Finding}
-use Rattle.findings.proofs.Lifting.{has_from_meets, closes_from_refutes}
+use Rattle.findings.specs.declared.report.Note.TheVariants.{Finding, Undecided}
+use Rattle.slice_chains.proofs.ClosingLaws.{closed_one as closed_by}
+use Rattle.solver.specs.Answer.{IsSpent}
+use Rattle.findings.proofs.Lifting.{has_from_meets}
 
 -- a question of the book blocks a release just where it has to be closed
 blocking_fits : (b : Contents) (q : Question) → QuestionFits b q → is_blocking q ≡ is_to_close q
@@ -71,6 +73,11 @@ clause_outcome i s clauses a at fits none closed =
     cond_both (is_to_close a.question) (Closed at) (Noted (Finding a.question None)) (IsOutcome i s clauses a)
     (λ must. (record { no_fault = λ _. none; some_set = λ may. absurd (true≢false (sym must ∙ may)) }, must, closed))
     (λ may. ((refl, (may, none)), ap (λ (t : Bool). t || false) (blocking_fits i.book a.question fits) ∙ or_false (is_to_close a.question)))
+
+pub left_outcome : (i : Inquiry) (s : Slice) (clauses : List (List ℕ)) (a : Asked) (learnt : PoolContents) → QuestionFits i.book a.question
+    → IsSpent (slice_variables i.book s.first) (slice_clauses i.book s.first) a.goal i.budget learnt.clauses
+    → IsOutcome i s clauses a (Noted (Undecided a.question learnt))
+left_outcome i s clauses a learnt fits spent = ((refl, spent), blocking_fits i.book a.question fits)
 
 -- one part more at the end
 pub parts_more : {X N : Type 0} (IsPart : X → List N → Type 0) (xs : List X) (x : X) (notes own : List N) → InParts IsPart xs notes → IsPart x own
@@ -116,12 +123,8 @@ closed_grown clauses more (w ∷ ws) (c ∷ cs) h = (
   closed_grown clauses more ws cs h.1,
 )
 
-pub closed_one : (clauses : List (List ℕ)) (n goal at : ℕ) → ClosedAt clauses goal at → Closes clauses (record { question = n; goal = goal }) (record { question = n; at = at })
-closed_one clauses n goal at h = record {
-  question = refl;
-  place = slice_get_within clauses at h.clause h.there;
-  closed = ap (closes goal) (get_or_from_slice_get clauses at h.clause [] h.there) ∙ closes_from_refutes goal h.clause h.refutes;
-}
+closed_one : (clauses : List (List ℕ)) (n goal at : ℕ) → ClosedAt clauses goal at → Closes clauses (record { question = n; goal = goal }) (record { question = n; at = at })
+closed_one clauses n goal at h = closed_by clauses n goal at h.clause h.there h.refutes
 
 -- a question that has not to be closed adds none
 none_to_close : (n : ℕ) (a : Asked) → is_to_close a.question ≡ false → to_close n (a ∷ []) ≡ []
@@ -210,14 +213,3 @@ pub told_next_same : (i : Inquiry) (s : Slice) (later : List Asked) (k : ℕ) (a
     → k < length later → a ≡ get_or later k a → is_asked i.ask a.question ≡ false → AreTold i s (take k later) told clauses → AreTold i s (take (k + 1) later) told clauses
 told_next_same i s later k a told clauses below is not so_far =
     subst (λ (qs : List Asked). AreTold i s qs told clauses) (sym (taken_next later k a below is)) (told_same i s (take k later) a told clauses not so_far)
-
-pub extends_same : (k : Derivation) → Extends k k
-extends_same k = record { same_number = refl; same_given = refl; more = []; clauses = sym (append-nil k.clauses) }
-
-pub extends_further : (old mid new : Derivation) → Extends old mid → Extends mid new → Extends old new
-extends_further old mid new h k = record {
-  same_number = k.same_number ∙ h.same_number;
-  same_given = k.same_given ∙ h.same_given;
-  more = h.more ++ k.more;
-  clauses = k.clauses ∙ ap (λ (l : List (List ℕ)). l ++ k.more) h.clauses ∙ append_assoc old.clauses h.more k.more;
-}

@@ -1,4 +1,5 @@
 pub mod Findings
 pub mod Notes
+pub mod Left
 pub mod Outcomes
 pub mod Answering

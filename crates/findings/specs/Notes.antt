@@ -6,7 +6,7 @@ use Rattle.std.specs.Prelude.{◌≡◌, ℕ, Bool, true, false, List, [], ◌�
 use Rattle.std.specs.List.{list_any}
 use Rattle.book_model.specs.Contents.{Contents}
 use Rattle.book_model.specs.declared.record.Slice.{Slice}
-use Rattle.clausify.specs.Coded.{slice_clauses, slice_asked}
+use Rattle.clausify.specs.Coded.{slice_clauses, slice_variables, slice_asked}
 use Rattle.clausify.specs.Questions.{is_to_close}
 use Rattle.clausify.specs.declared.question.Asked.{Asked}
 use Rattle.clausify.specs.declared.question.Question.{Question}
@@ -58,7 +58,8 @@ abbrev pub IsNoteOf : Inquiry → Slice → Asked → Note → Type 0
 IsNoteOf i s a (Days first last) = ⊥
 IsNoteOf i s a (Finding question set) = (question ≡ a.question) × IsFinding i.book s a.question set
 IsNoteOf i s a (Undecided question learnt) =
-    (question ≡ a.question) × IsSpent (slice_clauses i.book s.first) a.goal i.budget learnt.clauses
+    (question ≡ a.question)
+    × IsSpent (slice_variables i.book s.first) (slice_clauses i.book s.first) a.goal i.budget learnt.clauses
 
 -- a question has one note or none
 abbrev pub OwnNotes : Inquiry → Slice → Asked → List Note → Type 0

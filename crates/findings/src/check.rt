@@ -8,19 +8,20 @@ ghost use Rattle.book_model.specs.Sound.{IsReleasable};
 ghost use Rattle.derivation.specs.Limits.{AreWithin, asked_of, slices_within};
 ghost use Rattle.derivation.specs.Showing.{ShowsSlice};
 ghost use Rattle.findings.specs.Notes.{InParts, IsReport, SliceNotes, verdict_of};
+ghost use Rattle.slice_hints.specs.Found.{KnowsUsages};
 ghost use Rattle.findings.specs.Answering.{ShowsUnlessStopped, inquiry, stops};
 ghost use Rattle.derivation.specs.Accepted.{IsAccepted};
 ghost use Rattle.pb_base.specs.declared.limits.TheConstants.{MOST_BUDGET, MOST_QUESTIONS};
 
 use crate::earlier::Earlier;
-use crate::effort::Effort;
 use crate::laws::book_laws;
 use crate::report::{Ask, Note, Report, Verdict};
-use crate::short::shorten;
 use crate::slice::{SliceCheck, check_slice};
+use crate::task::{Effort, SliceTask};
 use book_model::{Book, LimitFault, Slice};
 use derivation::{SliceProof, slices_within, write_cert};
 use pb_base::{Body, Fail, Memory};
+use slice_chains::shorten;
 use std::alloc::Global;
 
 /// What a check of a book tells, and the certificate that nothing keeps it from its release.
@@ -120,11 +121,16 @@ fn report_each(
     requires some { 0 < effort.budget }
     requires budget { effort.budget ≤ MOST_BUDGET }
     requires none { all.old.items ≡ [] }
+    requires earlier { All (KnowsUsages book.now) earlier.old.sets.items }
     ensures { OnOk result
         (InParts (SliceNotes (inquiry book.now effort)) slices.now all.new.items) }
 {
     for slice in slices.iter() {
-        let checked = check_slice(alloc, book, slice, effort, earlier)?;
+        let task = SliceTask {
+            slice: *slice,
+            effort,
+        };
+        let checked = check_slice(alloc, book, task, earlier)?;
         let SliceCheck {
             mut notes,
             proof: _,
@@ -186,6 +192,7 @@ fn check_each(
     requires notes { all.old.notes.items ≡ [] }
     requires proofs { all.old.proofs.items ≡ [] }
     requires stopped { all.old.stopped ≡ false }
+    requires earlier { All (KnowsUsages book.now) earlier.old.sets.items }
     ensures notes { OnOk result
         (InParts (SliceNotes (inquiry book.now effort)) slices.now all.new.notes.items) }
     ensures stopped { OnOk result (all.new.stopped ≡ list_any stops all.new.notes.items) }
@@ -193,7 +200,11 @@ fn check_each(
         (all.new.stopped ≡ false → AllZip (ShowsSlice book.now) slices.now all.new.proofs.items) }
 {
     for slice in slices {
-        let checked = check_slice(alloc, book, slice, effort, earlier)?;
+        let task = SliceTask {
+            slice: *slice,
+            effort,
+        };
+        let checked = check_slice(alloc, book, task, earlier)?;
         let checked = with_short_proof(alloc, book, slice, checked)?;
         all.put(checked)?;
     }

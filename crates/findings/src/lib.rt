@@ -2,24 +2,18 @@
 //! it from its release.
 #![tactic(auto)]
 
-mod again;
 mod answer;
 mod check;
 mod earlier;
-mod effort;
-mod found;
-mod guide;
+mod known;
 mod laws;
-mod moves;
 mod outcome;
 mod pairs;
+mod refuting;
 mod report;
-mod sets;
-mod short;
 mod slice;
-mod trace;
-mod units;
-mod usages;
+mod task;
 
 pub use check::{Checked, check_book, report_book};
+pub use laws::report_laws;
 pub use report::{Ask, Note, Report, Verdict, verdict_of};

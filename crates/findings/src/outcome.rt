@@ -2,12 +2,11 @@
 ghost use Rattle.std.specs.Prelude.{◌≡◌, ◌++◌, IfOk, OnOk};
 ghost use Rattle.findings.specs.Outcomes.{outcome_of_set, outcome_of_clause, notes_of, closings_of};
 
-use crate::found::Found;
 use crate::report::Note;
 use clause_pool::Ref;
 use clausify::Question;
 use derivation::Closing;
-use pb_base::Memory;
+use pb_base::{CodeSet, Memory};
 use std::alloc::Global;
 
 /// What comes of a question.
@@ -29,13 +28,13 @@ pub(crate) struct Told {
 }
 
 /// What comes of a question whose goal this set meets.
-pub(crate) fn from_set(alloc: Global, question: Question, found: &Found) -> Result<Outcome, Memory>
-    ensures { IfOk result (λ outcome. outcome ≡ outcome_of_set question found.now.set) }
+pub(crate) fn from_set(alloc: Global, question: Question, set: &CodeSet) -> Result<Outcome, Memory>
+    ensures { IfOk result (λ outcome. outcome ≡ outcome_of_set question set.now) }
 {
     if !question.is_to_close() {
         return Ok(Outcome::Fine);
     }
-    let set = found.set.copy(alloc)?;
+    let set = set.copy(alloc)?;
     Ok(Outcome::Noted(Note::Finding {
         question,
         set: Some(set),

@@ -1,19 +1,18 @@
 //! The pairs of variants, asked before the other questions of the positions. A refutation then rests on no answer of those,
 //! so it stands in a later slice too where only they change. No answer hangs on it.
 ghost use Rattle.std.specs.Prelude.{◌≡◌, ◌<◌, ◌≤◌, All, length};
-ghost use Rattle.solver.specs.Solver.{Extends};
-ghost use Rattle.findings.specs.Answering.{SliceFacts, IsAsked, IsOver, IsFound};
-ghost use Rattle.pb_base.specs.declared.limits.TheConstants.{MOST_BUDGET};
+ghost use Rattle.slice_hints.specs.Found.{IsFound};
+ghost use Rattle.solver.specs.Solver.{Onwards};
+ghost use Rattle.findings.specs.Answering.{IsTask, IsAsked, IsOver};
 
 use crate::answer::answer;
-use crate::effort::Effort;
+use crate::known::Known;
 use crate::outcome::Outcome;
-use crate::sets::Sets;
-use crate::units::Units;
-use crate::usages::Usages;
-use book_model::{Book, Slice};
-use clausify::{Asked, Question};
+use crate::task::{Effort, SliceTask};
+use book_model::Book;
+use clausify::Asked;
 use pb_base::Memory;
+use slice_hints::{Sets, by_second, is_pair, may_be_met, pairs_at};
 use solver::Solver;
 use std::alloc::Global;
 
@@ -21,180 +20,100 @@ use std::alloc::Global;
 const PAIR_BUDGET: u32 = 1_000;
 
 /// Looks for what answers the questions for pairs.
+#[tactic(auto, using(solver::proofs::PoolLaws::onwards_same, solver::proofs::PoolLaws::onwards_twice))]
 pub(crate) fn answer_pairs(
     alloc: Global,
     book: &Book,
-    slice: &Slice,
-    effort: Effort,
+    task: SliceTask,
     asked: &[Asked],
     solver: &mut Solver,
     sets: &mut Sets,
-    usages: &Usages,
-    units: &mut Units,
+    known: &mut Known,
 ) -> Result<(), Memory>
-    requires facts { SliceFacts book.now slice.now }
-    requires asked { All (IsAsked book.now slice.now solver.old.vars) asked.now }
-    requires over { IsOver book.now slice.now solver.old }
-    requires sets { All (IsFound book.now slice.now) sets.old.found.items }
-    requires some { 0 < effort.budget }
-    requires budget { effort.budget ≤ MOST_BUDGET }
-    ensures extends { Extends solver.old.kernel solver.new.kernel }
-    ensures vars { solver.new.vars ≡ solver.old.vars }
-    ensures over { IsOver book.now slice.now solver.new }
-    ensures sets { All (IsFound book.now slice.now) sets.new.found.items }
+    requires task { IsTask book.now task }
+    requires asked { All (IsAsked book.now task.slice) asked.now }
+    requires over { IsOver book.now task.slice solver.old }
+    requires sets { All (IsFound book.now task.slice.first) sets.old }
+    ensures onwards { Onwards solver.old solver.new }
+    ensures sets { All (IsFound book.now task.slice.first) sets.new }
 {
-    let few = Effort {
-        ask: effort.ask,
-        budget: effort.budget.min(PAIR_BUDGET),
-    };
+    let few = with_few(task);
     for (place, one) in asked.iter().enumerate() {
-        if variants_in(one).is_none() {
+        if !is_pair(one) {
             continue;
         }
-        refute_pairs(alloc, solver, sets, units, asked, place)?;
-        let outcome = answer(alloc, book, slice, few, one, solver, sets, usages, units)?;
+        refute_pairs(alloc, solver, sets, known, asked, place)?;
+        let outcome = answer(alloc, book, few, one, solver, sets, known)?;
         if let Outcome::Closed(at) = outcome {
-            units.put(one.goal, at);
+            known.units.put(one.goal, at);
         }
     }
     Ok(())
 }
 
+// The same task with no more clauses than may be learnt for a pair before its turn.
+fn with_few(task: SliceTask) -> SliceTask
+    ensures slice { result.slice ≡ task.slice }
+    ensures some { 0 < task.effort.budget → 0 < result.effort.budget }
+    ensures most { result.effort.budget ≤ task.effort.budget }
+{
+    let effort = Effort {
+        ask: task.effort.ask,
+        budget: task.effort.budget.min(PAIR_BUDGET),
+    };
+    SliceTask {
+        slice: task.slice,
+        effort,
+    }
+}
+
 // Refutes the pair at a place of the questions without a search, if it can, and those of its position before the first of them.
-#[tactic(auto, using(solver::proofs::PoolLaws::extends_same, solver::proofs::PoolLaws::extends_twice))]
+#[tactic(auto, using(solver::proofs::PoolLaws::onwards_twice))]
 fn refute_pairs(
     alloc: Global,
     solver: &mut Solver,
     sets: &Sets,
-    units: &mut Units,
+    known: &mut Known,
     asked: &[Asked],
     place: usize,
 ) -> Result<(), Memory>
     requires { place < length asked.now }
-    ensures extends { Extends solver.old.kernel solver.new.kernel }
-    ensures vars { solver.new.vars ≡ solver.old.vars }
-    ensures codes { solver.new.codes ≡ solver.old.codes }
+    ensures { Onwards solver.old solver.new }
 {
-    refute_alone(alloc, solver, sets, units, pairs_at(asked, place))?;
-    refute_pair(solver, sets, units, &asked[place], Way::Both)
-}
-
-// A position, and two of its variants.
-#[derive(Clone, Copy)]
-struct Variants {
-    position: u32,
-    first: u32,
-    second: u32,
-}
-
-// What a question for a pair is for.
-fn variants_in(asked: &Asked) -> Option<Variants> {
-    match asked.question {
-        Question::Ambiguous {
-            position,
-            first,
-            second,
-        } => Some(Variants {
-            position,
-            first,
-            second,
-        }),
-        _ => None,
-    }
-}
-
-// The position of the pair that a place of the questions is for.
-fn position_at(asked: &[Asked], place: usize) -> Option<u32> {
-    match asked.get(place) {
-        Some(one) => Some(variants_in(one)?.position),
-        None => None,
-    }
-}
-
-// The pairs of a position whose first stands at this place of the questions, or none.
-fn pairs_at(asked: &[Asked], place: usize) -> &[Asked]
-    requires { place < length asked.now }
-{
-    let position = position_at(asked, place);
-    if position.is_none() || (place > 0 && position_at(asked, place - 1) == position) {
-        return &[];
-    }
-    let pairs = &asked[place..];
-    for count in 0..pairs.len() {
-        if position_at(pairs, count) != position {
-            return &pairs[..count];
-        }
-    }
-    pairs
-}
-
-// The pairs of a position, those with the same second variant side by side.
-fn by_second<'a>(alloc: Global, pairs: &'a [Asked]) -> Result<Vec<&'a Asked>, Memory> {
-    let mut places = Vec::new(alloc);
-    for (place, pair) in pairs.iter().enumerate() {
-        if let Some(here) = variants_in(pair) {
-            places.push((here.second, place))?;
-        }
-    }
-    places.sort_unstable();
-    let mut sorted = Vec::new(alloc);
-    for (_, place) in places {
-        if let Some(pair) = pairs.get(place) {
-            sorted.push(pair)?;
-        }
-    }
-    Ok(sorted)
+    refute_alone(alloc, solver, sets, known, pairs_at(asked, place))?;
+    refute_pair(solver, sets, known, &asked[place], Way::Both)
 }
 
 // Refutes what the propagation of a variant's formula can of the pairs of a position, first of the first ones, then of the
 // second ones.
-#[tactic(auto, using(solver::proofs::PoolLaws::extends_same, solver::proofs::PoolLaws::extends_twice))]
+#[tactic(auto, using(solver::proofs::PoolLaws::onwards_twice))]
 fn refute_alone(
     alloc: Global,
     solver: &mut Solver,
     sets: &Sets,
-    units: &mut Units,
+    known: &mut Known,
     pairs: &[Asked],
 ) -> Result<(), Memory>
-    ensures extends { Extends solver.old.kernel solver.new.kernel }
-    ensures vars { solver.new.vars ≡ solver.old.vars }
-    ensures codes { solver.new.codes ≡ solver.old.codes }
+    ensures { Onwards solver.old solver.new }
 {
-    refute_by_first(solver, sets, units, pairs)?;
+    refute_each(solver, sets, known, pairs, Way::First)?;
     let sorted = by_second(alloc, pairs)?;
-    refute_by_second(solver, sets, units, &sorted)
+    refute_each(solver, sets, known, &sorted, Way::Second)
 }
 
-#[tactic(auto, using(solver::proofs::PoolLaws::extends_same))]
-fn refute_by_first(
+// Refutes what can be of these pairs in this way.
+#[tactic(auto, using(solver::proofs::PoolLaws::onwards_same))]
+fn refute_each(
     solver: &mut Solver,
     sets: &Sets,
-    units: &mut Units,
+    known: &mut Known,
     pairs: &[Asked],
+    way: Way,
 ) -> Result<(), Memory>
-    ensures extends { Extends solver.old.kernel solver.new.kernel }
-    ensures vars { solver.new.vars ≡ solver.old.vars }
-    ensures codes { solver.new.codes ≡ solver.old.codes }
+    ensures { Onwards solver.old solver.new }
 {
     for pair in pairs {
-        refute_pair(solver, sets, units, pair, Way::First)?;
-    }
-    Ok(())
-}
-
-#[tactic(auto, using(solver::proofs::PoolLaws::extends_same))]
-fn refute_by_second(
-    solver: &mut Solver,
-    sets: &Sets,
-    units: &mut Units,
-    pairs: &[&Asked],
-) -> Result<(), Memory>
-    ensures extends { Extends solver.old.kernel solver.new.kernel }
-    ensures vars { solver.new.vars ≡ solver.old.vars }
-    ensures codes { solver.new.codes ≡ solver.old.codes }
-{
-    for pair in pairs {
-        refute_pair(solver, sets, units, pair, Way::Second)?;
+        refute_pair(solver, sets, known, pair, way)?;
     }
     Ok(())
 }
@@ -208,39 +127,31 @@ enum Way {
 }
 
 // Refutes a pair by the propagation of its variants' formulas, if it can.
-#[tactic(auto, using(solver::proofs::PoolLaws::extends_same))]
+#[tactic(auto, using(solver::proofs::PoolLaws::onwards_same))]
 fn refute_pair(
     solver: &mut Solver,
     sets: &Sets,
-    units: &mut Units,
+    known: &mut Known,
     pair: &Asked,
     way: Way,
 ) -> Result<(), Memory>
-    ensures extends { Extends solver.old.kernel solver.new.kernel }
-    ensures vars { solver.new.vars ≡ solver.old.vars }
-    ensures codes { solver.new.codes ≡ solver.old.codes }
+    ensures { Onwards solver.old solver.new }
 {
-    if !units.is_open(pair.goal) || pair.goal.var() >= solver.vars() || is_met(sets, pair) {
+    if !known.units.is_open(pair.goal) || may_be_met(sets, pair) {
         return Ok(());
     }
-    let Some(implied) = units.implied(solver.kernel().pool(), pair.goal) else {
+    let Some(implied) = known.units.implied(solver.kernel().pool(), pair.goal) else {
         return Ok(());
     };
     let found = match way {
-        Way::First => solver.refute(pair.goal, implied[0])?,
-        Way::Second => solver.refute(pair.goal, implied[1])?,
-        Way::Both => solver.refute_both(pair.goal, &implied)?,
+        Way::First => known.refuting.refute(solver, pair.goal, &implied[0])?,
+        Way::Second => known.refuting.refute(solver, pair.goal, &implied[1])?,
+        Way::Both => known
+            .refuting
+            .refute_both(solver, pair.goal, &implied[0], &implied[1])?,
     };
     if let Some(at) = found {
-        units.put(pair.goal, at);
+        known.units.put(pair.goal, at);
     }
     Ok(())
-}
-
-// Whether a set seems to have both variants.
-fn is_met(sets: &Sets, pair: &Asked) -> bool {
-    match variants_in(pair) {
-        Some(here) => sets.using(here.first) & sets.using(here.second) != 0,
-        None => false,
-    }
 }

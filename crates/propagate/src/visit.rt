@@ -84,7 +84,8 @@ pub(crate) fn put_last(assignment: &mut Assignment, code: u32, clause: u32) -> b
     true
 }
 
-// Whether the blocker of an entry is true, or the other literal that its clause watches.
+// Whether the blocker of an entry is true, or the other literal that its clause watches, which for a clause of two is the
+// blocker.
 #[inline(always)]
 fn is_true_by(assignment: &Assignment, watched: &WatchedClauses, code: u32, entry: Watch) -> bool
     requires codes { length watched.now.lists ≡ assignment.now.vars + assignment.now.vars }
@@ -94,6 +95,9 @@ fn is_true_by(assignment: &Assignment, watched: &WatchedClauses, code: u32, entr
 {
     if assignment.is_true(entry.blocker) {
         return true;
+    }
+    if entry.is_binary {
+        return false;
     }
     assignment.is_true(watched.other_of(entry.clause, code))
 }

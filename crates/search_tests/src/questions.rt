@@ -3,9 +3,11 @@ ghost use Rattle.std.specs.Prelude.{◌≡◌, ◌*◌, ◌<◌, ◌≤◌, IfOk
 ghost use Rattle.clause_pool.specs.Clause.{AreBelow, IsBelow};
 ghost use Rattle.pb_base.specs.declared.limits.TheConstants.{MOST_BUDGET};
 
-use clause_pool::{Kernel, Lit, Pool};
+use clause_pool::{Kernel, Lit, Pool, Ref};
 use pb_base::Memory;
-use solver::{Answer, Implied, Solver};
+use preparing::{Implied, Refuter};
+use propagate::Engine;
+use solver::{Answer, Deriver, Solver};
 use std::alloc::Global;
 use std::test::Fail;
 
@@ -87,10 +89,8 @@ fn is_shared(solver: &Solver) -> bool {
     pool.len() == 13 && implies(pool.lits(11), 7, 6) && implies(pool.lits(12), 6, 7)
 }
 
-// Whether the goal 9 is refuted by what the two literals come to together that it implies.
-fn is_refuted_by_both(solver: &mut Solver) -> Result<bool, Memory>
-    requires { solver.old.vars ≡ 36 }
-{
+// What the goal 9 implies.
+fn implied() -> [Implied; 2] {
     let first = Implied {
         lit: Lit::new(7, true),
         by: 8,
@@ -99,25 +99,67 @@ fn is_refuted_by_both(solver: &mut Solver) -> Result<bool, Memory>
         lit: Lit::new(8, true),
         by: 9,
     };
-    let goal = Lit::new(9, true);
-    let Some(at) = solver.refute_both(goal, &[first, second])? else {
+    [first, second]
+}
+
+// Shares disjunctions, and once a clause is false refutes the goal 9 by it.
+#[derive(Drop)]
+struct Preparing {
+    alloc: Global,
+    refuter: Refuter,
+    conflict: Option<Ref>,
+    found: Option<Ref>,
+}
+
+impl Preparing {
+    fn new(alloc: Global) -> Preparing {
+        Preparing {
+            alloc,
+            refuter: Refuter::new(alloc, 5),
+            conflict: None,
+            found: None,
+        }
+    }
+}
+
+impl Deriver for Preparing {
+    fn derive(&mut self, kernel: &mut Kernel, engine: &Engine) -> Result<(), Memory> {
+        match self.conflict {
+            Some(at) => {
+                let goal = Lit::new(9, true);
+                self.found = self
+                    .refuter
+                    .close_conflict(kernel, engine, goal, &implied(), at)?;
+                Ok(())
+            }
+            None => self.refuter.share(self.alloc, kernel, 36),
+        }
+    }
+}
+
+// Whether the goal 9 is refuted by what the two literals come to together that it implies.
+fn is_refuted_by_both(solver: &mut Solver, preparing: &mut Preparing) -> Result<bool, Memory> {
+    let [first, second] = implied();
+    solver.assume(first.lit)?;
+    preparing.conflict = solver.assume_further(second.lit)?;
+    solver.derive_by(preparing)?;
+    let Some(at) = preparing.found else {
         return Ok(false);
     };
-    Ok(closes(solver, &Answer::Closed(at), goal.not()))
+    Ok(closes(solver, &Answer::Closed(at), Lit::new(9, false)))
 }
 
 // Whether that is so once the two disjunctions are shared.
-fn is_shared_and_refuted(solver: &mut Solver) -> Result<bool, Memory>
-    requires { solver.old.vars ≡ 36 }
-{
-    solver.share()?;
-    Ok(is_shared(solver) && is_refuted_by_both(solver)?)
+fn is_shared_and_refuted(solver: &mut Solver, preparing: &mut Preparing) -> Result<bool, Memory> {
+    solver.derive_by(preparing)?;
+    Ok(is_shared(solver) && is_refuted_by_both(solver, preparing)?)
 }
 
 #[test]
 fn a_question_of_two_literals(rt: HostRuntime) -> Result<(), Fail> {
     let mut solver = solver_of(rt.alloc(), SHARED)?;
-    let refuted = is_shared_and_refuted(&mut solver);
+    let mut preparing = Preparing::new(rt.alloc());
+    let refuted = is_shared_and_refuted(&mut solver, &mut preparing);
     assert!(rt; matches!(refuted, Ok(true)));
     Ok(())
 }
@@ -144,15 +186,16 @@ fn is_excluded(solver: &Solver, code: u32) -> bool {
 }
 
 // Whether 0 is said to exclude each of the four once the disjunctions are shared.
-fn are_excluded(solver: &mut Solver) -> Result<bool, Memory> {
-    solver.share()?;
+fn are_excluded(solver: &mut Solver, preparing: &mut Preparing) -> Result<bool, Memory> {
+    solver.derive_by(preparing)?;
     Ok((1..5).all(|code| is_excluded(solver, code)))
 }
 
 #[test]
 fn a_code_that_excludes_four(rt: HostRuntime) -> Result<(), Fail> {
     let mut solver = solver_of(rt.alloc(), EXCLUDING)?;
-    let excluded = are_excluded(&mut solver);
+    let mut preparing = Preparing::new(rt.alloc());
+    let excluded = are_excluded(&mut solver, &mut preparing);
     assert!(rt; matches!(excluded, Ok(true)));
     Ok(())
 }

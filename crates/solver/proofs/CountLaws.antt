@@ -1,18 +1,18 @@
 -- How many clauses can be new one after the other: each has a number in base 3, a digit for each variable.
-use Rattle.std.proofs.Common.{◌≡◌, ◌⊎◌, inl, inr, ℕ, zero, suc, ◌+◌, ◌*◌, ◌/◌, ◌^◌, ◌<◌, ◌≤◌, Bool, true, false, List, [], ◌∷◌, length, map, take, drop, get_or, eqb, cond, refl, sym, subst, ◌∙◌, ap, arith, length-drop}
+use Rattle.std.proofs.Common.{◌≡◌, ◌⊎◌, inl, inr, ℕ, zero, suc, ◌+◌, ◌*◌, ◌/◌, ◌^◌, ◌<◌, ◌≤◌, Bool, true, false, List, [], ◌∷◌, ◌++◌, length, map, take, get_or, eqb, cond, refl, sym, subst, ◌∙◌, ap, arith}
 use Rattle.std.proofs.Math.Nat.{pow-suc}
 use Rattle.std.specs.List.{IsDistinct, list_any}
 use Rattle.std.proofs.lemmas.Bool.{cases_Bool, cases_eq, cases_order, false≢true, eqb-true, ne_eqb, or_cases}
-use Rattle.std.proofs.lemmas.List.{length-map, get_or-map, get_or-take, length-take-le, get_or-drop}
+use Rattle.std.proofs.lemmas.List.{length-map, get_or-map, get_or-take, length-take-le}
 use Rattle.std.proofs.lemmas.Map.Keys.{IsDistinct-from_apart}
 use Rattle.std.proofs.lemmas.Map.Steps.{length-le_from_distinct_below}
 use Rattle.clause_pool.specs.Literal.{complement}
 use Rattle.clause_pool.specs.Clause.{has, AreBelow}
 use Rattle.clause_pool.proofs.LiteralLaws.{even_or_odd, complement-positive, complement-complement}
 use Rattle.clause_pool.proofs.ClauseLaws.{all_at}
-use Rattle.propagate.specs.Quiet.{IsQuietFor}
-use Rattle.solver.specs.Answer.{IsNew}
-use Rattle.solver.specs.Search.{AllNew}
+use Rattle.propagate.specs.Quiet.{Quiet, IsQuietFor}
+use Rattle.solver.specs.Answer.{IsNew, IsSpent}
+use Rattle.solver.proofs.EndLaws.{all_first, all_second}
 use Rattle.solver.proofs.PoolLaws.{clause_below}
 
 -- the digit of a variable: 0 where the clause doesn't have it, else by its sign
@@ -108,31 +108,44 @@ any_below f bound q (c ∷ cs) low found = elim (or_cases (eqb q (f c)) (list_an
   | inr later ↦ any_below f bound q cs low later
 ]
 
-module _ (g first vars : ℕ) (clauses : List (List ℕ)) (fresh : AllNew g first clauses) (below : AreBelow (2 * vars) clauses) where
-  apart : (i j : ℕ) → i < j → first + j < length clauses → number (get_or clauses (first + i) []) vars ≡ number (get_or clauses (first + j) []) vars → ⊥
+module _ (vars : ℕ) (given : List (List ℕ)) (g budget : ℕ) (learnt : List (List ℕ)) (spent : IsSpent vars given g budget learnt) where
+  apart : (i j : ℕ) → i < j → j < budget → number (get_or learnt i []) vars ≡ number (get_or learnt j []) vars → ⊥
   apart i j less within e =
-      let later = fresh (first + j) (omega arith) within in
-      let earlier = fresh (first + i) (omega arith) (omega (arith, less, within)) in
-      let front : get_or (take (first + j) clauses) (first + i) [] ≡ get_or clauses (first + i) [] = get_or-take (first + j) clauses (first + i) [] (omega (arith, less)) in
-      let quiet = all_at (IsQuietFor later.quiet_set) (take (first + j) clauses) [] (first + i) later.quiet.each (omega (arith, less, length-take-le (first + j) clauses (omega (arith, within)))) in
-      not_before (take (first + j) clauses) g (get_or clauses (first + j) []) (get_or clauses (first + i) []) later (subst (IsQuietFor later.quiet_set) front quiet)
+      let count = spent.count in
+      let later = (spent.each j within).is_new in
+      let earlier = (spent.each i (omega (arith, less, within))).is_new in
+      let front : get_or (take j learnt) i [] ≡ get_or learnt i [] = get_or-take j learnt i [] (omega (arith, less)) in
+      let quiet = all_at (IsQuietFor later.quiet_set) (take j learnt) [] i (all_second (IsQuietFor later.quiet_set) given (take j learnt) later.quiet.each)
+      (omega (arith, less, length-take-le j learnt (omega (arith, within, count)))) in
+      not_before (given ++ take j learnt) g (get_or learnt j []) (get_or learnt i []) later (subst (IsQuietFor later.quiet_set) front quiet)
       (λ l. elim (le_or_lt (2 * vars) l) [
-        | inl high ↦ past_bound (2 * vars) clauses (first + j) l below high ∙ sym (past_bound (2 * vars) clauses (first + i) l below high)
-        | inr low ↦ same_literals (get_or clauses (first + j) []) (get_or clauses (first + i) []) vars l
-            (no_pair (take (first + j) clauses) g (get_or clauses (first + j) []) later) (no_pair (take (first + i) clauses) g (get_or clauses (first + i) []) earlier) (sym e) low
+        | inl high ↦ past_bound (2 * vars) learnt j l spent.below high ∙ sym (past_bound (2 * vars) learnt i l spent.below high)
+        | inr low ↦ same_literals (get_or learnt j []) (get_or learnt i []) vars l
+            (no_pair (given ++ take j learnt) g (get_or learnt j []) later) (no_pair (given ++ take i learnt) g (get_or learnt i []) earlier) (sym e) low
       ])
 
--- no more than 3 ^ vars clauses are new one after the other
-pub count_bound : (g first budget vars : ℕ) (clauses : List (List ℕ)) → AllNew g first clauses → AreBelow (2 * vars) clauses → length clauses ≡ first + budget → budget ≤ 3 ^ vars
-count_bound g first budget vars clauses fresh below count =
+-- no more than 3 ^ vars clauses over so many variables are new one after the other
+pub spent_within : (vars : ℕ) (given : List (List ℕ)) (g budget : ℕ) (learnt : List (List ℕ)) → IsSpent vars given g budget learnt → budget ≤ 3 ^ vars
+spent_within vars given g budget learnt spent =
+    let count = spent.count in
     let f : List ℕ → ℕ = λ c. number c vars in
-    let len : length (map f (drop first clauses)) ≡ budget = length-map (drop first clauses) f ∙ length-drop first clauses ∙ omega (arith, count) in
-    let read : (i : ℕ) (d : ℕ) → i < budget → get_or (map f (drop first clauses)) i d ≡ number (get_or clauses (first + i) []) vars =
-    λ i d low. get_or-map f (drop first clauses) i [] d (omega (arith, low, count, length-drop first clauses)) ∙ ap f (get_or-drop first clauses i []) in
-    let distinct : IsDistinct eqb (map f (drop first clauses)) = IsDistinct-from_apart eqb (map f (drop first clauses)) (λ i j d less low.
+    let len : length (map f learnt) ≡ budget = length-map learnt f ∙ count in
+    let read : (i : ℕ) (d : ℕ) → i < budget → get_or (map f learnt) i d ≡ number (get_or learnt i []) vars =
+    λ i d low. get_or-map f learnt i [] d (omega (arith, low, count)) in
+    let distinct : IsDistinct eqb (map f learnt) = IsDistinct-from_apart eqb (map f learnt) (λ i j d less low.
     let high : j < budget = omega (arith, low, len) in
-    ne_eqb (get_or (map f (drop first clauses)) i d) (get_or (map f (drop first clauses)) j d)
-    (λ e. apart g first vars clauses fresh below i j less (omega (arith, high, count)) (sym (read i d (omega (arith, less, high))) ∙ e ∙ read j d high))) in
-    let bound = length-le_from_distinct_below (map f (drop first clauses)) (3 ^ vars) distinct
-    (λ q found. any_below f (3 ^ vars) q (drop first clauses) (λ c. number_below c vars) found) in
+    ne_eqb (get_or (map f learnt) i d) (get_or (map f learnt) j d)
+    (λ e. apart vars given g budget learnt spent i j less high (sym (read i d (omega (arith, less, high))) ∙ e ∙ read j d high))) in
+    let bound = length-le_from_distinct_below (map f learnt) (3 ^ vars) distinct
+    (λ q found. any_below f (3 ^ vars) q learnt (λ c. number_below c vars) found) in
     omega (arith, bound, len)
+
+-- the first of them shows a quiet set of the given clauses that holds the assumption
+pub spent_quiet : (vars : ℕ) (given : List (List ℕ)) (g budget : ℕ) (learnt : List (List ℕ)) → IsSpent vars given g budget learnt → 0 < budget
+    → (lits : List ℕ) × Quiet given lits × (has lits g ≡ true)
+spent_quiet vars given g budget learnt spent some =
+    let n = (spent.each 0 some).is_new in (
+      n.quiet_set,
+      record { consistent = n.quiet.consistent; each = all_first (IsQuietFor n.quiet_set) given (take 0 learnt) n.quiet.each },
+      n.assumed,
+    )

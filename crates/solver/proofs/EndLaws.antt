@@ -13,10 +13,10 @@ use Rattle.clause_pool.proofs.LiteralLaws.{even_or_odd, is_true-positive, is_tru
 use Rattle.clause_pool.proofs.ClauseLaws.{clause_true-has, all_take, all_at, Follows-more, clause_of-rising}
 use Rattle.pb_base.specs.Sets.{has as has_code}
 use Rattle.propagate.specs.Trail.{Trail, IsTrail}
-use Rattle.propagate.specs.Quiet.{Quiet, IsQuietFor}
+use Rattle.propagate.specs.Quiet.{IsQuietFor}
 use Rattle.propagate.specs.Assignment.{value_over}
 use Rattle.solver.specs.Answer.{Begins, IsNew, IsSpent}
-use Rattle.solver.specs.Solver.{given_of}
+use Rattle.chains.specs.Growth.{given_of}
 use Rattle.solver.specs.Search.{IsFull, AllNew}
 use Rattle.solver.proofs.TrailLaws.{consistent}
 use Rattle.solver.proofs.MarkLaws.{is_false}
@@ -139,15 +139,15 @@ clauses_more first at xs old new c low within is read rising added =
     added ∙ ap (λ (d : List ℕ). old ++ d ∷ []) (clause_of-rising c rising ∙ read) ∙ ap (λ (cs : List (List ℕ)). cs ++ get_or xs at [] ∷ []) is ∙ sym (drop_more first at xs low within)
 
 module _ {X : Type 0} (P : X → Type 0) where
-  all_append : (xs ys : List X) → AllByRecursion P xs → AllByRecursion P ys → AllByRecursion P (xs ++ ys)
+  pub all_append : (xs ys : List X) → AllByRecursion P xs → AllByRecursion P ys → AllByRecursion P (xs ++ ys)
   all_append [] ys a b = b
   all_append (x ∷ xs) ys a b = (a.0, all_append xs ys a.1 b)
 
-  all_first : (xs ys : List X) → AllByRecursion P (xs ++ ys) → AllByRecursion P xs
+  pub all_first : (xs ys : List X) → AllByRecursion P (xs ++ ys) → AllByRecursion P xs
   all_first [] ys a = tt
   all_first (x ∷ xs) ys a = (a.0, all_first xs ys a.1)
 
-  all_second : (xs ys : List X) → AllByRecursion P (xs ++ ys) → AllByRecursion P ys
+  pub all_second : (xs ys : List X) → AllByRecursion P (xs ++ ys) → AllByRecursion P ys
   all_second [] ys a = a
   all_second (x ∷ xs) ys a = all_second xs ys a.1
 
@@ -177,9 +177,11 @@ new_to_fewer g n first k clauses c low within h = record {
   not_false = h.not_false;
 }
 
-pub spent_of : (k : Derivation) (g budget first : ℕ) (learnt : List (List ℕ)) → AllFollow k → k.given ≤ first → length k.clauses ≡ first + budget → AllNew g first k.clauses → learnt ≡ drop first k.clauses → IsSpent (given_of k) g budget learnt
-spent_of k g budget first learnt follow given count fresh is = subst (IsSpent (given_of k) g budget) (sym is) (record {
+pub spent_of : (k : Derivation) (vars g budget first : ℕ) (learnt : List (List ℕ)) → AllFollow k → AreBelow (2 * vars) k.clauses → k.given ≤ first → length k.clauses ≡ first + budget
+    → AllNew g first k.clauses → learnt ≡ drop first k.clauses → IsSpent vars (given_of k) g budget learnt
+spent_of k vars g budget first learnt follow below given count fresh is = subst (IsSpent vars (given_of k) g budget) (sym is) (record {
   count = let l = length-drop first k.clauses in omega (arith, l, count);
+  below = all_second (IsBelow (2 * vars)) (take first k.clauses) (drop first k.clauses) (subst (AreBelow (2 * vars)) (sym (take-append-drop first k.clauses)) below);
   each = λ n low.
       let here : get_or (drop first k.clauses) n [] ≡ get_or k.clauses (first + n) [] = get_or-drop first k.clauses n [] in
       record {
@@ -189,18 +191,6 @@ spent_of k g budget first learnt follow given count fresh is = subst (IsSpent (g
             (new_to_fewer g k.given first n k.clauses (get_or k.clauses (first + n) []) given (omega (arith, count)) (fresh (first + n) (omega arith) (omega (arith, count, low))));
       };
 })
-
--- the first of the clauses that were learnt shows a quiet set of the given ones
-pub spent_quiet : (k : Derivation) (g budget first : ℕ) → 0 < budget → k.given ≤ first → length k.clauses ≡ first + budget → AllNew g first k.clauses → (lits : List ℕ) × Quiet (given_of k) lits × (has lits g ≡ true)
-spent_quiet k g budget first some given count fresh =
-    let n = fresh first (omega arith) (omega (arith, count, some)) in (
-      n.quiet_set,
-      record {
-        consistent = n.quiet.consistent;
-        each = subst (AllByRecursion (IsQuietFor n.quiet_set)) (take-take k.given first k.clauses given) (all_take (IsQuietFor n.quiet_set) k.given (take first k.clauses) n.quiet.each);
-      },
-      n.assumed,
-    )
 
 pub drop_none : (first : ℕ) (xs : List (List ℕ)) → drop first (take first xs) ≡ []
 drop_none first xs = ap (λ (n : ℕ). drop first (take n xs)) (let e : first ≡ first + 0 = omega arith in e) ∙ drop-take first 0 xs

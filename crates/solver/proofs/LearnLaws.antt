@@ -22,7 +22,7 @@ use Rattle.propagate.proofs.KeepLaws.{has_at}
 use Rattle.propagate.proofs.QuietLaws.{has_take}
 use Rattle.solver.specs.Answer.{IsNew}
 use Rattle.solver.specs.Marks.{AreClear, AreFalseBut, IsChain, IsUnmarked, IsUip, start_of, false_at}
-use Rattle.solver.specs.Solver.{ClosedBy}
+use Rattle.chains.specs.Growth.{ClosedBy}
 use Rattle.solver.specs.declared.resolution.Resolution.{Resolution}
 use Rattle.solver.specs.Search.{IsReady, IsKept, IsSearch, IsAppended, IsAsserting, IsLesson, IsConflict, IsLearning, IsNext, AllNew, next_of}
 use Rattle.solver.proofs.TrailLaws.{consistent}

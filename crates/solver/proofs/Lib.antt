@@ -2,7 +2,6 @@ pub mod TrailLaws
 pub mod MarkLaws
 pub mod SearchLaws
 pub mod PoolLaws
-pub mod GrowthLaws
 pub mod WayLaws
 pub mod LearnLaws
 pub mod EndLaws

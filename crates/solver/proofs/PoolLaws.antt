@@ -1,10 +1,14 @@
 -- What holds of the clauses of a kernel that is learning.
-use Rattle.std.proofs.Common.{◌≡◌, inl, inr, ℕ, zero, suc, ◌+◌, ◌<◌, ◌≤◌, true, List, [], ◌∷◌, ◌++◌, length, take, get_or, eqb, refl, sym, subst, ◌∙◌, ap, length-append, append_assoc}
+use Rattle.std.proofs.Common.{◌≡◌, inl, inr, ℕ, zero, suc, ◌+◌, ◌*◌, ◌<◌, ◌≤◌, Bool, true, List, [], ◌∷◌, ◌++◌, length, take, get_or, eqb, refl, sym, subst, ◌∙◌, ap, arith, length-append}
 use Rattle.std.proofs.lemmas.Bool.{false≢true, or_cases, eqb-true}
-use Rattle.std.proofs.lemmas.List.{take-append-le, take_all, take_more}
+use Rattle.std.proofs.lemmas.List.{take-append-le, take_all, take_more, length-take}
 use Rattle.clause_pool.specs.Clause.{has, IsBelow, AreBelow}
 use Rattle.clause_pool.specs.Derivation.{Derivation}
-use Rattle.solver.specs.Solver.{Extends}
+use Rattle.chains.specs.Growth.{Grows}
+use Rattle.chains.proofs.GrowthLaws.{extends_same, extends_twice}
+use Rattle.propagate.specs.Trail.{Trail}
+use Rattle.solver.specs.Search.{IsKept}
+use Rattle.solver.specs.Solver.{Solving, Onwards}
 
 pub literal_below : (bound : ℕ) (c : List ℕ) (l : ℕ) → IsBelow bound c → has c l ≡ true → l < bound
 literal_below bound [] l all is_in = absurd (false≢true is_in)
@@ -19,32 +23,6 @@ clause_below bound [] k l all is_in = absurd (false≢true is_in)
 clause_below bound (c ∷ cs) zero l all is_in = literal_below bound c l all.0 is_in
 clause_below bound (c ∷ cs) (suc k) l all is_in = clause_below bound cs k l all.1 is_in
 
-append_nothing : (xs : List (List ℕ)) → xs ≡ xs ++ []
-append_nothing [] = refl
-append_nothing (x ∷ xs) = ap (λ (ys : List (List ℕ)). x ∷ ys) (append_nothing xs)
-
--- nothing was derived
-pub extends_same : (k : Derivation) → Extends k k
-extends_same k = record { same_number = refl; same_given = refl; more = []; clauses = append_nothing k.clauses }
-
--- further clauses, and further ones
-pub extends_twice : (a b c : Derivation) → Extends a b → Extends b c → Extends a c
-extends_twice a b c f s = record {
-  same_number = s.same_number ∙ f.same_number;
-  same_given = s.same_given ∙ f.same_given;
-  more = f.more ++ s.more;
-  clauses = s.clauses ∙ ap (λ (cs : List (List ℕ)). cs ++ s.more) f.clauses ∙ append_assoc a.clauses f.more s.more;
-}
-
--- one more clause leaves the given ones
-pub extends_one : (a b : Derivation) (c : List ℕ) → a.given ≤ length a.clauses → b.given ≡ a.given → b.clauses ≡ a.clauses ++ c ∷ [] → Extends a b
-extends_one a b c within number clauses = record {
-  same_number = number;
-  same_given = ap (λ (n : ℕ). take n b.clauses) number ∙ ap (take a.given) clauses ∙ take-append-le a.given a.clauses (c ∷ []) within;
-  more = c ∷ [];
-  clauses = clauses;
-}
-
 -- one more clause is attached
 pub attached_more : (old new clauses : List (List ℕ)) (at : ℕ) → old ≡ take (length old) clauses → at ≡ length old → at < length clauses → new ≡ old ++ get_or clauses at [] ∷ [] → new ≡ take (length new) clauses
 attached_more old new clauses at attached place low more =
@@ -56,3 +34,34 @@ attached_more old new clauses at attached place low more =
 
 pub attached_all : (old clauses : List (List ℕ)) → old ≡ take (length old) clauses → length clauses ≤ length old → old ≡ clauses
 attached_all old clauses attached low = attached ∙ take_all (length old) clauses low
+
+-- the clauses that were attached still are the first
+pub kept_grown : (old new : Derivation) (t : Trail) (marks : List Bool) → IsKept old.clauses t marks → Grows old new → IsKept new.clauses t marks
+kept_grown old new t marks kept more =
+    let n : ℕ = length t.clauses in
+    let few = ap length kept.attached ∙ length-take n old.clauses in
+    record {
+      attached =
+          kept.attached ∙ sym (take-append-le n old.clauses more.extends.more (omega (arith, few)))
+          ∙ ap (take n) (sym more.extends.clauses);
+      below = more.bounds (2 * t.vars) kept.below;
+      table = kept.table;
+    }
+
+-- nothing was derived
+pub onwards_same : (s : Solving) → Onwards s s
+onwards_same s = record { extends = extends_same s.kernel; same_vars = refl; same_codes = refl }
+
+-- onwards, and further on
+pub onwards_twice : (a b c : Solving) → Onwards a b → Onwards b c → Onwards a c
+onwards_twice a b c f s = record {
+  extends = extends_twice a.kernel b.kernel c.kernel f.extends s.extends;
+  same_vars = s.same_vars ∙ f.same_vars;
+  same_codes = s.same_codes ∙ f.same_codes;
+}
+
+pub onwards_equal : (old new : Solving) → new ≡ old → Onwards old new
+onwards_equal old new is = subst (Onwards old) (sym is) (onwards_same old)
+
+pub onwards_after : (a b c : Solving) → b ≡ a → Onwards b c → Onwards a c
+onwards_after a b c is on = onwards_twice a b c (onwards_equal a b is) on

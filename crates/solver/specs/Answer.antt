@@ -1,12 +1,12 @@
 -- What a search answers about an assumed literal g over given clauses, and why each answer may be believed.
 --     Begins given g codes x        a set begins an assignment that satisfies the clauses with g true
---     Refutes g c                   a clause has no literal but the complement of g
 --     IsNew clauses g c             a clause says what propagation over these clauses doesn't
---     IsSpent given g budget learnt so many learnt clauses, each of which follows and is new
-use Rattle.std.specs.Prelude.{◌≡◌, ℕ, ◌<◌, Bool, true, List, [], ◌++◌, length, take, slice_index_or}
+--     IsSpent vars given g budget learnt
+--                                   so many learnt clauses over these variables, each of which follows and is new
+use Rattle.std.specs.Prelude.{◌≡◌, ℕ, ◌*◌, ◌<◌, Bool, true, List, [], ◌++◌, length, take, slice_index_or}
 use Rattle.pb_base.specs.Sets.{has as has_code}
 use Rattle.clause_pool.specs.Literal.{complement, is_true}
-use Rattle.clause_pool.specs.Clause.{has, Sat, Follows}
+use Rattle.clause_pool.specs.Clause.{has, AreBelow, Sat, Follows}
 use Rattle.propagate.specs.Trail.{OthersFalse}
 use Rattle.propagate.specs.Quiet.{Quiet}
 
@@ -16,9 +16,6 @@ pub record Begins (given : List (List ℕ)) (g codes : ℕ) (x : List Bool) : Ty
   pub assumed : is_true assignment g ≡ true
   pub counted : length x ≡ codes
   pub begins : (i : ℕ) → i < codes → assignment i ≡ has_code x i
-
-abbrev pub Refutes : ℕ → List ℕ → Type 0
-Refutes g c = (l : ℕ) → has c l ≡ true → l ≡ complement g
 
 -- for one of its literals there is a quiet set that holds g, in which the clause's other literals are false and this
 -- one is neither true nor false
@@ -36,6 +33,8 @@ pub record IsLearnt (clauses : List (List ℕ)) (g : ℕ) (c : List ℕ) : Type 
   pub follows : Follows clauses c
   pub is_new : IsNew clauses g c
 
-pub record IsSpent (given : List (List ℕ)) (g budget : ℕ) (learnt : List (List ℕ)) : Type 0 where
+pub record IsSpent (vars : ℕ) (given : List (List ℕ)) (g budget : ℕ) (learnt : List (List ℕ)) : Type 0 where
   pub count : length learnt ≡ budget
+  -- they speak of no other variables
+  pub below : AreBelow (2 * vars) learnt
   pub each : (k : ℕ) → k < budget → IsLearnt (given ++ take k learnt) g (slice_index_or learnt k [])

@@ -2,8 +2,8 @@
 use Rattle.std.specs.Prelude.{◌≡◌, ℕ, ◌<◌}
 use Rattle.propagate.specs.Trail.{Trail}
 use Rattle.solver.specs.Search.{IsSearch, IsConflict, IsFull, left_of}
-use Rattle.solver.specs.declared.descend.Decision.{Decision}
-use Rattle.solver.specs.declared.descend.Decision.TheVariants.{Refuted, Full, Assumed}
+use Rattle.solver.specs.declared.decide.Decision.{Decision}
+use Rattle.solver.specs.declared.decide.Decision.TheVariants.{Refuted, Full, Assumed}
 
 -- the assumption is false at level 0, or every variable has a value, or a literal was assumed
 abbrev pub IsDecided : Trail → Trail → ℕ → Decision → Type 0

@@ -1,18 +1,12 @@
 -- What a solver is to its callers, and what it answers.
 --     Solving                    its kernel, the number of its variables, and how many of them are codes
---     Extends old new            further clauses were derived, and nothing else changed
---     Grows old new              the same, with each bound on the literals kept
---     resolvent_of pairs r       the resolvent of a chain of these pairs, whose result is r
---     IsDerivedBy old new start pairs c place
---                                a chain's resolvent was derived, if there is one, and stands at a place
---     IsRight k codes g budget answer
---                                what an answer says of the clauses of a kernel
-use Rattle.std.specs.Prelude.{◌≡◌, ℕ, List, [], ◌∷◌, ◌++◌, Option, Some, None, Result, Ok, Err, length, take, slice_get}
-use Rattle.clause_pool.specs.Clause.{KeepsBounds}
-use Rattle.clause_pool.specs.Derivation.{Derivation, grown}
-use Rattle.clause_pool.specs.declared.chain.Pair.{Pair}
-use Rattle.clause_pool.specs.declared.chain.StepFault.{StepFault}
-use Rattle.solver.specs.Answer.{Begins, Refutes, IsSpent}
+--     Onwards old new            its kernel derived further clauses, and nothing else changed
+--     IsRight solving g budget answer
+--                                what an answer says of the clauses of a solver's kernel
+use Rattle.std.specs.Prelude.{◌≡◌, ℕ}
+use Rattle.clause_pool.specs.Derivation.{Derivation}
+use Rattle.chains.specs.Growth.{Extends, ClosedBy, given_of}
+use Rattle.solver.specs.Answer.{Begins, IsSpent}
 use Rattle.solver.specs.declared.answer.Answer.{Answer}
 use Rattle.solver.specs.declared.answer.Answer.TheVariants.{Set, Closed, Spent}
 
@@ -21,38 +15,12 @@ pub record Solving : Type 0 where
   pub vars : ℕ
   pub codes : ℕ
 
--- the clauses that the kernel was given
-abbrev pub given_of : Derivation → List (List ℕ)
-given_of k = take k.given k.clauses
+pub record Onwards (old new : Solving) : Type 0 where
+  pub extends : Extends old.kernel new.kernel
+  pub same_vars : new.vars ≡ old.vars
+  pub same_codes : new.codes ≡ old.codes
 
-pub record Extends (old new : Derivation) : Type 0 where
-  pub same_number : new.given ≡ old.given
-  pub same_given : given_of new ≡ given_of old
-  pub more : List (List ℕ)
-  pub clauses : new.clauses ≡ old.clauses ++ more
-
-pub record Grows (old new : Derivation) : Type 0 where
-  pub extends : Extends old new
-  pub bounds : KeepsBounds old.clauses new.clauses
-
--- the resolvent of a chain, unless the chain has none or is a clause alone
-abbrev pub resolvent_of : List Pair → Result (List ℕ) StepFault → Option (List ℕ)
-resolvent_of [] r = None
-resolvent_of (p ∷ ps) (Ok c) = Some c
-resolvent_of (p ∷ ps) (Err fault) = None
-
--- a derivation with one more clause, or the same, and where that clause stands
-abbrev pub IsDerivedBy : Derivation → Derivation → ℕ → List Pair → Option (List ℕ) → Option ℕ → Type 0
-IsDerivedBy old new start pairs (Some c) place = (new ≡ grown old start pairs c) × (place ≡ Some (length old.clauses))
-IsDerivedBy old new start pairs None place = (new ≡ old) × (place ≡ None)
-
--- the kernel's clause at this place has no literal but the complement of the assumed one
-pub record ClosedBy (k : Derivation) (g at : ℕ) : Type 0 where
-  pub clause : List ℕ
-  pub there : slice_get k.clauses at ≡ Some clause
-  pub refutes : Refutes g clause
-
-abbrev pub IsRight : Derivation → ℕ → ℕ → ℕ → Answer → Type 0
-IsRight k codes g budget (Set x) = Begins (given_of k) g codes x
-IsRight k codes g budget (Closed at) = ClosedBy k g at
-IsRight k codes g budget (Spent learnt) = IsSpent (given_of k) g budget learnt.clauses
+abbrev pub IsRight : Solving → ℕ → ℕ → Answer → Type 0
+IsRight s g budget (Set x) = Begins (given_of s.kernel) g s.codes x
+IsRight s g budget (Closed at) = ClosedBy s.kernel g at
+IsRight s g budget (Spent learnt) = IsSpent s.vars (given_of s.kernel) g budget learnt.clauses

@@ -2,27 +2,21 @@
 //! none.
 #![tactic(auto)]
 
+mod analyze;
 mod answer;
-mod chain;
+mod backjump;
 mod conflict;
-mod descend;
-mod exclude;
-mod gates;
-mod jump;
-mod learn;
+mod decide;
+mod deriver;
 mod marks;
 mod minimize;
 mod order;
-mod ranking;
-mod refute;
+mod rank;
 mod resolution;
 mod run;
-mod share;
-mod shortcut;
 mod solver;
 mod way;
 
 pub use answer::Answer;
-pub use chain::{derive, refuting_unit};
-pub use refute::Implied;
+pub use deriver::Deriver;
 pub use solver::Solver;

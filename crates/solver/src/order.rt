@@ -3,7 +3,7 @@ ghost use Rattle.std.specs.Prelude.{◌≡◌, ◌⊎◌, ℕ, ◌+◌, ◌*◌,
 ghost use Rattle.clause_pool.specs.Literal.{complement};
 ghost use Rattle.clause_pool.specs.Clause.{has};
 
-use crate::ranking::Ranking;
+use crate::rank::Ranking;
 use clause_pool::Lit;
 use pb_base::Memory;
 use propagate::Engine;
@@ -70,16 +70,12 @@ impl Order {
         }
     }
 
-    /// The variable of this literal is to be decided before the others, with this value. Where there is no room, it is
-    /// not.
-    pub(crate) fn prefer(&mut self, lit: Lit) {
-        if self.are_old {
-            self.hints.clear();
-            self.are_old = false;
-        }
-        if self.hints.push(lit).is_err() {
-            self.hints.clear();
-        }
+    /// The variables of these literals are to be decided before the others, each with this value. Where there is no room,
+    /// none is.
+    pub(crate) fn prefer(&mut self, hints: &[Lit]) {
+        self.hints.clear();
+        self.are_old = false;
+        let _ = self.hints.extend_from_slice(hints);
     }
 
     /// A question is asked, with the hints that were given for it.

@@ -6,12 +6,12 @@ ghost use Rattle.propagate.specs.Trail.{level};
 ghost use Rattle.solver.specs.Answer.{IsNew};
 ghost use Rattle.solver.specs.Marks.{IsChain, AreClear, AreFalseBut};
 ghost use Rattle.solver.specs.Search.{IsReady, IsKept, IsSearch, IsConflict, IsLearning, IsFull, AllNew};
-ghost use Rattle.solver.specs.Solver.{Extends, ClosedBy};
+ghost use Rattle.chains.specs.Growth.{ClosedBy, Extends};
 
+use crate::analyze::{analyze, append};
+use crate::backjump::backjump;
 use crate::conflict::{Resolvable, resolve_at};
-use crate::descend::descend;
-use crate::jump::jump;
-use crate::learn::{append, learn};
+use crate::decide::descend;
 use crate::marks::{is_marked, unmark_one};
 use crate::order::Order;
 use crate::resolution::Resolution;
@@ -167,8 +167,8 @@ fn go_on(
         → IsNew kernel.old.clauses g (slice_index_or kernel.new.clauses (length kernel.old.clauses) [])) }
     ensures search { OnOk result ((g : ℕ) → IsSearch g engine.old → IsSearch g engine.new) }
 {
-    let place = learn(kernel, engine, resolution, way, order, at)?;
-    jump(engine, kernel.pool(), order, place)?;
+    let place = analyze(kernel, engine, resolution, way, order, at)?;
+    backjump(engine, kernel.pool(), order, place)?;
     Ok(())
 }
 

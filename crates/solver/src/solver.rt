@@ -1,24 +1,23 @@
 //! A solver: many questions over the same given clauses.
-ghost use Rattle.std.specs.Prelude.{◌≡◌, ℕ, List, ◌+◌, ◌*◌, ◌^◌, ◌<◌, ◌≤◌, length, take, drop, IfOk, IfSome, OnOk, Ok, true};
+ghost use Rattle.std.specs.Prelude.{◌≡◌, ℕ, List, ◌+◌, ◌*◌, ◌^◌, ◌<◌, ◌≤◌, length, take, drop, IfOk, OnOk, Ok, true};
 ghost use Rattle.clause_pool.specs.Clause.{has, AreBelow};
 ghost use Rattle.clause_pool.specs.PoolContents.{PoolContents};
+ghost use Rattle.chains.specs.Growth.{given_of};
 ghost use Rattle.pb_base.specs.Sets.{has as has_code};
 ghost use Rattle.propagate.specs.Trail.{IsTrail, level};
 ghost use Rattle.propagate.specs.Quiet.{Quiet};
 ghost use Rattle.solver.specs.Answer.{Begins, IsSpent};
 ghost use Rattle.solver.specs.Marks.{AreClear};
 ghost use Rattle.solver.specs.Search.{IsReady, IsSearch, IsKept, IsFull, AllNew};
-ghost use Rattle.solver.specs.Solver.{ClosedBy, Extends, IsRight, given_of};
+ghost use Rattle.solver.specs.Solver.{IsRight, Onwards};
 ghost use Rattle.pb_base.specs.declared.limits.TheConstants.{MOST_BUDGET};
 
 use crate::answer::Answer;
+use crate::deriver::Deriver;
 use crate::marks::clear;
 use crate::order::Order;
-use crate::refute::{Implied, Walk, close_conflict, close_false};
 use crate::resolution::Resolution;
 use crate::run::{Ending, run};
-use crate::share::share_disjunctions;
-use crate::shortcut::Shortcuts;
 use crate::way::Way;
 use clause_pool::{Kernel, Lit, Pool, Ref};
 use pb_base::{CodeSet, Memory};
@@ -36,8 +35,6 @@ pub struct Solver {
     resolution: Resolution,
     way: Way,
     order: Order,
-    shortcuts: Shortcuts,
-    walk: Walk,
     codes: u32,
 }
 
@@ -57,7 +54,7 @@ impl Model for Solver {
 
 impl Solver {
     /// A solver over the clauses of a kernel, whose variables are below `vars`; the first of them are codes. On want
-    /// of memory the kernel is gone.
+    /// of memory the kernel is gone. The clauses are attached by the first call that propagates.
     pub fn new(alloc: Global, kernel: Kernel, vars: u32, codes: u32) -> Result<Solver, Memory>
         requires below { AreBelow (2 * vars) kernel.clauses }
         requires codes { codes ≤ vars }
@@ -70,8 +67,6 @@ impl Solver {
             resolution: Resolution::new(alloc, vars as usize + vars as usize)?,
             way: Way::new(alloc),
             order: Order::new(alloc, codes)?,
-            shortcuts: Shortcuts::new(alloc, codes),
-            walk: Walk::new(alloc),
             codes,
         })
     }
@@ -90,19 +85,6 @@ impl Solver {
         self.engine.vars()
     }
 
-    /// Derives what the given clauses say of disjunctions, so that what is derived later is short. No answer hangs on it.
-    #[tactic(auto, using(crate::proofs::GrowthLaws::kept_grown))]
-    pub fn share(&mut self) -> Result<(), Memory>
-        ensures extends { Extends self.old.kernel self.new.kernel }
-        ensures vars { self.new.vars ≡ self.old.vars }
-        ensures codes { self.new.codes ≡ self.old.codes }
-    {
-        let vars = self.engine.vars();
-        let sharing = share_disjunctions(self.alloc, &mut self.kernel, self.codes, vars)?;
-        self.shortcuts.lead_to(sharing);
-        Ok(())
-    }
-
     /// Gives the kernel back.
     pub fn into_kernel(self) -> Kernel
         ensures { result ≡ self.kernel }
@@ -110,20 +92,12 @@ impl Solver {
         self.kernel
     }
 
-    /// A hint: the variable of this literal is decided before others, and this value of it is tried first. No
-    /// answer becomes wrong by it.
-    pub fn prefer(&mut self, lit: Lit)
+    /// Hints for the next question: the variables of these literals are decided before others, the last one first, and
+    /// this value of each is tried first. No answer becomes wrong by it.
+    pub fn prefer(&mut self, hints: &[Lit])
         ensures { self.new ≡ self.old }
     {
-        self.order.prefer(lit);
-    }
-
-    /// A hint: the disjunctions among the variables from this one on and before another are decided before others, true at
-    /// first. Of those that are of the same literals, the one that the others imply is. No answer becomes wrong by it.
-    pub fn prefer_disjunctions(&mut self, from: u32, until: u32)
-        ensures { self.new ≡ self.old }
-    {
-        prefer_firsts(&mut self.order, &self.shortcuts, from, until);
+        self.order.prefer(hints);
     }
 
     /// Looks for a set of codes that begins an assignment which satisfies the given clauses with this literal true,
@@ -132,17 +106,14 @@ impl Solver {
         requires below { assume < 2 * self.old.vars }
         requires some { 0 < budget }
         requires budget { budget ≤ MOST_BUDGET }
-        ensures extends { Extends self.old.kernel self.new.kernel }
-        ensures vars { self.new.vars ≡ self.old.vars }
-        ensures codes { self.new.codes ≡ self.old.codes }
-        ensures answer { IfOk result (IsRight self.new.kernel self.new.codes assume budget) }
+        ensures onwards { Onwards self.old self.new }
+        ensures answer { IfOk result (IsRight self.new assume budget) }
         ensures spent_within { (learnt : PoolContents) → result ≡ Ok (Answer.Spent learnt)
             → budget ≤ 3 ^ self.old.vars }
         ensures spent_over_quiet { (learnt : PoolContents) → result ≡ Ok (Answer.Spent learnt)
             → (lits : List ℕ) × Quiet (given_of self.old.kernel) lits × (has lits assume ≡ true) }
     {
         let first = self.kernel.pool().len();
-        self.shortcuts.forget();
         prepare(
             &self.kernel,
             &mut self.engine,
@@ -169,104 +140,46 @@ impl Solver {
             }
             Ending::Closed(at) => Ok(Answer::Closed(at)),
             Ending::Spent => {
-                let learnt = learnt_from(self.alloc, &self.kernel, first, assume, budget)?;
+                let vars = self.engine.vars();
+                let learnt = learnt_from(self.alloc, &self.kernel, vars, first, assume, budget)?;
                 Ok(Answer::Spent(learnt))
             }
         }
     }
 
-    /// The place of a clause that refutes a goal, where the goal implies a literal whose propagation makes the goal false.
-    /// None says nothing of the goal. While the same literal is implied, it is propagated once.
-    #[tactic(auto, using(crate::proofs::GrowthLaws::kept_grown))]
-    pub fn refute(&mut self, goal: Lit, implied: Implied) -> Result<Option<Ref>, Memory>
-        requires { goal < 2 * self.old.vars }
-        ensures extends { Extends self.old.kernel self.new.kernel }
-        ensures vars { self.new.vars ≡ self.old.vars }
-        ensures codes { self.new.codes ≡ self.old.codes }
-        ensures closed { IfOk result (λ found. IfSome found (ClosedBy self.new.kernel goal)) }
-    {
-        self.assume_first(implied.lit)?;
-        close_false(
-            &mut self.kernel,
-            &self.engine,
-            &mut self.shortcuts,
-            &mut self.walk,
-            goal,
-            &[implied],
-        )
-    }
-
-    /// The same where the goal implies several literals, of which the first and the last are assumed one after the other.
-    #[tactic(auto, using(crate::proofs::PoolLaws::extends_same))]
-    pub fn refute_both(&mut self, goal: Lit, implied: &[Implied]) -> Result<Option<Ref>, Memory>
-        requires { goal < 2 * self.old.vars }
-        ensures extends { Extends self.old.kernel self.new.kernel }
-        ensures vars { self.new.vars ≡ self.old.vars }
-        ensures codes { self.new.codes ≡ self.old.codes }
-        ensures closed { IfOk result (λ found. IfSome found (ClosedBy self.new.kernel goal)) }
-    {
-        let Some(first) = implied.first() else {
-            return Ok(None);
-        };
-        let found = self.refute(goal, *first)?;
-        if found.is_some() {
-            return Ok(found);
-        }
-        self.close_both(goal, implied)
-    }
-
-    // Assumes the last literal too, and closes the goal by the clause that is false then, if one is.
-    #[tactic(auto, using(crate::proofs::GrowthLaws::kept_grown, crate::proofs::PoolLaws::extends_same))]
-    fn close_both(&mut self, goal: Lit, implied: &[Implied]) -> Result<Option<Ref>, Memory>
-        ensures extends { Extends self.old.kernel self.new.kernel }
-        ensures vars { self.new.vars ≡ self.old.vars }
-        ensures codes { self.new.codes ≡ self.old.codes }
-        ensures closed { IfOk result (λ found. IfSome found (ClosedBy self.new.kernel goal)) }
-    {
-        let Some(last) = implied.last() else {
-            return Ok(None);
-        };
-        let conflict = propagate_further(&self.kernel, &mut self.engine, last.lit)?;
-        let Some(at) = conflict else {
-            return Ok(None);
-        };
-        let closed = close_conflict(
-            &mut self.kernel,
-            &self.engine,
-            &mut self.shortcuts,
-            &mut self.walk,
-            goal,
-            implied,
-            at,
-        )?;
-        self.shortcuts.forget();
-        Ok(closed)
-    }
-
-    // Assumes a literal alone and propagates it.
-    fn assume_first(&mut self, lit: Lit) -> Result<(), Memory>
+    /// Assumes a literal alone, unless it has a value without, and propagates it. False where it is assumed alone already,
+    /// and nothing was propagated again.
+    pub fn assume(&mut self, lit: Lit) -> Result<bool, Memory>
         ensures { self.new ≡ self.old }
     {
         if begins_with(&self.engine, lit) {
-            return Ok(());
+            return Ok(false);
         }
-        self.shortcuts.forget();
         assume_alone(
             &self.kernel,
             &mut self.engine,
             &self.resolution,
             &mut self.order,
             lit,
-        )
+        )?;
+        Ok(true)
     }
-}
 
-// Prefers the first disjunction of the same literals for each of these variables that is one.
-fn prefer_firsts(order: &mut Order, shortcuts: &Shortcuts, from: u32, until: u32) {
-    for var in from..until {
-        if let Some(first) = shortcuts.first_of(var) {
-            order.prefer(Lit::new(first, true));
-        }
+    /// Assumes a further literal, unless it has a value, and gives the place of the clause that is false then, if one is.
+    /// Where the kernel derived something since the last propagation, nothing is assumed.
+    #[tactic(auto, using(crate::proofs::LearnLaws::kept_moved))]
+    pub fn assume_further(&mut self, lit: Lit) -> Result<Option<Ref>, Memory>
+        ensures { self.new ≡ self.old }
+    {
+        propagate_further(&self.kernel, &mut self.engine, lit)
+    }
+
+    /// Lets a deriver derive further clauses. It sees the trail that the last propagation left.
+    #[tactic(auto, using(crate::proofs::PoolLaws::kept_grown))]
+    pub fn derive_by<D: Deriver>(&mut self, deriver: &mut D) -> Result<(), Memory>
+        ensures { Onwards self.old self.new }
+    {
+        deriver.derive(&mut self.kernel, &self.engine)
     }
 }
 
@@ -425,14 +338,16 @@ fn clauses_from(alloc: Global, pool: &Pool, first: Ref) -> Result<Pool, Memory>
 fn learnt_from(
     alloc: Global,
     kernel: &Kernel,
+    vars: u32,
     first: Ref,
     g: Lit,
     budget: u32,
 ) -> Result<Pool, Memory>
+    requires below { AreBelow (2 * vars) kernel.now.clauses }
     requires given { kernel.now.given ≤ first }
     requires count { length kernel.now.clauses ≡ first + budget }
     requires fresh { AllNew g first kernel.now.clauses }
-    ensures { IfOk result (λ learnt. IsSpent (given_of kernel.now) g budget learnt.clauses) }
+    ensures { IfOk result (λ learnt. IsSpent vars (given_of kernel.now) g budget learnt.clauses) }
 {
     let pool = kernel.pool();
     let learnt = clauses_from(alloc, pool, first)?;

@@ -1,49 +1,68 @@
-use Rattle.std.proofs.Common.{sym, subst, ◌∙◌}
-use Rattle.solver.specs.Answer.{Begins}
-use Rattle.solver.specs.Solver.{given_of}
+use Rattle.std.proofs.Common.{◌≡◌, ap, sym, subst, ◌∙◌, arith}
+use Rattle.chains.specs.Growth.{given_of}
+use Rattle.solver.specs.Answer.{Begins, IsSpent}
+use Rattle.solver.specs.Solver.{Solving}
 use Rattle.findings.specs.Answering.{IsOutcome, IsOver, inquiry}
-use Rattle.findings.specs.Findings.{MeetsThrough}
-use Rattle.findings.proofs.SolverLaws.{over_further, meets_by_solver, found_of}
-use Rattle.findings.proofs.ToldLaws.{set_outcome}
+use Rattle.findings.specs.Outcomes.{outcome_of_set}
+use Rattle.findings.proofs.Lifting.{on_first}
+use Rattle.findings.proofs.SolverLaws.{over_onwards, meets_by_solver, counted_by_solver, spent_by_solver, of_answer}
+use Rattle.findings.proofs.ToldLaws.{set_outcome, left_outcome}
 use Rattle.findings.proofs.answer.answer_by_search.Goals as goal
 
-pub returns-in_ok-put-in-Set-clause-sets : goal.returns-in_ok-put-in-Set-clause-sets
-returns-in_ok-put-in-Set-clause-sets c =
-    let b = c.args.book.now in
-    let s = c.args.slice.now in
-    let a = c.args.asked.now in
-    let now = c.solve.new.self in
-    let guided : IsOver b s c.guide.new.solver = subst (IsOver b s) (sym c.guide.ensures) c.requires.over in
-    let over : IsOver b s now = over_further b s c.guide.new.solver now guided c.solve.ensures.extends c.solve.ensures.codes in
-    let begins : Begins (given_of now.kernel) a.goal now.codes c.in-Set.set = rw c.in-Set.is at c.in_ok-searched.ensures.answer in
-    let met = meets_by_solver b s c.requires.asked.number a now c.in-Set.set c.requires.facts c.requires.asked.is_its over begins in
-    let found = found_of b s a.question c.in-Set.set c.in_ok-found-in-Set.found c.in_ok-found-in-Set.ensures.set c.in_ok-found-in-Set.ensures.usages (begins.counted ∙ over.codes) met in
-    c.put.ensures b s c.requires.sets found
+pub solve-requires-clause-below : goal.solve-requires-clause-below
+solve-requires-clause-below c =
+    let same = ap (λ (s : Solving). s.vars) c.point.ensures in
+    omega (arith, same, c.requires.over.variables, c.requires.asked.below)
 
-pub returns-in_err-put-in-Set-clause-sets : goal.returns-in_err-put-in-Set-clause-sets
-returns-in_err-put-in-Set-clause-sets c =
+pub keep-requires-clause-counted : goal.keep-requires-clause-counted
+keep-requires-clause-counted c =
     let b = c.args.book.now in
-    let s = c.args.slice.now in
+    let s = c.args.task.slice in
     let a = c.args.asked.now in
     let now = c.solve.new.self in
-    let guided : IsOver b s c.guide.new.solver = subst (IsOver b s) (sym c.guide.ensures) c.requires.over in
-    let over : IsOver b s now = over_further b s c.guide.new.solver now guided c.solve.ensures.extends c.solve.ensures.codes in
+    let over : IsOver b s now = over_onwards b s c.point.new.solver now (subst (IsOver b s) (sym c.point.ensures) c.requires.over) c.solve.ensures.onwards in
     let begins : Begins (given_of now.kernel) a.goal now.codes c.in-Set.set = rw c.in-Set.is at c.in_ok-searched.ensures.answer in
-    let met = meets_by_solver b s c.requires.asked.number a now c.in-Set.set c.requires.facts c.requires.asked.is_its over begins in
-    let found = found_of b s a.question c.in-Set.set c.in_ok-found-in-Set.found c.in_ok-found-in-Set.ensures.set c.in_ok-found-in-Set.ensures.usages (begins.counted ∙ over.codes) met in
-    c.put.ensures b s c.requires.sets found
+    counted_by_solver b s a.goal now c.in-Set.set over begins
 
-pub returns-in_ok-put-in-Set-clause-outcome : goal.returns-in_ok-put-in-Set-clause-outcome
-returns-in_ok-put-in-Set-clause-outcome c =
+pub keep-requires-clause-good : goal.keep-requires-clause-good
+keep-requires-clause-good c =
     let b = c.args.book.now in
-    let s = c.args.slice.now in
+    let s = c.args.task.slice in
     let a = c.args.asked.now in
-    let i = inquiry b c.args.effort in
     let now = c.solve.new.self in
-    let guided : IsOver b s c.guide.new.solver = subst (IsOver b s) (sym c.guide.ensures) c.requires.over in
-    let over : IsOver b s now = over_further b s c.guide.new.solver now guided c.solve.ensures.extends c.solve.ensures.codes in
+    let over : IsOver b s now = over_onwards b s c.point.new.solver now (subst (IsOver b s) (sym c.point.ensures) c.requires.over) c.solve.ensures.onwards in
     let begins : Begins (given_of now.kernel) a.goal now.codes c.in-Set.set = rw c.in-Set.is at c.in_ok-searched.ensures.answer in
-    let met = meets_by_solver b s c.requires.asked.number a now c.in-Set.set c.requires.facts c.requires.asked.is_its over begins in
-    let x = c.in_ok-found-in-Set.found.set in
-    subst (IsOutcome i s now.kernel.clauses a) (sym c.in_ok-outcome-in-Set.ensures)
-    (set_outcome i s now.kernel.clauses a x c.requires.facts.order c.requires.asked.fits (subst (MeetsThrough b s a.question) (sym c.in_ok-found-in-Set.ensures.set) met))
+    (meets_by_solver b s c.requires.asked.number a now c.in-Set.set c.requires.task.facts c.requires.asked.is_its over begins).good_then s.first (on_first s c.requires.task.facts.order)
+
+pub returns-in-Set-clause-outcome : goal.returns-in-Set-clause-outcome
+returns-in-Set-clause-outcome c =
+    let b = c.args.book.now in
+    let s = c.args.task.slice in
+    let a = c.args.asked.now in
+    let i = inquiry b c.args.task.effort in
+    let now = c.solve.new.self in
+    let x = c.in-Set.set in
+    let over : IsOver b s now = over_onwards b s c.point.new.solver now (subst (IsOver b s) (sym c.point.ensures) c.requires.over) c.solve.ensures.onwards in
+    let begins : Begins (given_of now.kernel) a.goal now.codes x = rw c.in-Set.is at c.in_ok-searched.ensures.answer in
+    of_answer c.keep.result (outcome_of_set a.question x) (IsOutcome i s now.kernel.clauses a)
+    (set_outcome i s now.kernel.clauses a x c.requires.task.facts.order c.requires.asked.fits
+    (meets_by_solver b s c.requires.asked.number a now x c.requires.task.facts c.requires.asked.is_its over begins))
+    c.keep.ensures.outcome
+
+pub closed_outcome-requires-clause-over : goal.closed_outcome-requires-clause-over
+closed_outcome-requires-clause-over c =
+    let b = c.args.book.now in
+    let s = c.args.task.slice in
+    over_onwards b s c.point.new.solver c.solve.new.self (subst (IsOver b s) (sym c.point.ensures) c.requires.over) c.solve.ensures.onwards
+
+pub returns-in-Spent-clause-outcome : goal.returns-in-Spent-clause-outcome
+returns-in-Spent-clause-outcome c =
+    let b = c.args.book.now in
+    let s = c.args.task.slice in
+    let a = c.args.asked.now in
+    let i = inquiry b c.args.task.effort in
+    let now = c.solve.new.self in
+    let learnt = c.in-Spent.learnt in
+    let over : IsOver b s now = over_onwards b s c.point.new.solver now (subst (IsOver b s) (sym c.point.ensures) c.requires.over) c.solve.ensures.onwards in
+    let spent : IsSpent now.vars (given_of now.kernel) a.goal c.args.task.effort.budget learnt.clauses = rw c.in-Spent.is at c.in_ok-searched.ensures.answer in
+    left_outcome i s now.kernel.clauses a learnt c.requires.asked.fits (spent_by_solver b s a.goal c.args.task.effort.budget now learnt.clauses over spent)

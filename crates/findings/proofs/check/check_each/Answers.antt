@@ -34,4 +34,5 @@ loop-slice-preserved c =
           subst (λ (ss : List Slice). AllZip (ShowsSlice b) ss c.put.new.self.proofs.items) (sym next)
           (subst (AllZip (ShowsSlice b) (take k slices ++ s ∷ [])) (sym c.in_ok-put.ensures.proofs)
           (proofs_more b (take k slices) s all.proofs.items own.notes.items all.stopped own.proof so_far.proofs c.in_ok-checked-2.ensures.proof (sym stopped ∙ free)));
+      earlier = c.in_ok-checked.ensures.earlier;
     }

@@ -15,6 +15,10 @@ loop-slice-preserved c =
     let s : Slice = get_or slices k none in
     let below : k < length slices = omega arith in
     let next : take (k + 1) slices ≡ take k slices ++ s ∷ [] = take_more slices k none below in
-    subst (λ (ss : List Slice). InParts (SliceNotes i) ss c.append.new.self.items) (sym next)
-    (subst (InParts (SliceNotes i) (take k slices ++ s ∷ [])) (sym c.in_ok-append.ensures.items)
-    (parts_more (SliceNotes i) (take k slices) s c.loop-slice.all.items c.in_ok-checked.checked.notes.items c.loop-slice.invariant c.in_ok-checked.ensures.notes))
+    record {
+      notes =
+          subst (λ (ss : List Slice). InParts (SliceNotes i) ss c.append.new.self.items) (sym next)
+          (subst (InParts (SliceNotes i) (take k slices ++ s ∷ [])) (sym c.in_ok-append.ensures.items)
+          (parts_more (SliceNotes i) (take k slices) s c.loop-slice.all.items c.in_ok-checked.checked.notes.items c.loop-slice.invariant.notes c.in_ok-checked.ensures.notes));
+      earlier = c.in_ok-checked.ensures.earlier;
+    }

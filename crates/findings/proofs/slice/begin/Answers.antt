@@ -4,4 +4,4 @@ use Rattle.findings.proofs.slice.begin.Goals as goal
 
 pub new-requires-clause-below : goal.new-requires-clause-below
 new-requires-clause-below c =
-    below_grown (2 * c.args.vars) c.args.clauses.clauses c.of-kernel.result c.derive_earlier.new.kernel c.of-kernel.ensures c.requires.below c.derive_earlier.ensures
+    below_grown (2 * c.args.vars) c.args.clauses.clauses c.of-kernel.result c.derive_in.new.kernel c.of-kernel.ensures c.requires.below c.derive_in.ensures

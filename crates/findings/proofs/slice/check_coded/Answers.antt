@@ -1,38 +1,30 @@
-use Rattle.std.proofs.Common.{ℕ, subst, arith}
-use Rattle.solver.specs.Solver.{IsRight}
-use Rattle.findings.proofs.SliceLaws.{IsBegun, begun, over_begun, asked_begun}
+use Rattle.std.proofs.Common.{ℕ, ◌*◌, ◌<◌, All, length, sym, ap, subst, ◌∙◌, arith}
+use Rattle.clausify.specs.Goals.{void_asked}
+use Rattle.slice_hints.specs.Found.{KnowsUsages}
+use Rattle.findings.specs.Answering.{IsOver, inquiry}
+use Rattle.findings.proofs.SliceLaws.{over_begun, concluded_notes, concluded_proof}
 use Rattle.findings.proofs.slice.check_coded.Goals as goal
 
-pub solve-requires-clause-below : goal.solve-requires-clause-below
-solve-requires-clause-below c =
+pub tell_slice-requires-clause-over : goal.tell_slice-requires-clause-over
+tell_slice-requires-clause-over c =
+    over_begun c.args.book.now c.args.task.slice c.args.clauses.clauses c.args.vars c.in_ok-solver.solver c.requires.clauses c.requires.variables
+    c.in_ok-solver.ensures.over c.in_ok-solver.ensures.vars c.in_ok-solver.ensures.codes
+
+pub tell_slice-requires-clause-void : goal.tell_slice-requires-clause-void
+tell_slice-requires-clause-void c =
     let vars = c.in_ok-solver.ensures.vars in
-    omega (arith, vars, c.requires.goal)
+    omega (arith, vars, c.requires.void)
 
-pub check_answered-requires-clause-asked : goal.check_answered-requires-clause-asked
-check_answered-requires-clause-asked c =
+pub tell_slice-requires-clause-earlier : goal.tell_slice-requires-clause-earlier
+tell_slice-requires-clause-earlier c = subst (λ sets. All (KnowsUsages c.args.book.now) sets.items) (sym c.begin.ensures.sets) c.requires.earlier
+
+pub returns : goal.returns
+returns c =
     let b = c.args.book.now in
-    let s = c.args.slice.now in
-    let now : IsBegun b s c.args.vars c.solve.new.self =
-    begun b s c.args.clauses.clauses c.args.vars c.in_ok-solver.solver c.solve.new.self c.requires.clauses c.in_ok-solver.ensures.over c.in_ok-solver.ensures.vars c.in_ok-solver.ensures.codes
-    c.solve.ensures.extends c.solve.ensures.vars c.solve.ensures.codes in
-    asked_begun b s c.args.vars c.solve.new.self c.args.later.now now c.requires.asked
-
-pub check_answered-requires-clause-given : goal.check_answered-requires-clause-given
-check_answered-requires-clause-given c =
-    let b = c.args.book.now in
-    let s = c.args.slice.now in
-    (begun b s c.args.clauses.clauses c.args.vars c.in_ok-solver.solver c.solve.new.self c.requires.clauses c.in_ok-solver.ensures.over c.in_ok-solver.ensures.vars c.in_ok-solver.ensures.codes
-    c.solve.ensures.extends c.solve.ensures.vars c.solve.ensures.codes).over
-
-pub check_answered-requires-clause-over : goal.check_answered-requires-clause-over
-check_answered-requires-clause-over c =
-    let b = c.args.book.now in
-    let s = c.args.slice.now in
-    over_begun b s c.args.vars c.solve.new.self
-    (begun b s c.args.clauses.clauses c.args.vars c.in_ok-solver.solver c.solve.new.self c.requires.clauses c.in_ok-solver.ensures.over c.in_ok-solver.ensures.vars c.in_ok-solver.ensures.codes
-    c.solve.ensures.extends c.solve.ensures.vars c.solve.ensures.codes)
-
-pub check_answered-requires-clause-right : goal.check_answered-requires-clause-right
-check_answered-requires-clause-right c =
-    let now = c.solve.new.self in
-    subst (λ (g : ℕ). IsRight now.kernel now.codes g c.args.effort.budget c.in_ok-searched.searched) c.requires.void c.in_ok-searched.ensures.answer
+    let s = c.args.task.slice in
+    let told = c.in_ok-told.told in
+    record {
+      earlier = c.in_ok-told.ensures.earlier;
+      notes = concluded_notes (inquiry b c.args.task.effort) s told c.conclude.result c.in_ok-told.ensures.notes c.conclude.ensures.notes;
+      proof = concluded_proof b s c.tell_slice.new.solver.kernel told c.conclude.result c.in_ok-told.ensures.proof c.conclude.ensures.notes c.conclude.ensures.proof;
+    }

@@ -1,6 +1,6 @@
 use Rattle.std.proofs.Common.{length, arith, ◌∙◌}
 use Rattle.solver.proofs.LearnLaws.{all_new_more}
-use Rattle.solver.proofs.PoolLaws.{extends_twice}
+use Rattle.chains.proofs.GrowthLaws.{extends_twice}
 use Rattle.solver.proofs.run.run.Goals as goal
 
 pub loop-learnt-preserved : goal.loop-learnt-preserved

@@ -1,7 +1,7 @@
 use Rattle.std.proofs.Common.{◌≡◌, ℕ, ◌+◌, ◌-◌, ◌≤◌, length}
 use Rattle.clause_pool.specs.Derivation.{Derivation}
 use Rattle.solver.specs.Search.{IsReady, IsSearch, AllNew}
-use Rattle.solver.specs.Solver.{Extends}
+use Rattle.chains.specs.Growth.{Extends}
 use Rattle.solver.proofs.run.run.Given as goal
 
 pub record Progress (old new : Derivation) (g learnt : ℕ) : Type 0 where

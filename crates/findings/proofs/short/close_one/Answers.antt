@@ -1,8 +1,0 @@
-use Rattle.findings.proofs.ToldLaws.{closed_one}
-use Rattle.findings.proofs.short.close_one.Goals as goal
-
-pub returns : goal.returns
-returns c =
-    let found = c.in_ok-at-2.ensures.closed in
-    closed_one c.args.kernel.now.clauses c.args.asked.question c.args.asked.goal c.in_ok-at-2.at
-    (record { clause = found.clause; there = found.there; refutes = found.refutes })

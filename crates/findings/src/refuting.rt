@@ -1,0 +1,142 @@
+//! Goals refuted without a search: what they imply is propagated, and where that makes them false, the reasons are the chain.
+ghost use Rattle.std.specs.Prelude.{◌≡◌};
+ghost use Rattle.chains.specs.Growth.{Grows};
+ghost use Rattle.solver.specs.Solver.{Onwards};
+
+use clause_pool::{Kernel, Lit, Ref};
+use pb_base::Memory;
+use preparing::{Implied, Refuter};
+use propagate::Engine;
+use solver::{Deriver, Solver};
+use std::alloc::Global;
+
+// What is derived next.
+#[derive(Clone, Copy)]
+enum Derived {
+    // What the given clauses, over so many variables, say of disjunctions.
+    Shared(u32),
+    // The goal is false, where it is, by this one literal that it implies.
+    False(Lit, Implied),
+    // The clause at this place is false by the two that the goal implies.
+    Conflict(Lit, Implied, Implied, Ref),
+}
+
+/// A refuter of the goals of a solver. What it answers is a hint: a clause is looked at before it counts.
+#[derive(Drop)]
+pub(crate) struct Refuting {
+    alloc: Global,
+    refuter: Refuter,
+    next: Derived,
+    found: Option<Ref>,
+}
+
+impl Deriver for Refuting {
+    fn derive(&mut self, kernel: &mut Kernel, engine: &Engine) -> Result<(), Memory> {
+        let next = self.next;
+        match next {
+            Derived::Shared(vars) => self.refuter.share(self.alloc, kernel, vars),
+            Derived::False(goal, implied) => {
+                self.found = self.refuter.close_false(kernel, engine, goal, &[implied])?;
+                Ok(())
+            }
+            Derived::Conflict(goal, first, second, at) => {
+                let implied = [first, second];
+                self.found = self
+                    .refuter
+                    .close_conflict(kernel, engine, goal, &implied, at)?;
+                Ok(())
+            }
+        }
+    }
+}
+
+impl Refuting {
+    /// A refuter for a solver, once what its clauses say of disjunctions is derived.
+    pub(crate) fn of(alloc: Global, solver: &mut Solver, codes: u32) -> Result<Refuting, Memory>
+        ensures { Onwards solver.old solver.new }
+    {
+        let mut refuting = Refuting {
+            alloc,
+            refuter: Refuter::new(alloc, codes),
+            next: Derived::Shared(solver.vars()),
+            found: None,
+        };
+        solver.derive_by(&mut refuting)?;
+        Ok(refuting)
+    }
+
+    /// Knows which disjunctions are of the same literals.
+    pub(crate) fn refuter(&self) -> &Refuter {
+        &self.refuter
+    }
+
+    /// Forgets what rests on an assumption of the solver. It is to be called before the solver is asked.
+    pub(crate) fn forget(&mut self) {
+        self.refuter.forget();
+    }
+
+    fn derive_next(&mut self, solver: &mut Solver, next: Derived) -> Result<Option<Ref>, Memory>
+        ensures { Onwards solver.old solver.new }
+    {
+        self.next = next;
+        self.found = None;
+        solver.derive_by(self)?;
+        Ok(self.found)
+    }
+
+    /// The place of a clause that refutes a goal, where propagation of a literal that the goal implies makes it false. While the
+    /// same literal is implied, it is propagated once.
+    #[tactic(auto, using(solver::proofs::PoolLaws::onwards_equal, solver::proofs::PoolLaws::onwards_after))]
+    pub(crate) fn refute(
+        &mut self,
+        solver: &mut Solver,
+        goal: Lit,
+        implied: &Implied,
+    ) -> Result<Option<Ref>, Memory>
+        ensures { Onwards solver.old solver.new }
+    {
+        let is_new = solver.assume(implied.lit)?;
+        if is_new {
+            self.forget();
+        }
+        self.derive_next(solver, Derived::False(goal, *implied))
+    }
+
+    /// The same where the goal implies two literals, which are assumed one after the other.
+    #[tactic(auto, using(solver::proofs::PoolLaws::onwards_twice))]
+    pub(crate) fn refute_both(
+        &mut self,
+        solver: &mut Solver,
+        goal: Lit,
+        first: &Implied,
+        second: &Implied,
+    ) -> Result<Option<Ref>, Memory>
+        ensures { Onwards solver.old solver.new }
+    {
+        let found = self.refute(solver, goal, first)?;
+        if found.is_some() {
+            return Ok(found);
+        }
+        self.close_both(solver, goal, first, second)
+    }
+
+    // Assumes the second literal too, and closes the goal by the clause that is false then, if one is.
+    #[tactic(auto, using(solver::proofs::PoolLaws::onwards_equal, solver::proofs::PoolLaws::onwards_after))]
+    fn close_both(
+        &mut self,
+        solver: &mut Solver,
+        goal: Lit,
+        first: &Implied,
+        second: &Implied,
+    ) -> Result<Option<Ref>, Memory>
+        ensures { Onwards solver.old solver.new }
+    {
+        let conflict = solver.assume_further(second.lit)?;
+        let Some(at) = conflict else {
+            return Ok(None);
+        };
+        let found = self.derive_next(solver, Derived::Conflict(goal, *first, *second, at))?;
+        self.forget();
+        Ok(found)
+    }
+}

@@ -1,6 +1,0 @@
--- The kernel only grew.
-use Rattle.solver.specs.Solver.{Grows}
-use Rattle.solver.proofs.share.imply_each.Given as goal
-
-abbrev pub invariant-loop-other : goal.invariant-loop-other
-invariant-loop-other l = Grows l.initial.kernel l.kernel
