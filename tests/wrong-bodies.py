@@ -35,6 +35,7 @@ WOULD = {
     "a_unit_clause_missed_after_back_to": "after going back, the search would overlook what a rule forces",
     "a_clause_counts_twice": "a question would be left undecided with fewer clauses than the budget",
     "a_weaker_clause_counts": "clauses that say less than they could would count towards the budget",
+    "a_foreign_variable_counted": "a question would be left undecided for clauses about variables that aren't the book's",
     "spent_one_clause_early": "a question would be left undecided one clause before the budget is used up",
     "a_void_slice_is_released": "a book would be released though on some days no car can be ordered",
     "the_first_slice_alone_is_checked": "a book would be released though later days have faults",
