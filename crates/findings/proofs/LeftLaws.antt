@@ -1,5 +1,5 @@
 -- A question that a report leaves is open.
-use Rattle.std.proofs.Common.{◌≡◌, ℕ, zero, suc, ◌+◌, ◌-◌, ◌<◌, ◌≤◌, ◌^◌, Bool, true, false, cond, List, [], ◌∷◌, ◌++◌, Some, refl, sym, ap, subst, ◌∙◌, arith}
+use Rattle.std.proofs.Common.{◌≡◌, ℕ, zero, suc, ◌+◌, ◌-◌, ◌<◌, ◌≤◌, ◌^◌, Bool, true, false, ◌||◌, cond, List, [], ◌∷◌, Some, refl, sym, ap, subst, ◌∙◌, arith}
 use Rattle.std.specs.Prelude.{◌≢◌}
 use Rattle.std.specs.List.{filter, list_any, range_with_len, slice_get, AllByRecursion}
 use Rattle.book_model.specs.Contents.{Contents}
@@ -10,8 +10,8 @@ use Rattle.clausify.specs.Coded.{slice_clauses, slice_variables, slice_asked}
 use Rattle.clausify.specs.declared.question.Asked.{Asked}
 use Rattle.derivation.proofs.LimitLaws.{slices_are_all, slices_from_within}
 use Rattle.solver.proofs.CountLaws.{spent_within, spent_quiet}
-use Rattle.findings.specs.Left.{IsOpen, IsLeftOpen, IsAmple}
-use Rattle.findings.specs.Notes.{Inquiry, InParts, OwnNotes, AfterVoid, QuestionNotes, SliceNotes, IsReport, is_asked, is_fault, is_left, is_blocking, verdict_of}
+use Rattle.findings.specs.Left.{IsLeftOpen, IsAmple}
+use Rattle.findings.specs.Notes.{Inquiry, InParts, OwnNotes, AfterVoid, QuestionNotes, SliceNotes, IsReport, is_asked, is_fault, is_left, verdict_of}
 use Rattle.findings.specs.declared.report.Note.{Note}
 use Rattle.findings.specs.declared.report.Note.TheVariants.{Days, Finding, Undecided}
 use Rattle.findings.specs.declared.report.Verdict.TheVariants as verdicts
@@ -113,7 +113,7 @@ not_left i (Undecided question learnt) ample h =
 
 none_left : (i : Inquiry) (notes : List Note) → IsAmple i.book i.budget → AllByRecursion (IsLeftOpen i) notes → list_any is_left notes ≡ false
 none_left i [] ample h = refl
-none_left i (note ∷ notes) ample h = ap (λ (t : Bool). cond t true (list_any is_left notes)) (not_left i note ample h.0) ∙ none_left i notes ample h.1
+none_left i (note ∷ notes) ample h = ap (λ (t : Bool). t || list_any is_left notes) (not_left i note ample h.0) ∙ none_left i notes ample h.1
 
 told_apart : (fault left : Bool) → left ≡ false → cond fault verdicts.Blocked (cond left verdicts.Undecided verdicts.Releasable) ≢ verdicts.Undecided
 told_apart true left none h = absurd (cc)

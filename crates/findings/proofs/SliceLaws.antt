@@ -1,11 +1,11 @@
 -- What is known of a slice's clauses and questions, and what its notes are put together of.
 use Rattle.std.proofs.Common.{◌≡◌, ℕ, suc, ◌*◌, ◌<◌, ◌≤◌, Bool, true, false, cond, List, [], ◌∷◌, ◌++◌, Option, Some, None, Result, Ok, Err, IfOk, All, length, drop, get_or, refl, sym, ap, subst, ◌∙◌, arith}
 use Rattle.std.specs.List.{filter, list_any, slice_get}
+use Rattle.std.specs.Result.{OnOk}
 use Rattle.std.proofs.lemmas.Bool.{false≢true, or_left, cond_both}
 use Rattle.std.proofs.lemmas.List.{take_all}
 use Rattle.std.proofs.lemmas.Option.{slice_get-get_or}
 use Rattle.book_model.specs.Contents.{Contents}
-use Rattle.book_model.specs.Good.{is_good}
 use Rattle.book_model.specs.declared.record.Slice.{Slice}
 use Rattle.clause_pool.proofs.ClauseLaws.{all_found}
 use Rattle.clause_pool.specs.Derivation.{Derivation, kernel_of}
@@ -167,6 +167,11 @@ later_shown i s later x told k (Ok t) order met counted are over h notes is =
       slice_shown i s later x told k order met counted are over h free,
     )))
 later_shown i s later x told k (Err e) order met counted are over h notes is = tt
+
+-- what holds in any case holds where a call answers
+pub on_ok : {A E : Type 0} (r : Result A E) (P : Type 0) → P → OnOk r P
+on_ok (Ok a) P p = p
+on_ok (Err e) P p = tt
 
 -- the same with the kernel
 pub concluded_notes : {E : Type 0} (i : Inquiry) (s : Slice) (told : SliceTold) (r : Result SliceCheck E) → SliceNotes i s told.notes.items

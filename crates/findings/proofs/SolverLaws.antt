@@ -1,5 +1,5 @@
 -- What the solver's answers say of the questions of a slice.
-use Rattle.std.proofs.Common.{◌≡◌, ℕ, Bool, true, List, Some, Result, Ok, Err, length, sym, ap, subst, ◌∙◌}
+use Rattle.std.proofs.Common.{◌≡◌, ℕ, Bool, List, Some, Result, Ok, Err, length, sym, subst, ◌∙◌}
 use Rattle.std.specs.Result.{IfOk}
 use Rattle.std.specs.List.{slice_get}
 use Rattle.book_model.specs.Contents.{Contents}
@@ -11,7 +11,6 @@ use Rattle.chains.specs.Growth.{ClosedBy, given_of}
 use Rattle.clausify.specs.Coded.{slice_clauses, slice_variables, slice_asked}
 use Rattle.clausify.specs.Questions.{HasSet}
 use Rattle.clausify.specs.declared.question.Asked.{Asked}
-use Rattle.derivation.specs.Showing.{StandsOver}
 use Rattle.solver.specs.Answer.{Begins, IsSpent}
 use Rattle.solver.specs.Solver.{Solving, Onwards}
 use Rattle.findings.specs.Findings.{MeetsThrough}

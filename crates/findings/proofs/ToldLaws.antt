@@ -15,6 +15,7 @@ use Rattle.clausify.specs.Questions.{HasSet, QuestionFits, is_to_close}
 use Rattle.clausify.specs.declared.question.Asked.{Asked}
 use Rattle.clausify.specs.declared.question.Question.{Question}
 use Rattle.clausify.specs.declared.question.Question.TheVariants.{Void, Necessary, Inadmissible, Superfluous, Ambiguous, Uncovered}
+use Rattle.derivation.specs.After.{closes}
 use Rattle.derivation.specs.Showing.{Closes, AllClosed}
 use Rattle.derivation.specs.Stage.{to_close}
 use Rattle.derivation.specs.declared.closing.Closing.{Closing}

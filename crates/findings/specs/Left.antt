@@ -4,7 +4,6 @@
 --     IsAmple b budget    on each day of the term the budget is above the number of clauses that can be new
 use Rattle.std.specs.Prelude.{◌≡◌, ℕ, ◌<◌, ◌≤◌, ◌^◌, true, List, Some, slice_get}
 use Rattle.book_model.specs.Contents.{Contents}
-use Rattle.book_model.specs.declared.record.Slice.{Slice}
 use Rattle.clause_pool.specs.Clause.{has}
 use Rattle.clausify.specs.Coded.{slice_clauses, slice_variables, slice_asked}
 use Rattle.clausify.specs.declared.question.Asked.{Asked}

@@ -37,7 +37,10 @@ pub(crate) fn answer_pairs(
     ensures onwards { Onwards solver.old solver.new }
     ensures sets { All (IsFound book.now task.slice.first) sets.new }
 {
-    let few = with_few(task);
+    let few = SliceTask {
+        slice: task.slice,
+        effort: with_few(task.effort),
+    };
     for (place, one) in asked.iter().enumerate() {
         if !is_pair(one) {
             continue;
@@ -51,19 +54,14 @@ pub(crate) fn answer_pairs(
     Ok(())
 }
 
-// The same task with no more clauses than may be learnt for a pair before its turn.
-fn with_few(task: SliceTask) -> SliceTask
-    ensures slice { result.slice ≡ task.slice }
-    ensures some { 0 < task.effort.budget → 0 < result.effort.budget }
-    ensures most { result.effort.budget ≤ task.effort.budget }
+// The same with no more clauses than may be learnt for a pair before its turn.
+fn with_few(effort: Effort) -> Effort
+    ensures some { 0 < effort.budget → 0 < result.budget }
+    ensures most { result.budget ≤ effort.budget }
 {
-    let effort = Effort {
-        ask: task.effort.ask,
-        budget: task.effort.budget.min(PAIR_BUDGET),
-    };
-    SliceTask {
-        slice: task.slice,
-        effort,
+    Effort {
+        ask: effort.ask,
+        budget: effort.budget.min(PAIR_BUDGET),
     }
 }
 

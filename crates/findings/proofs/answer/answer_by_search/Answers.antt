@@ -1,4 +1,4 @@
-use Rattle.std.proofs.Common.{◌≡◌, ap, sym, subst, ◌∙◌, arith}
+use Rattle.std.proofs.Common.{ap, sym, subst, arith}
 use Rattle.chains.specs.Growth.{given_of}
 use Rattle.solver.specs.Answer.{Begins, IsSpent}
 use Rattle.solver.specs.Solver.{Solving}

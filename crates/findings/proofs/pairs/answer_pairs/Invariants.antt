@@ -8,6 +8,6 @@ use Rattle.findings.proofs.pairs.answer_pairs.Given as goal
 abbrev pub invariant-loop-place : goal.invariant-loop-place
 invariant-loop-place l = record {
   onwards : Onwards l.initial.solver l.solver;
-  over : IsOver l.book l.task.slice l.solver;
-  sets : All (IsFound l.book l.task.slice.first) l.sets;
+  over : IsOver l.book l.fn.task.slice l.solver;
+  sets : All (IsFound l.book l.fn.task.slice.first) l.sets;
 }

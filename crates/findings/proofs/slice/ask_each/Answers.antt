@@ -1,9 +1,8 @@
-use Rattle.std.proofs.Common.{ℕ, List, ◌≤◌, length, sym, subst, ◌∙◌, arith}
+use Rattle.std.proofs.Common.{List, ◌≤◌, length, sym, subst, ◌∙◌, arith}
 use Rattle.std.proofs.lemmas.List.{take_all}
-use Rattle.std.proofs.lemmas.List.Elements.{All-get_or}
 use Rattle.clausify.specs.declared.question.Asked.{Asked}
 use Rattle.solver.proofs.PoolLaws.{onwards_twice}
-use Rattle.findings.specs.Answering.{IsAsked, AreTold, inquiry}
+use Rattle.findings.specs.Answering.{AreTold, inquiry}
 use Rattle.findings.proofs.SolverLaws.{over_onwards}
 use Rattle.findings.proofs.ToldLaws.{told_next, told_next_same}
 use Rattle.findings.proofs.slice.ask_each.Goals as goal

@@ -1,8 +1,7 @@
-use Rattle.std.proofs.Common.{ℕ, ◌*◌, ◌<◌, All, length, sym, ap, subst, ◌∙◌, arith}
-use Rattle.clausify.specs.Goals.{void_asked}
+use Rattle.std.proofs.Common.{All, sym, subst, arith}
 use Rattle.slice_hints.specs.Found.{KnowsUsages}
-use Rattle.findings.specs.Answering.{IsOver, inquiry}
-use Rattle.findings.proofs.SliceLaws.{over_begun, concluded_notes, concluded_proof}
+use Rattle.findings.specs.Answering.{inquiry}
+use Rattle.findings.proofs.SliceLaws.{over_begun, on_ok, concluded_notes, concluded_proof}
 use Rattle.findings.proofs.slice.check_coded.Goals as goal
 
 pub tell_slice-requires-clause-over : goal.tell_slice-requires-clause-over
@@ -24,7 +23,9 @@ returns c =
     let s = c.args.task.slice in
     let told = c.in_ok-told.told in
     record {
-      earlier = c.in_ok-told.ensures.earlier;
+      earlier =
+          on_ok c.conclude.result (All (KnowsUsages b) c.conclude.new.earlier.sets.items)
+          (subst (λ sets. All (KnowsUsages b) sets.items) (sym c.conclude.ensures.sets) c.in_ok-told.ensures.earlier);
       notes = concluded_notes (inquiry b c.args.task.effort) s told c.conclude.result c.in_ok-told.ensures.notes c.conclude.ensures.notes;
       proof = concluded_proof b s c.tell_slice.new.solver.kernel told c.conclude.result c.in_ok-told.ensures.proof c.conclude.ensures.notes c.conclude.ensures.proof;
     }

@@ -1,4 +1,4 @@
-use Rattle.std.proofs.Common.{ℕ, ◌<◌, ◌^◌, List, All, length, drop, sym, ap, subst, ◌∙◌, arith}
+use Rattle.std.proofs.Common.{List, All, length, drop, sym, ap, subst, ◌∙◌, arith}
 use Rattle.clausify.specs.Questions.{questions}
 use Rattle.clausify.specs.declared.question.Asked.{Asked}
 use Rattle.derivation.proofs.LimitLaws.{few_asked}

@@ -1,11 +1,10 @@
-use Rattle.std.proofs.Common.{◌≡◌, ℕ, ◌<◌, ◌+◌, List, All, ◌∷◌, drop, length, refl, sym, ap, subst, ◌∙◌, arith}
+use Rattle.std.proofs.Common.{◌≡◌, ◌<◌, ◌+◌, List, [], All, ◌∷◌, drop, length, refl, sym, ap, subst, ◌∙◌, arith}
 use Rattle.chains.specs.Growth.{ClosedBy, given_of}
-use Rattle.clausify.specs.Coded.{slice_asked}
 use Rattle.clausify.specs.Goals.{void_asked}
 use Rattle.clausify.specs.declared.question.Asked.{Asked}
 use Rattle.solver.specs.Answer.{Begins, IsSpent}
 use Rattle.solver.proofs.PoolLaws.{onwards_twice}
-use Rattle.findings.specs.Answering.{IsAsked, IsOver}
+use Rattle.findings.specs.Answering.{IsAsked}
 use Rattle.findings.proofs.SliceLaws.{void_shown}
 use Rattle.findings.proofs.SolverLaws.{over_onwards, meets_by_solver, counted_by_solver, spent_by_solver}
 use Rattle.findings.proofs.slice.tell_slice.Goals as goal
