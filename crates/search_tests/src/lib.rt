@@ -2,7 +2,7 @@
 #![tactic(auto)]
 
 #[cfg(test)]
-mod chains;
+mod chain_steps;
 #[cfg(test)]
 mod coded;
 #[cfg(test)]
