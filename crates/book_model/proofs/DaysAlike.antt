@@ -1,10 +1,10 @@
 -- On two days on which the same records are active, the same sets are good, the same variants are selected and the same sets are
 -- sound; and each day of a term is like the first day of one of its slices.
 use Rattle.std.proofs.Common.{◌≡◌, ℕ, zero, suc, ◌+◌, ◌-◌, ◌<◌, ◌≤◌, Bool, true, false, not, ◌&&◌, ◌||◌, cond, eqb, List, [], ◌∷◌, ◌++◌, Some, length, map, inl, inr, refl, sym, ap, subst, ◌∙◌, ◌⊎◌, arith, IsTrue}
-use Rattle.std.specs.List.{filter, slice_get, list_any, range_with_len, flat_map, AllByRecursion}
+use Rattle.std.specs.List.{filter, slice_get, list_any, range_with_len, flat_map, AllByRecursion, Contains}
 use Rattle.std.specs.Option.{option_map_or}
 use Rattle.std.proofs.lemmas.Bool.{false≢true, or_cases, and_from, eqb-true, eq-eqb, le-leb, cases_eq}
-use Rattle.std.proofs.lemmas.List.Elements.{recursion_from_All}
+use Rattle.std.proofs.lemmas.List.Elements.{recursion_from_All, All-from_recursion, All-contains}
 use Rattle.pb_base.specs.Rule.{holds}
 use Rattle.pb_base.specs.Sets.{has}
 use Rattle.book_model.specs.Activity.{is_within}
@@ -38,7 +38,7 @@ any_fires d e x [] h = refl
 any_fires d e x (s ∷ ss) h =
     ap (λ t. (t && holds s.rule x && not (has x s.code)) || list_any (fires d x) ss) h.0 ∙ ap (λ t. fires e x s || t) (any_fires d e x ss h.1)
 
-any_breaks : (d e : ℕ) (x : List Bool) (cs : List Construct) → AllByRecursion (IsAlike d e) (map (λ c. days_from_to c.from c.until) cs)
+pub any_breaks : (d e : ℕ) (x : List Bool) (cs : List Construct) → AllByRecursion (IsAlike d e) (map (λ c. days_from_to c.from c.until) cs)
     → list_any (breaks d x) cs ≡ list_any (breaks e x) cs
 any_breaks d e x [] h = refl
 any_breaks d e x (c ∷ cs) h =
@@ -85,11 +85,27 @@ records_alike b d e alike =
       variants = all_last (IsAlike d e) (s ++ c ++ p) v h;
     }
 
+each_mapped : (d e : ℕ) (ss : List Supplement) → AllByRecursion (IsAlike d e) (map (λ s. days_from_to s.from s.until) ss)
+    → AllByRecursion (λ (r : Supplement). IsAlike d e (days_from_to r.from r.until)) ss
+each_mapped d e [] h = tt
+each_mapped d e (s ∷ ss) h = (h.0, each_mapped d e ss h.1)
+
+pub constructible_alike : (b : Contents) (d e : ℕ) (x : List Bool) → AreAlike b d e → is_constructible b d x ≡ is_constructible b e x
+constructible_alike b d e x h = ap not (any_breaks d e x b.constructs (records_alike b d e h).constructs)
+
 pub good_alike : (b : Contents) (d e : ℕ) (x : List Bool) → AreAlike b d e → is_good b d x ≡ is_good b e x
 good_alike b d e x h =
     let records = records_alike b d e h in
     ap (λ t. not t && is_constructible b d x && eqb (length x) (length b.codes)) (any_fires d e x b.supplements records.supplements)
-    ∙ ap (λ t. is_closed b e x && not t && eqb (length x) (length b.codes)) (any_breaks d e x b.constructs records.constructs)
+    ∙ ap (λ t. is_closed b e x && t && eqb (length x) (length b.codes)) (constructible_alike b d e x h)
+
+-- a supplementing rule of the book fires on both days or on neither
+pub fires_alike : (b : Contents) (d e : ℕ) (x : List Bool) (s : Supplement) → AreAlike b d e → Contains b.supplements s → fires d x s ≡ fires e x s
+fires_alike b d e x s h there =
+    let active : IsAlike d e (days_from_to s.from s.until) =
+    All-contains (λ (r : Supplement). IsAlike d e (days_from_to r.from r.until)) b.supplements s
+    (All-from_recursion (λ (r : Supplement). IsAlike d e (days_from_to r.from r.until)) b.supplements (each_mapped d e b.supplements (records_alike b d e h).supplements)) there in
+    ap (λ t. t && holds s.rule x && not (has x s.code)) active
 
 pub sound_alike : (b : Contents) (d e : ℕ) (x : List Bool) → AreAlike b d e → is_sound b d x ≡ is_sound b e x
 sound_alike b d e x h =

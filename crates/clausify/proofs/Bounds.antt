@@ -30,7 +30,7 @@ use Rattle.clausify.proofs.ItemLaws.{variables_of-append}
 use Rattle.clausify.proofs.ListLaws.{all_weaker}
 use Rattle.clausify.proofs.Remaining.{length-usages_from}
 
-connectives_below : (f : Rule) → connectives f ≤ nodes f
+pub connectives_below : (f : Rule) → connectives f ≤ nodes f
 connectives_below (code place) = omega arith
 connectives_below (negation f) = omega (arith, connectives_below f)
 connectives_below (both f g) = omega (arith, connectives_below f, connectives_below g)
@@ -47,7 +47,7 @@ module _ {X : Type 0} where
         | inr e ↦ omega (arith, ap length (cond-false (w x) (x ∷ filter w xs) (filter w xs) e), length-filter_below w xs)
       ]
 
-  variables_below : (w : X → Bool) (f : X → Item) (xs : List X) → AllByRecursion (λ x. connectives (f x).rule ≤ 512) xs → variables_of (map f (filter w xs)) ≤ 512 * length xs
+  pub variables_below : (w : X → Bool) (f : X → Item) (xs : List X) → AllByRecursion (λ x. connectives (f x).rule ≤ 512) xs → variables_of (map f (filter w xs)) ≤ 512 * length xs
   variables_below w f [] h = omega arith
   variables_below w f (x ∷ xs) h =
       elim (cases_Bool (w x)) [
@@ -58,7 +58,7 @@ module _ {X : Type 0} where
 fitting_below : (n : ℕ) (f : Rule) → RuleFits n f → connectives f ≤ 512
 fitting_below n f h = omega (arith, connectives_below f, h.size)
 
-demand_item_below : (n : ℕ) (d : Demand) → DemandFits n d → connectives (demand_item d).rule ≤ 512
+pub demand_item_below : (n : ℕ) (d : Demand) → DemandFits n d → connectives (demand_item d).rule ≤ 512
 demand_item_below n (demand.Rule on rule) h = fitting_below n rule h.rule
 demand_item_below n (demand.One group) h = omega arith
 demand_item_below n (demand.Most group) h = omega arith

@@ -1,5 +1,5 @@
 -- The clauses of a slice, put together from the parts that are made one after another.
-use Rattle.std.proofs.Common.{◌≡◌, ℕ, ◌+◌, ◌<◌, true, List, [], ◌∷◌, ◌++◌, length, sym, ap, ◌∙◌, arith, append_assoc}
+use Rattle.std.proofs.Common.{◌≡◌, ℕ, ◌+◌, ◌<◌, true, List, [], ◌∷◌, ◌++◌, length, sym, ap, ◌∙◌, arith, append_assoc, length-append, subst}
 use Rattle.book_model.specs.Contents.{Contents}
 use Rattle.book_model.specs.Book.{IsBook}
 use Rattle.clause_pool.specs.Literal.{literal}
@@ -7,14 +7,20 @@ use Rattle.clause_pool.specs.Clause.{clause_of}
 use Rattle.clausify.specs.Items.{Item, item_clauses, variables_of, rule_items, usage_items, items}
 use Rattle.clausify.specs.Choices.{choices}
 use Rattle.clausify.specs.Goals.{all_usages, goals_variables, goals_clauses, goals_asked, codes_asked_from, void_asked}
-use Rattle.clausify.specs.Coded.{usages_start, goals_start, numbered_at, numbered_choices, IsCoded}
-use Rattle.clausify.specs.Encoding.{Encodes}
+use Rattle.clausify.specs.Coded.{usages_start, goals_start, numbered_at, numbered_choices, core_clauses, slice_clauses, IsCoded}
+use Rattle.clausify.specs.Layout.{AreGates, start_at, item_starts, IsLaid}
+use Rattle.clausify.specs.Encoding.{Encodes, AddsStarts}
 use Rattle.clausify.specs.declared.encoder.Encoder.{Encoder}
 use Rattle.clausify.specs.declared.usage.Usage.{Usage}
 use Rattle.clausify.specs.declared.question.Asked.{Asked}
 use Rattle.clausify.specs.declared.question.Coded.{Coded}
+use Rattle.clausify.specs.declared.layout.Start.{Start}
+use Rattle.clausify.specs.declared.layout.Gates.{Gates}
+use Rattle.clausify.specs.declared.layout.Layout.{Layout}
+use Rattle.clausify.specs.declared.encoder.Encoded.{Encoded}
 use Rattle.clausify.proofs.ItemLaws.{item_clauses-append, variables_of-append}
 use Rattle.clausify.proofs.Bounds.{variables_fit}
+use Rattle.clausify.proofs.Remaining.{item_starts-append}
 
 -- items made one list after another
 pub items_then : (m0 m1 m2 : Encoder) (is js : List Item) → Encodes m0 m1 (item_clauses m0.truth m0.next is) (variables_of is) → Encodes m1 m2 (item_clauses m1.truth m1.next js) (variables_of js) → Encodes m0 m2 (item_clauses m0.truth m0.next (is ++ js)) (variables_of (is ++ js))
@@ -28,19 +34,35 @@ items_then m0 m1 m2 is js first second = record {
       ∙ ap (λ (cs : List (List ℕ)). m0.pool.clauses ++ cs) (sym (item_clauses-append m0.truth m0.next is js));
   next = omega (arith, first.next, second.next, variables_of-append is js);
   truth = second.truth ∙ first.truth;
+  first = second.first ∙ first.first;
 }
 
--- a encoder over the codes of a book, with the first clause alone
+pub starts_then : (m0 m1 : Encoder) (ss0 ss1 ss2 : List Start) (is js : List Item) → Encodes m0 m1 (item_clauses m0.truth m0.next is) (variables_of is) → AddsStarts m0 ss0 ss1 is → AddsStarts m1 ss1 ss2 js
+    → AddsStarts m0 ss0 ss2 (is ++ js)
+starts_then m0 m1 ss0 ss1 ss2 is js made first second =
+    let size : length m1.pool.clauses ≡ length m0.pool.clauses + length (item_clauses m0.truth m0.next is) =
+    ap length made.clauses ∙ length-append m0.pool.clauses (item_clauses m0.truth m0.next is) in
+    second
+    ∙ ap (λ (ss : List Start). ss ++ item_starts m1.truth m1.next (length m1.pool.clauses) js) first
+    ∙ ap (λ (t : ℕ). ss0 ++ item_starts m0.truth m0.next (length m0.pool.clauses) is ++ item_starts t m1.next (length m1.pool.clauses) js) made.truth
+    ∙ ap (λ (v : ℕ). ss0 ++ item_starts m0.truth m0.next (length m0.pool.clauses) is ++ item_starts m0.truth v (length m1.pool.clauses) js) made.next
+    ∙ ap (λ (k : ℕ). ss0 ++ item_starts m0.truth m0.next (length m0.pool.clauses) is ++ item_starts m0.truth (m0.next + variables_of is) k js) size
+    ∙ append_assoc ss0 (item_starts m0.truth m0.next (length m0.pool.clauses) is) _
+    ∙ ap (λ (ss : List Start). ss0 ++ ss) (sym (item_starts-append m0.truth m0.next (length m0.pool.clauses) is js))
+
+-- an encoder over the codes of a book, with the first clause alone
 pub record Begun (b : Contents) (m : Encoder) : Type 0 where
   pub clauses : m.pool.clauses ≡ clause_of (literal (length b.codes) true ∷ []) ∷ []
   pub truth : m.truth ≡ length b.codes
   pub next : m.next ≡ length b.codes + 1
+  pub first : m.gates.first ≡ length b.codes + 1
 
-pub begun : (b : Contents) (m : Encoder) (codes : ℕ) → codes ≡ length b.codes → m.pool.clauses ≡ clause_of (literal codes true ∷ []) ∷ [] → m.truth ≡ codes → m.next ≡ codes + 1 → Begun b m
-begun b m codes counted clauses truth next = record {
+pub begun : (b : Contents) (m : Encoder) (codes : ℕ) → codes ≡ length b.codes → m.pool.clauses ≡ clause_of (literal codes true ∷ []) ∷ [] → m.truth ≡ codes → m.next ≡ codes + 1 → m.gates.first ≡ codes + 1 → Begun b m
+begun b m codes counted clauses truth next first = record {
   clauses = clauses ∙ ap (λ (n : ℕ). clause_of (literal n true ∷ []) ∷ []) counted;
   truth = truth ∙ counted;
   next = next ∙ ap (λ (n : ℕ). n + 1) counted;
+  first = first ∙ ap (λ (n : ℕ). n + 1) counted;
 }
 
 -- after the rules, after the usages
@@ -100,4 +122,38 @@ is_coded b day void m0 m1 m2 c asked0 asked1 begin rules usages clauses vars voi
           ∙ ap (λ (v : ℕ). asked1 ++ goals_asked n (numbered_at b day v)) begins
           ∙ ap (λ (qs : List Asked). qs ++ goals_asked n (numbered_choices b day))
           (second ∙ ap (λ (qs : List Asked). qs ++ codes_asked_from 0 b.codes) (first ∙ ap (λ (l : ℕ). record (void_asked n) { goal = l } ∷ []) void_literal));
+    }
+
+-- the clauses of the rules and usages
+core_made : (b : Contents) (day : ℕ) (m0 m1 m2 : Encoder) → Begun b m0 → RulesMade b day m0 m1 → UsagesMade b day m1 m2 → m2.pool.clauses ≡ core_clauses b day
+core_made b day m0 m1 m2 begin rules usages =
+    let n : ℕ = length b.codes in
+    (items_then m0 m1 m2 (rule_items b day) (usage_items b (choices b day)) rules usages).clauses
+    ∙ ap (λ (cs : List (List ℕ)). cs ++ item_clauses m0.truth m0.next (items b day)) begin.clauses
+    ∙ ap (λ (t : ℕ). clause_of (literal n true ∷ []) ∷ item_clauses t m0.next (items b day)) begin.truth
+    ∙ ap (λ (v : ℕ). clause_of (literal n true ∷ []) ∷ item_clauses n v (items b day)) begin.next
+
+-- where all of it stands
+pub is_laid : (b : Contents) (day : ℕ) (m0 m1 m2 : Encoder) (e : Encoded) (ss0 ss1 ss2 : List Start) (goals : Start) (l : Layout) (c : Coded) → Begun b m0 → RulesMade b day m0 m1 → UsagesMade b day m1 m2
+    → ss0 ≡ [] → AddsStarts m0 ss0 ss1 (rule_items b day) → AddsStarts m1 ss1 ss2 (usage_items b (choices b day)) → goals ≡ start_at m2.next (length m2.pool.clauses)
+    → e.gates.first ≡ m2.gates.first → c.pool.clauses ≡ e.pool.clauses → c.vars ≡ e.vars → e.vars ≡ e.gates.first + length e.gates.list.items → AreGates e.pool.clauses e.gates
+    → IsCoded b day c → l.gates ≡ e.gates → l.starts.items ≡ ss2 → l.goals ≡ goals → IsLaid b day l
+is_laid b day m0 m1 m2 e ss0 ss1 ss2 goals l c begin rules usages none starts_rules starts_usages goals_are first clauses vars counted laid coded gates starts goals_is =
+    let n : ℕ = length b.codes in
+    let core : m2.pool.clauses ≡ core_clauses b day = core_made b day m0 m1 m2 begin rules usages in
+    let all : AddsStarts m0 ss0 ss2 (items b day) = starts_then m0 m1 ss0 ss1 ss2 (rule_items b day) (usage_items b (choices b day)) rules starts_rules starts_usages in
+    record {
+      first = ap (λ (g : Gates). g.first) gates ∙ first ∙ usages.first ∙ rules.first ∙ begin.first;
+      count = ap (λ (g : Gates). g.first + length g.list.items) gates ∙ sym counted ∙ sym vars ∙ coded.variables;
+      gates = subst (AreGates (slice_clauses b day)) (sym gates) (subst (λ (cs : List (List ℕ)). AreGates cs e.gates) (sym clauses ∙ coded.clauses) laid);
+      starts =
+          starts ∙ all
+          ∙ ap (λ (ss : List Start). ss ++ item_starts m0.truth m0.next (length m0.pool.clauses) (items b day)) none
+          ∙ ap (λ (t : ℕ). item_starts t m0.next (length m0.pool.clauses) (items b day)) begin.truth
+          ∙ ap (λ (v : ℕ). item_starts n v (length m0.pool.clauses) (items b day)) begin.next
+          ∙ ap (λ (cs : List (List ℕ)). item_starts n (n + 1) (length cs) (items b day)) begin.clauses;
+      goals =
+          goals_is ∙ goals_are
+          ∙ ap (λ (v : ℕ). start_at v (length m2.pool.clauses)) (goals_begin b day m0 m1 m2 begin rules usages)
+          ∙ ap (λ (cs : List (List ℕ)). start_at (goals_start b day) (length cs)) core;
     }

@@ -1,6 +1,6 @@
 -- The clauses of a formula hold just where each of its variables is the truth of what it stands for, and its literal is
 -- then the truth of the formula.
-use Rattle.std.proofs.Common.{◌≡◌, ℕ, ◌+◌, ◌<◌, Bool, true, not, List, [], ◌∷◌, ◌++◌, length, refl, sym, ap, subst, ◌∙◌, arith, length-append}
+use Rattle.std.proofs.Common.{◌≡◌, ℕ, ◌+◌, ◌<◌, ◌≤◌, Bool, true, not, List, [], ◌∷◌, ◌++◌, length, refl, sym, ap, subst, ◌∙◌, arith, length-append}
 use Rattle.std.proofs.lemmas.Bool.{and_parts, ltb-true}
 use Rattle.pb_base.specs.Rule.{Rule, code, negation, both, either, always, never, holds, codes_below}
 use Rattle.pb_base.specs.Sets.{has}
@@ -25,10 +25,14 @@ abbrev pub Names : (ℕ → Bool) → List Bool → ℕ → List Rule → Type 0
 Names a x v [] = Unit {0}
 Names a x v (f ∷ fs) = (a v ≡ holds f x) × Names a x (v + 1) fs
 
--- the variables of the codes are the set, and the next one is true
-pub record Begins (n : ℕ) (x : List Bool) (a : ℕ → Bool) : Type 0 where
-  pub codes : (i : ℕ) → i < n → a i ≡ has x i
+-- the variables below m are the set, those of its codes, and variable n is true
+pub record Begins (m n : ℕ) (x : List Bool) (a : ℕ → Bool) : Type 0 where
+  pub codes : (i : ℕ) → i < m → a i ≡ has x i
   pub truth : a n ≡ true
+
+-- the same of fewer codes
+pub begins_fewer : (k m n : ℕ) (x : List Bool) (a : ℕ → Bool) → k ≤ m → Begins m n x a → Begins k n x a
+begins_fewer k m n x a fewer b = record { codes = λ i below. b.codes i (omega arith); truth = b.truth }
 
 pub length-named_in : (f : Rule) → length (named_in f) ≡ connectives f
 length-named_in (code place) = refl
@@ -80,41 +84,41 @@ join_names a x v f g j h =
     (ap a (let e : v + length (named_in f ++ named_in g) ≡ v + connectives f + connectives g = omega (arith, length-append (named_in f) (named_in g), length-named_in f, length-named_in g) in e) ∙ h.joined, tt)
 
 -- the literal of a formula is then its truth
-pub denotes : (n : ℕ) (x : List Bool) (a : ℕ → Bool) → Begins n x a → (v : ℕ) (f : Rule) → codes_below n f ≡ true → Names a x v (named_in f) → is_true a (formula_literal n v f) ≡ holds f x
-denotes n x a b v (code place) fit h = true_positive a place ∙ b.codes place (ltb-true place n fit)
-denotes n x a b v (negation f) fit h = is_true-complement a (formula_literal n v f) ∙ ap not (denotes n x a b v f fit h)
-denotes n x a b v (both f g) fit h = true_positive a (v + connectives f + connectives g) ∙ (join_parts a x v f g (both f g) h).joined
-denotes n x a b v (either f g) fit h = true_positive a (v + connectives f + connectives g) ∙ (join_parts a x v f g (either f g) h).joined
-denotes n x a b v always fit h = true_positive a n ∙ b.truth
-denotes n x a b v never fit h = true_negative a n ∙ ap not b.truth
+pub denotes : {m : ℕ} (n : ℕ) (x : List Bool) (a : ℕ → Bool) → Begins m n x a → (v : ℕ) (f : Rule) → codes_below m f ≡ true → Names a x v (named_in f) → is_true a (formula_literal n v f) ≡ holds f x
+denotes {m} n x a b v (code place) fit h = true_positive a place ∙ b.codes place (ltb-true place m fit)
+denotes {m} n x a b v (negation f) fit h = is_true-complement a (formula_literal n v f) ∙ ap not (denotes n x a b v f fit h)
+denotes {m} n x a b v (both f g) fit h = true_positive a (v + connectives f + connectives g) ∙ (join_parts a x v f g (both f g) h).joined
+denotes {m} n x a b v (either f g) fit h = true_positive a (v + connectives f + connectives g) ∙ (join_parts a x v f g (either f g) h).joined
+denotes {m} n x a b v always fit h = true_positive a n ∙ b.truth
+denotes {m} n x a b v never fit h = true_negative a n ∙ ap not b.truth
 
 -- where the variables are the truth of what they stand for, the clauses hold
-pub sat_from_names : (n : ℕ) (x : List Bool) (a : ℕ → Bool) → Begins n x a → (v : ℕ) (f : Rule) → codes_below n f ≡ true → Names a x v (named_in f) → Sat (formula_clauses n v f) a
-sat_from_names n x a b v (code place) fit h = tt
-sat_from_names n x a b v (negation f) fit h = sat_from_names n x a b v f fit h
-sat_from_names n x a b v (both f g) fit h =
-    let fits = and_parts (codes_below n f) (codes_below n g) fit in
+pub sat_from_names : {m : ℕ} (n : ℕ) (x : List Bool) (a : ℕ → Bool) → Begins m n x a → (v : ℕ) (f : Rule) → codes_below m f ≡ true → Names a x v (named_in f) → Sat (formula_clauses n v f) a
+sat_from_names {m} n x a b v (code place) fit h = tt
+sat_from_names {m} n x a b v (negation f) fit h = sat_from_names n x a b v f fit h
+sat_from_names {m} n x a b v (both f g) fit h =
+    let fits = and_parts (codes_below m f) (codes_below m g) fit in
     let parts = join_parts a x v f g (both f g) h in
     all-append _ (formula_clauses n v f ++ formula_clauses n (v + connectives f) g) _
     (all-append _ (formula_clauses n v f) _ (sat_from_names n x a b v f fits.0 parts.left) (sat_from_names n x a b (v + connectives f) g fits.1 parts.right))
     (sat_from_both a (v + connectives f + connectives g) (formula_literal n v f) (formula_literal n (v + connectives f) g) (holds f x) (holds g x)
     (denotes n x a b v f fits.0 parts.left) (denotes n x a b (v + connectives f) g fits.1 parts.right) parts.joined)
-sat_from_names n x a b v (either f g) fit h =
-    let fits = and_parts (codes_below n f) (codes_below n g) fit in
+sat_from_names {m} n x a b v (either f g) fit h =
+    let fits = and_parts (codes_below m f) (codes_below m g) fit in
     let parts = join_parts a x v f g (either f g) h in
     all-append _ (formula_clauses n v f ++ formula_clauses n (v + connectives f) g) _
     (all-append _ (formula_clauses n v f) _ (sat_from_names n x a b v f fits.0 parts.left) (sat_from_names n x a b (v + connectives f) g fits.1 parts.right))
     (sat_from_either a (v + connectives f + connectives g) (formula_literal n v f) (formula_literal n (v + connectives f) g) (holds f x) (holds g x)
     (denotes n x a b v f fits.0 parts.left) (denotes n x a b (v + connectives f) g fits.1 parts.right) parts.joined)
-sat_from_names n x a b v always fit h = tt
-sat_from_names n x a b v never fit h = tt
+sat_from_names {m} n x a b v always fit h = tt
+sat_from_names {m} n x a b v never fit h = tt
 
 -- where the clauses hold, the variables are the truth of what they stand for
-pub names_from_sat : (n : ℕ) (x : List Bool) (a : ℕ → Bool) → Begins n x a → (v : ℕ) (f : Rule) → codes_below n f ≡ true → Sat (formula_clauses n v f) a → Names a x v (named_in f)
-names_from_sat n x a b v (code place) fit h = tt
-names_from_sat n x a b v (negation f) fit h = names_from_sat n x a b v f fit h
-names_from_sat n x a b v (both f g) fit h =
-    let fits = and_parts (codes_below n f) (codes_below n g) fit in
+pub names_from_sat : {m : ℕ} (n : ℕ) (x : List Bool) (a : ℕ → Bool) → Begins m n x a → (v : ℕ) (f : Rule) → codes_below m f ≡ true → Sat (formula_clauses n v f) a → Names a x v (named_in f)
+names_from_sat {m} n x a b v (code place) fit h = tt
+names_from_sat {m} n x a b v (negation f) fit h = names_from_sat n x a b v f fit h
+names_from_sat {m} n x a b v (both f g) fit h =
+    let fits = and_parts (codes_below m f) (codes_below m g) fit in
     let sides = all_first _ (formula_clauses n v f ++ formula_clauses n (v + connectives f) g) _ h in
     let left = names_from_sat n x a b v f fits.0 (all_first _ (formula_clauses n v f) _ sides) in
     let right = names_from_sat n x a b (v + connectives f) g fits.1 (all_last _ (formula_clauses n v f) _ sides) in
@@ -125,8 +129,8 @@ names_from_sat n x a b v (both f g) fit h =
           (denotes n x a b v f fits.0 left) (denotes n x a b (v + connectives f) g fits.1 right)
           (all_last _ (formula_clauses n v f ++ formula_clauses n (v + connectives f) g) _ h);
     })
-names_from_sat n x a b v (either f g) fit h =
-    let fits = and_parts (codes_below n f) (codes_below n g) fit in
+names_from_sat {m} n x a b v (either f g) fit h =
+    let fits = and_parts (codes_below m f) (codes_below m g) fit in
     let sides = all_first _ (formula_clauses n v f ++ formula_clauses n (v + connectives f) g) _ h in
     let left = names_from_sat n x a b v f fits.0 (all_first _ (formula_clauses n v f) _ sides) in
     let right = names_from_sat n x a b (v + connectives f) g fits.1 (all_last _ (formula_clauses n v f) _ sides) in
@@ -137,5 +141,5 @@ names_from_sat n x a b v (either f g) fit h =
           (denotes n x a b v f fits.0 left) (denotes n x a b (v + connectives f) g fits.1 right)
           (all_last _ (formula_clauses n v f ++ formula_clauses n (v + connectives f) g) _ h);
     })
-names_from_sat n x a b v always fit h = tt
-names_from_sat n x a b v never fit h = tt
+names_from_sat {m} n x a b v always fit h = tt
+names_from_sat {m} n x a b v never fit h = tt

@@ -21,7 +21,7 @@ use Rattle.clausify.specs.Items.{variables_of, usage_item, usage_items}
 use Rattle.clausify.specs.Choices.{Choice, choices, choices_from, usage, active_variants}
 use Rattle.clausify.specs.Questions.{none_rule, and_none}
 use Rattle.clausify.specs.Pairs.{pairs}
-use Rattle.clausify.specs.Goals.{usages_from, pair_clauses, pairs_asked, none_clauses, none_literal, uncovered_clauses, uncovered_literal, choice_variables, choice_clauses, superfluous_asked, choice_asked, numbered_from, goals_variables, goals_clauses, goals_asked, codes_asked_from}
+use Rattle.clausify.specs.Goals.{usages_from, all_usages, pair_clauses, pairs_asked, none_clauses, none_literal, uncovered_clauses, uncovered_literal, choice_variables, choice_clauses, superfluous_asked, choice_asked, numbered_from, goals_variables, goals_clauses, goals_asked, codes_asked_from}
 use Rattle.clausify.specs.Lifting.{GoalsTrue}
 use Rattle.clausify.specs.declared.question.Question.TheVariants.{Uncovered}
 use Rattle.clausify.specs.declared.usage.Usage.{Usage}
@@ -59,7 +59,7 @@ pub all_usage_items_fit : (b : Contents) → UsagesFit b → (cs : List Choice) 
 all_usage_items_fit b h [] = tt
 all_usage_items_fit b h (c ∷ cs) = all-append _ (map (usage_item b) c.variants) _ (usage_items_fit b h c.variants) (all_usage_items_fit b h cs)
 
-pub right_from_names : (b : Contents) → UsagesFit b → (x : List Bool) (a : ℕ → Bool) → Begins (length b.codes) x a → (v : ℕ) (variants : List ℕ) → Names a x v (items_named (map (usage_item b) variants)) → AllRight b x a (usages_from b (length b.codes) v variants)
+pub right_from_names : (b : Contents) → UsagesFit b → (x : List Bool) (a : ℕ → Bool) → Begins (length b.codes) (length b.codes) x a → (v : ℕ) (variants : List ℕ) → Names a x v (items_named (map (usage_item b) variants)) → AllRight b x a (usages_from b (length b.codes) v variants)
 right_from_names b fit x a begins v [] h = tt
 right_from_names b fit x a begins v (variant ∷ variants) h = (
   denotes (length b.codes) x a begins v (usage b variant) (fit.below variant) (names_first a x v (named_in (usage b variant)) (items_named (map (usage_item b) variants)) h),
@@ -135,7 +135,7 @@ names_from_uncovered : (b : Contents) (x : List Bool) (a : ℕ → Bool) (v : �
 names_from_uncovered b x a v [] right h = tt
 names_from_uncovered b x a v (u ∷ us) right h = names_from_none b x a v (complement u.literal) (negation (usage b u.variant)) us right.1 (complement_right b x a u right.0) h
 
-uncovered_right : (b : Contents) (x : List Bool) (a : ℕ → Bool) → Begins (length b.codes) x a → (v : ℕ) (us : List Usage) → AllRight b x a us → Names a x v (uncovered_named b us) → is_true a (uncovered_literal (length b.codes) v us) ≡ holds (none_rule (map (λ u. usage b u.variant) us)) x
+uncovered_right : (b : Contents) (x : List Bool) (a : ℕ → Bool) → Begins (length b.codes) (length b.codes) x a → (v : ℕ) (us : List Usage) → AllRight b x a us → Names a x v (uncovered_named b us) → is_true a (uncovered_literal (length b.codes) v us) ≡ holds (none_rule (map (λ u. usage b u.variant) us)) x
 uncovered_right b x a begins v [] right h = true_positive a (length b.codes) ∙ begins.truth
 uncovered_right b x a begins v (u ∷ us) right h = none_right b x a v (complement u.literal) (negation (usage b u.variant)) us (complement_right b x a u right.0) h
 
@@ -186,14 +186,14 @@ variants_of_usages : (b : Contents) (n v : ℕ) (variants : List ℕ) → map (�
 variants_of_usages b n v [] = refl
 variants_of_usages b n v (variant ∷ variants) = ap (λ (fs : List Rule). usage b variant ∷ fs) (variants_of_usages b n (v + connectives (usage b variant)) variants)
 
-uncovered_goal : (b : Contents) (day : ℕ) (x : List Bool) (a : ℕ → Bool) → Begins (length b.codes) x a → (w position : ℕ) (mandatory : Bool) (us : List Usage) → map (λ (u : Usage). usage b u.variant) us ≡ map (usage b) (active_variants b day position) → AllRight b x a us
+uncovered_goal : (b : Contents) (day : ℕ) (x : List Bool) (a : ℕ → Bool) → Begins (length b.codes) (length b.codes) x a → (w position : ℕ) (mandatory : Bool) (us : List Usage) → map (λ (u : Usage). usage b u.variant) us ≡ map (usage b) (active_variants b day position) → AllRight b x a us
     → Names a x w (if mandatory then uncovered_named b us else [])
     → GoalsTrue b day x a (if mandatory then record { question = Uncovered position; goal = uncovered_literal (length b.codes) w us } ∷ [] else [])
 uncovered_goal b day x a begins w position true us are right h =
     (uncovered_right b x a begins w us right h ∙ ap (λ (fs : List Rule). holds (none_rule fs) x) are, tt)
 uncovered_goal b day x a begins w position false us are right h = tt
 
-pub choice_goals : (b : Contents) (day : ℕ) (x : List Bool) (a : ℕ → Bool) → Begins (length b.codes) x a → (w : ℕ) (c : Choice) (us : List Usage) → map (λ (u : Usage). usage b u.variant) us ≡ map (usage b) (active_variants b day c.position) → AllRight b x a us
+pub choice_goals : (b : Contents) (day : ℕ) (x : List Bool) (a : ℕ → Bool) → Begins (length b.codes) (length b.codes) x a → (w : ℕ) (c : Choice) (us : List Usage) → map (λ (u : Usage). usage b u.variant) us ≡ map (usage b) (active_variants b day c.position) → AllRight b x a us
     → Names a x w (choice_named b c.mandatory us) → GoalsTrue b day x a (choice_asked (length b.codes) w c.position c.mandatory us)
 choice_goals b day x a begins w c us are right h =
     all-append _ (map superfluous_asked us ++ pairs_asked c.position w (pairs us)) _
@@ -226,13 +226,21 @@ later_usages b x a v c cs h =
           (names_last a x v (items_named (map (usage_item b) c.variants)) (items_named (usage_items b cs)) all),
     )
 
+-- the literals of the usages of all choices are the truth of theirs
+pub right_from_choices : (b : Contents) → UsagesFit b → (x : List Bool) (a : ℕ → Bool) → Begins (length b.codes) (length b.codes) x a → (v : ℕ) (cs : List Choice) → Names a x v (items_named (usage_items b cs)) → AllRight b x a (all_usages b (length b.codes) v cs)
+right_from_choices b fit x a begins v [] us = tt
+right_from_choices b fit x a begins v (c ∷ cs) us =
+    let usages = later_usages b x a v c cs us in
+    all-append _ (usages_from b (length b.codes) v c.variants) _ (right_from_names b fit x a begins v c.variants usages.0)
+    (right_from_choices b fit x a begins (v + variables_of (map (usage_item b) c.variants)) cs usages.1)
+
 later_goals : (b : Contents) (x : List Bool) (a : ℕ → Bool) (n v w : ℕ) (c : Choice) (cs : List Choice) → Names a x w (choices_named b n v (c ∷ cs))
     → Names a x (w + choice_variables c.mandatory (usages_from b n v c.variants)) (choices_named b n (v + variables_of (map (usage_item b) c.variants)) cs)
 later_goals b x a n v w c cs h =
     subst (λ (k : ℕ). Names a x (w + k) (choices_named b n (v + variables_of (map (usage_item b) c.variants)) cs)) (length-choice_named b c.mandatory (usages_from b n v c.variants))
     (names_last a x w (choice_named b c.mandatory (usages_from b n v c.variants)) _ h)
 
-pub sat_from_choices : (b : Contents) → UsagesFit b → (x : List Bool) (a : ℕ → Bool) → Begins (length b.codes) x a → (v w : ℕ) (cs : List Choice) → Names a x v (items_named (usage_items b cs)) → Names a x w (choices_named b (length b.codes) v cs) → Sat (goals_clauses (numbered_from b (length b.codes) v w cs)) a
+pub sat_from_choices : (b : Contents) → UsagesFit b → (x : List Bool) (a : ℕ → Bool) → Begins (length b.codes) (length b.codes) x a → (v w : ℕ) (cs : List Choice) → Names a x v (items_named (usage_items b cs)) → Names a x w (choices_named b (length b.codes) v cs) → Sat (goals_clauses (numbered_from b (length b.codes) v w cs)) a
 sat_from_choices b fit x a begins v w [] us h = tt
 sat_from_choices b fit x a begins v w (c ∷ cs) us h =
     let usages = later_usages b x a v c cs us in
@@ -242,7 +250,7 @@ sat_from_choices b fit x a begins v w (c ∷ cs) us h =
     (sat_from_choices b fit x a begins (v + variables_of (map (usage_item b) c.variants)) (w + choice_variables c.mandatory (usages_from b (length b.codes) v c.variants)) cs usages.1
     (later_goals b x a (length b.codes) v w c cs h))
 
-pub names_from_choices : (b : Contents) → UsagesFit b → (x : List Bool) (a : ℕ → Bool) → Begins (length b.codes) x a → (v w : ℕ) (cs : List Choice) → Names a x v (items_named (usage_items b cs)) → Sat (goals_clauses (numbered_from b (length b.codes) v w cs)) a → Names a x w (choices_named b (length b.codes) v cs)
+pub names_from_choices : (b : Contents) → UsagesFit b → (x : List Bool) (a : ℕ → Bool) → Begins (length b.codes) (length b.codes) x a → (v w : ℕ) (cs : List Choice) → Names a x v (items_named (usage_items b cs)) → Sat (goals_clauses (numbered_from b (length b.codes) v w cs)) a → Names a x w (choices_named b (length b.codes) v cs)
 names_from_choices b fit x a begins v w [] us h = tt
 names_from_choices b fit x a begins v w (c ∷ cs) us h =
     let usages = later_usages b x a v c cs us in
@@ -268,7 +276,7 @@ choices_from_active i b day (p ∷ ps) =
 pub choices_active : (b : Contents) (day : ℕ) → AreActive b day (choices b day)
 choices_active b day = choices_from_active 0 b day b.positions
 
-pub choices_goals : (b : Contents) (day : ℕ) → UsagesFit b → (x : List Bool) (a : ℕ → Bool) → Begins (length b.codes) x a → (v w : ℕ) (cs : List Choice) → AreActive b day cs → Names a x v (items_named (usage_items b cs)) → Names a x w (choices_named b (length b.codes) v cs) → GoalsTrue b day x a (goals_asked (length b.codes) (numbered_from b (length b.codes) v w cs))
+pub choices_goals : (b : Contents) (day : ℕ) → UsagesFit b → (x : List Bool) (a : ℕ → Bool) → Begins (length b.codes) (length b.codes) x a → (v w : ℕ) (cs : List Choice) → AreActive b day cs → Names a x v (items_named (usage_items b cs)) → Names a x w (choices_named b (length b.codes) v cs) → GoalsTrue b day x a (goals_asked (length b.codes) (numbered_from b (length b.codes) v w cs))
 choices_goals b day fit x a begins v w [] active us h = tt
 choices_goals b day fit x a begins v w (c ∷ cs) active us h =
     let usages = later_usages b x a v c cs us in
@@ -281,7 +289,7 @@ choices_goals b day fit x a begins v w (c ∷ cs) active us h =
     (later_goals b x a (length b.codes) v w c cs h))
 
 -- the codes from place i on, of which the last ends the book's
-pub codes_goals : (b : Contents) (day : ℕ) (x : List Bool) (a : ℕ → Bool) → Begins (length b.codes) x a → (i : ℕ) (names : List (List ℕ)) → i + length names ≡ length b.codes → GoalsTrue b day x a (codes_asked_from i names)
+pub codes_goals : (b : Contents) (day : ℕ) (x : List Bool) (a : ℕ → Bool) → Begins (length b.codes) (length b.codes) x a → (i : ℕ) (names : List (List ℕ)) → i + length names ≡ length b.codes → GoalsTrue b day x a (codes_asked_from i names)
 codes_goals b day x a begins i [] h = tt
 codes_goals b day x a begins i (name ∷ names) h =
     let is : a i ≡ has x i = begins.codes i (omega arith) in

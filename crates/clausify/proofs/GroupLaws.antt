@@ -55,32 +55,32 @@ present_some x (code ∷ group) h =
           omega (arith, present_without x code group gone)
     ]
 
-module _ (n : ℕ) (x : List Bool) (a : ℕ → Bool) (b : Begins n x a) where
+module _ {m : ℕ} (n : ℕ) (x : List Bool) (a : ℕ → Bool) (b : Begins m n x a) where
   -- both clauses, by what the set has
-  apart_true : (k l : ℕ) → k < n → l < n → clause_true a (apart_clause (k, l)) ≡ (not (has x k) || (not (has x l) || false))
+  apart_true : (k l : ℕ) → k < m → l < m → clause_true a (apart_clause (k, l)) ≡ (not (has x k) || (not (has x l) || false))
   apart_true k l hk hl =
       two_true a (literal k false) (literal l false) (not (has x k)) (not (has x l))
       (true_negative a k ∙ ap not (b.codes k hk)) (true_negative a l ∙ ap not (b.codes l hl))
 
-  any_true : (group : List ℕ) → AreCodes n group → list_any (is_true a) (map (λ code. literal code true) group) ≡ list_any (has x) group
+  any_true : (group : List ℕ) → AreCodes m group → list_any (is_true a) (map (λ code. literal code true) group) ≡ list_any (has x) group
   any_true [] h = refl
   any_true (code ∷ group) h =
       ap (λ t. t || list_any (is_true a) (map (λ k. literal k true) group)) (true_positive a code ∙ b.codes code h.0)
       ∙ ap (λ t. has x code || t) (any_true group h.1)
 
-  any_clause_true : (group : List ℕ) → AreCodes n group → clause_true a (any_clause group) ≡ list_any (has x) group
+  any_clause_true : (group : List ℕ) → AreCodes m group → clause_true a (any_clause group) ≡ list_any (has x) group
   any_clause_true group h = clause_true-clause_of a (map (λ code. literal code true) group) ∙ any_true group h
 
   -- the code is apart from each of these
   abbrev IsApart : ℕ → List ℕ → Type 0
   IsApart code group = AllByRecursion (λ (p : ℕ × ℕ). clause_true a (apart_clause p) ≡ true) (map (λ k. (code, k)) group)
 
-  absent_apart : (code : ℕ) (group : List ℕ) → code < n → AreCodes n group → has x code ≡ false → IsApart code group
+  absent_apart : (code : ℕ) (group : List ℕ) → code < m → AreCodes m group → has x code ≡ false → IsApart code group
   absent_apart code [] hc hg e = tt
   absent_apart code (k ∷ group) hc hg e =
       (apart_true code k hc hg.0 ∙ ap (λ t. not t || (not (has x k) || false)) e, absent_apart code group hc hg.1 e)
 
-  alone_apart : (code : ℕ) (group : List ℕ) → code < n → AreCodes n group → present x group ≡ 0 → IsApart code group
+  alone_apart : (code : ℕ) (group : List ℕ) → code < m → AreCodes m group → present x group ≡ 0 → IsApart code group
   alone_apart code [] hc hg e = tt
   alone_apart code (k ∷ group) hc hg e =
       elim (cases_Bool (has x k)) [
@@ -91,7 +91,7 @@ module _ (n : ℕ) (x : List Bool) (a : ℕ → Bool) (b : Begins n x a) where
         )
       ]
 
-  none_beside : (code : ℕ) (group : List ℕ) → code < n → AreCodes n group → has x code ≡ true → IsApart code group → present x group ≡ 0
+  none_beside : (code : ℕ) (group : List ℕ) → code < m → AreCodes m group → has x code ≡ true → IsApart code group → present x group ≡ 0
   none_beside code [] hc hg e h = refl
   none_beside code (k ∷ group) hc hg e h =
       elim (cases_Bool (has x k)) [
@@ -103,7 +103,7 @@ module _ (n : ℕ) (x : List Bool) (a : ℕ → Bool) (b : Begins n x a) where
   abbrev AreApart : List ℕ → Type 0
   AreApart group = AllByRecursion (λ (p : ℕ × ℕ). clause_true a (apart_clause p) ≡ true) (pairs group)
 
-  apart_from_few : (group : List ℕ) → AreCodes n group → present x group ≤ 1 → AreApart group
+  apart_from_few : (group : List ℕ) → AreCodes m group → present x group ≤ 1 → AreApart group
   apart_from_few [] h few = tt
   apart_from_few (code ∷ group) h few =
       elim (cases_Bool (has x code)) [
@@ -115,7 +115,7 @@ module _ (n : ℕ) (x : List Bool) (a : ℕ → Bool) (b : Begins n x a) where
             (apart_from_few group h.1 (omega (arith, present_without x code group gone)))
       ]
 
-  few_from_apart : (group : List ℕ) → AreCodes n group → AreApart group → present x group ≤ 1
+  few_from_apart : (group : List ℕ) → AreCodes m group → AreApart group → present x group ≤ 1
   few_from_apart [] h apart = omega arith
   few_from_apart (code ∷ group) h apart =
       let beside : IsApart code group = all_first _ (map (λ k. (code, k)) group) (pairs group) apart in
@@ -126,19 +126,19 @@ module _ (n : ℕ) (x : List Bool) (a : ℕ → Bool) (b : Begins n x a) where
       ]
 
   -- at most one is present
-  pub sat_from_few : (group : List ℕ) → AreCodes n group → leb (present x group) 1 ≡ true → Sat (apart_clauses group) a
+  pub sat_from_few : (group : List ℕ) → AreCodes m group → leb (present x group) 1 ≡ true → Sat (apart_clauses group) a
   sat_from_few group h few = all-map _ apart_clause (pairs group) (apart_from_few group h (leb-true (present x group) 1 few))
 
-  pub few_from_sat : (group : List ℕ) → AreCodes n group → Sat (apart_clauses group) a → leb (present x group) 1 ≡ true
+  pub few_from_sat : (group : List ℕ) → AreCodes m group → Sat (apart_clauses group) a → leb (present x group) 1 ≡ true
   few_from_sat group h s = le-leb (present x group) 1 (few_from_apart group h (all_mapped _ apart_clause (pairs group) s))
 
   -- exactly one is
-  pub sat_from_one : (group : List ℕ) → AreCodes n group → eqb (present x group) 1 ≡ true → Sat (any_clause group ∷ apart_clauses group) a
+  pub sat_from_one : (group : List ℕ) → AreCodes m group → eqb (present x group) 1 ≡ true → Sat (any_clause group ∷ apart_clauses group) a
   sat_from_one group h one =
       let count : present x group ≡ 1 = eqb-true (present x group) 1 one in
       (any_clause_true group h ∙ some_present x group (omega arith), sat_from_few group h (le-leb (present x group) 1 (omega arith)))
 
-  pub one_from_sat : (group : List ℕ) → AreCodes n group → Sat (any_clause group ∷ apart_clauses group) a → eqb (present x group) 1 ≡ true
+  pub one_from_sat : (group : List ℕ) → AreCodes m group → Sat (any_clause group ∷ apart_clauses group) a → eqb (present x group) 1 ≡ true
   one_from_sat group h s =
       let few : present x group ≤ 1 = few_from_apart group h (all_mapped _ apart_clause (pairs group) s.1) in
       let some : 1 ≤ present x group = present_some x group (sym (any_clause_true group h) ∙ s.0) in

@@ -9,7 +9,7 @@ use Rattle.pb_base.specs.Rule.{Rule, holds, codes_below}
 use Rattle.pb_base.specs.Sets.{has}
 use Rattle.book_model.specs.Activity.{is_within}
 use Rattle.book_model.specs.Contents.{Contents}
-use Rattle.book_model.specs.Good.{fires, breaks, is_met, present, is_good}
+use Rattle.book_model.specs.Good.{fires, breaks, is_met, present, is_constructible, is_good}
 use Rattle.book_model.specs.Book.{SupplementFits, ConstructFits, DemandFits}
 use Rattle.book_model.specs.declared.demand.Demand.{Demand}
 use Rattle.book_model.specs.declared.demand.Demand.TheVariants as demand
@@ -18,8 +18,8 @@ use Rattle.book_model.specs.declared.record.Construct.{Construct}
 use Rattle.clause_pool.specs.Literal.{literal, complement, is_true}
 use Rattle.clause_pool.specs.Clause.{Sat}
 use Rattle.clause_pool.proofs.LiteralLaws.{is_true-complement}
-use Rattle.clausify.specs.Formulas.{connectives, formula_literal, formula_clauses}
-use Rattle.clausify.specs.Items.{Claim, adds, needed_by, needed, one_of, most_of, free, Item, claim_clauses, variables_of, item_clauses, claim_on, supplement_item, demand_item, construct_item, rule_items}
+use Rattle.clausify.specs.Formulas.{connectives, formula_literal, literals_from, formula_clauses}
+use Rattle.clausify.specs.Items.{Claim, adds, needed_by, needed, one_of, most_of, free, Item, claim_clauses, variables_of, item_clauses, free_item, claim_on, supplement_item, demand_item, construct_item, supplement_items, construct_items, rule_items}
 use Rattle.clausify.proofs.GroupLaws.{all_below, below_all, sat_from_one, one_from_sat, sat_from_few, few_from_sat}
 use Rattle.clausify.proofs.ListLaws.{all-append, all_first, all_last}
 use Rattle.clausify.proofs.Truth.{true_positive, true_negative, one_true, two_true}
@@ -56,25 +56,25 @@ or_rest : (p q : Bool) → (p || (q || false)) ≡ (p || q)
 or_rest p q = ap (λ (b : Bool). p || b) (or_nothing q)
 
 -- the clauses of a claim hold just where the claim is met
-pub sat_from_claim : (n : ℕ) (x : List Bool) (a : ℕ → Bool) → Begins n x a → (d : Claim) (l : ℕ) (t : Bool) → claim_fits n d ≡ true → is_true a l ≡ t → meets_claim x d t ≡ true → Sat (claim_clauses d l) a
-sat_from_claim n x a b (adds code) l t fit h m =
-    (two_true a (complement l) (literal code true) (not t) (has x code) (is_true-complement a l ∙ ap not h) (true_positive a code ∙ b.codes code (ltb-true code n fit)) ∙ or_rest (not t) (has x code) ∙ m, tt)
-sat_from_claim n x a b (needed_by code) l t fit h m =
-    (two_true a (literal code false) l (not (has x code)) t (true_negative a code ∙ ap not (b.codes code (ltb-true code n fit))) h ∙ or_rest (not (has x code)) t ∙ m, tt)
-sat_from_claim n x a b needed l t fit h m = (one_true a l ∙ or_nothing (is_true a l) ∙ h ∙ m, tt)
-sat_from_claim n x a b (one_of group) l t fit h m = sat_from_one n x a b group (below_all n group fit) m
-sat_from_claim n x a b (most_of group) l t fit h m = sat_from_few n x a b group (below_all n group fit) m
-sat_from_claim n x a b free l t fit h m = tt
+pub sat_from_claim : {m : ℕ} (n : ℕ) (x : List Bool) (a : ℕ → Bool) → Begins m n x a → (d : Claim) (l : ℕ) (t : Bool) → claim_fits m d ≡ true → is_true a l ≡ t → meets_claim x d t ≡ true → Sat (claim_clauses d l) a
+sat_from_claim {m} n x a b (adds code) l t fit h met =
+    (two_true a (complement l) (literal code true) (not t) (has x code) (is_true-complement a l ∙ ap not h) (true_positive a code ∙ b.codes code (ltb-true code m fit)) ∙ or_rest (not t) (has x code) ∙ met, tt)
+sat_from_claim {m} n x a b (needed_by code) l t fit h met =
+    (two_true a (literal code false) l (not (has x code)) t (true_negative a code ∙ ap not (b.codes code (ltb-true code m fit))) h ∙ or_rest (not (has x code)) t ∙ met, tt)
+sat_from_claim {m} n x a b needed l t fit h met = (one_true a l ∙ or_nothing (is_true a l) ∙ h ∙ met, tt)
+sat_from_claim {m} n x a b (one_of group) l t fit h met = sat_from_one n x a b group (below_all m group fit) met
+sat_from_claim {m} n x a b (most_of group) l t fit h met = sat_from_few n x a b group (below_all m group fit) met
+sat_from_claim {m} n x a b free l t fit h met = tt
 
-pub claim_from_sat : (n : ℕ) (x : List Bool) (a : ℕ → Bool) → Begins n x a → (d : Claim) (l : ℕ) (t : Bool) → claim_fits n d ≡ true → is_true a l ≡ t → Sat (claim_clauses d l) a → meets_claim x d t ≡ true
-claim_from_sat n x a b (adds code) l t fit h s =
-    sym (two_true a (complement l) (literal code true) (not t) (has x code) (is_true-complement a l ∙ ap not h) (true_positive a code ∙ b.codes code (ltb-true code n fit)) ∙ or_rest (not t) (has x code)) ∙ s.0
-claim_from_sat n x a b (needed_by code) l t fit h s =
-    sym (two_true a (literal code false) l (not (has x code)) t (true_negative a code ∙ ap not (b.codes code (ltb-true code n fit))) h ∙ or_rest (not (has x code)) t) ∙ s.0
-claim_from_sat n x a b needed l t fit h s = sym (one_true a l ∙ or_nothing (is_true a l) ∙ h) ∙ s.0
-claim_from_sat n x a b (one_of group) l t fit h s = one_from_sat n x a b group (below_all n group fit) s
-claim_from_sat n x a b (most_of group) l t fit h s = few_from_sat n x a b group (below_all n group fit) s
-claim_from_sat n x a b free l t fit h s = refl
+pub claim_from_sat : {m : ℕ} (n : ℕ) (x : List Bool) (a : ℕ → Bool) → Begins m n x a → (d : Claim) (l : ℕ) (t : Bool) → claim_fits m d ≡ true → is_true a l ≡ t → Sat (claim_clauses d l) a → meets_claim x d t ≡ true
+claim_from_sat {m} n x a b (adds code) l t fit h s =
+    sym (two_true a (complement l) (literal code true) (not t) (has x code) (is_true-complement a l ∙ ap not h) (true_positive a code ∙ b.codes code (ltb-true code m fit)) ∙ or_rest (not t) (has x code)) ∙ s.0
+claim_from_sat {m} n x a b (needed_by code) l t fit h s =
+    sym (two_true a (literal code false) l (not (has x code)) t (true_negative a code ∙ ap not (b.codes code (ltb-true code m fit))) h ∙ or_rest (not (has x code)) t) ∙ s.0
+claim_from_sat {m} n x a b needed l t fit h s = sym (one_true a l ∙ or_nothing (is_true a l) ∙ h) ∙ s.0
+claim_from_sat {m} n x a b (one_of group) l t fit h s = one_from_sat n x a b group (below_all m group fit) s
+claim_from_sat {m} n x a b (most_of group) l t fit h s = few_from_sat n x a b group (below_all m group fit) s
+claim_from_sat {m} n x a b free l t fit h s = refl
 
 -- what the variables of the items stand for
 abbrev pub items_named : List Item → List Rule
@@ -112,36 +112,55 @@ first_names a x v i is h = names_first a x v (named_in i.rule) (items_named is) 
 later_names : (a : ℕ → Bool) (x : List Bool) (v : ℕ) (i : Item) (is : List Item) → Names a x v (items_named (i ∷ is)) → Names a x (v + connectives i.rule) (items_named is)
 later_names a x v i is h = subst (λ (k : ℕ). Names a x (v + k) (items_named is)) (length-named_in i.rule) (names_last a x v (named_in i.rule) (items_named is) h)
 
-pub sat_from_items : (n : ℕ) (x : List Bool) (a : ℕ → Bool) → Begins n x a → (v : ℕ) (is : List Item) → AllFit n is → Names a x v (items_named is) → AllMeet x is → Sat (item_clauses n v is) a
-sat_from_items n x a b v [] fit names met = tt
-sat_from_items n x a b v (i ∷ is) fit names met =
-    let fits = and_parts (codes_below n i.rule) (claim_fits n i.claim) fit.0 in
+pub sat_from_items : {m : ℕ} (n : ℕ) (x : List Bool) (a : ℕ → Bool) → Begins m n x a → (v : ℕ) (is : List Item) → AllFit m is → Names a x v (items_named is) → AllMeet x is → Sat (item_clauses n v is) a
+sat_from_items {m} n x a b v [] fit names met = tt
+sat_from_items {m} n x a b v (i ∷ is) fit names met =
+    let fits = and_parts (codes_below m i.rule) (claim_fits m i.claim) fit.0 in
     let here = first_names a x v i is names in
     all-append _ (formula_clauses n v i.rule ++ claim_clauses i.claim (formula_literal n v i.rule)) _
     (all-append _ (formula_clauses n v i.rule) _ (sat_from_names n x a b v i.rule fits.0 here)
     (sat_from_claim n x a b i.claim (formula_literal n v i.rule) (holds i.rule x) fits.1 (denotes n x a b v i.rule fits.0 here) met.0))
     (sat_from_items n x a b (v + connectives i.rule) is fit.1 (later_names a x v i is names) met.1)
 
-pub names_from_items : (n : ℕ) (x : List Bool) (a : ℕ → Bool) → Begins n x a → (v : ℕ) (is : List Item) → AllFit n is → Sat (item_clauses n v is) a → Names a x v (items_named is)
-names_from_items n x a b v [] fit h = tt
-names_from_items n x a b v (i ∷ is) fit h =
-    let fits = and_parts (codes_below n i.rule) (claim_fits n i.claim) fit.0 in
+pub names_from_items : {m : ℕ} (n : ℕ) (x : List Bool) (a : ℕ → Bool) → Begins m n x a → (v : ℕ) (is : List Item) → AllFit m is → Sat (item_clauses n v is) a → Names a x v (items_named is)
+names_from_items {m} n x a b v [] fit h = tt
+names_from_items {m} n x a b v (i ∷ is) fit h =
+    let fits = and_parts (codes_below m i.rule) (claim_fits m i.claim) fit.0 in
     let own = all_first _ (formula_clauses n v i.rule ++ claim_clauses i.claim (formula_literal n v i.rule)) _ h in
     let rest = all_last _ (formula_clauses n v i.rule ++ claim_clauses i.claim (formula_literal n v i.rule)) _ h in
     names-append a x v (named_in i.rule) (items_named is)
     (names_from_sat n x a b v i.rule fits.0 (all_first _ (formula_clauses n v i.rule) _ own))
     (subst (λ (k : ℕ). Names a x (v + k) (items_named is)) (sym (length-named_in i.rule)) (names_from_items n x a b (v + connectives i.rule) is fit.1 rest))
 
-pub meets_from_items : (n : ℕ) (x : List Bool) (a : ℕ → Bool) → Begins n x a → (v : ℕ) (is : List Item) → AllFit n is → Sat (item_clauses n v is) a → AllMeet x is
-meets_from_items n x a b v [] fit h = tt
-meets_from_items n x a b v (i ∷ is) fit h =
-    let fits = and_parts (codes_below n i.rule) (claim_fits n i.claim) fit.0 in
+pub meets_from_items : {m : ℕ} (n : ℕ) (x : List Bool) (a : ℕ → Bool) → Begins m n x a → (v : ℕ) (is : List Item) → AllFit m is → Sat (item_clauses n v is) a → AllMeet x is
+meets_from_items {m} n x a b v [] fit h = tt
+meets_from_items {m} n x a b v (i ∷ is) fit h =
+    let fits = and_parts (codes_below m i.rule) (claim_fits m i.claim) fit.0 in
     let own = all_first _ (formula_clauses n v i.rule ++ claim_clauses i.claim (formula_literal n v i.rule)) _ h in
     let rest = all_last _ (formula_clauses n v i.rule ++ claim_clauses i.claim (formula_literal n v i.rule)) _ h in
     let names = names_from_sat n x a b v i.rule fits.0 (all_first _ (formula_clauses n v i.rule) _ own) in (
       claim_from_sat n x a b i.claim (formula_literal n v i.rule) (holds i.rule x) fits.1 (denotes n x a b v i.rule fits.0 names) (all_last _ (formula_clauses n v i.rule) _ own),
       meets_from_items n x a b (v + connectives i.rule) is fit.1 rest,
     )
+
+-- Formulas of which nothing is claimed: they fit where their codes do, every set meets them, and the literals are their truth.
+abbrev pub AllBelow : ℕ → List Rule → Type 0
+AllBelow n fs = AllByRecursion (λ f. codes_below n f ≡ true) fs
+
+pub free_items_fit : (n : ℕ) (fs : List Rule) → AllBelow n fs → AllFit n (map free_item fs)
+free_items_fit n [] below = tt
+free_items_fit n (f ∷ fs) below = (and_from _ _ below.0 refl, free_items_fit n fs below.1)
+
+pub free_items_met : (x : List Bool) (fs : List Rule) → AllMeet x (map free_item fs)
+free_items_met x [] = tt
+free_items_met x (f ∷ fs) = (refl, free_items_met x fs)
+
+pub literals_true : {m : ℕ} (n : ℕ) (x : List Bool) (a : ℕ → Bool) → Begins m n x a → (v : ℕ) (fs : List Rule) → AllBelow m fs → Names a x v (items_named (map free_item fs))
+    → map (is_true a) (literals_from n v fs) ≡ map (λ f. holds f x) fs
+literals_true {m} n x a b v [] below names = refl
+literals_true {m} n x a b v (f ∷ fs) below names =
+    ap (λ (t : Bool). t ∷ map (is_true a) (literals_from n (v + connectives f) fs)) (denotes n x a b v f below.0 (first_names a x v (free_item f) (map free_item fs) names))
+    ∙ ap (λ (ts : List Bool). holds f x ∷ ts) (literals_true n x a b (v + connectives f) fs below.1 (later_names a x v (free_item f) (map free_item fs) names))
 
 unmet_where_fired : (w p q : Bool) → (w && p && not q) ≡ (w && not (not p || q))
 unmet_where_fired true true q = refl
@@ -202,32 +221,40 @@ meets-demand x (demand.Most group) = refl
 unmet-fires : (day : ℕ) (x : List Bool) (s : Supplement) → fires day x s ≡ (is_within s.from s.until day && not (meets x (supplement_item s)))
 unmet-fires day x s = unmet_where_fired (is_within s.from s.until day) (holds s.rule x) (has x s.code)
 
-unmet-breaks : (day : ℕ) (x : List Bool) (c : Construct) → breaks day x c ≡ (is_within c.from c.until day && not (meets x (construct_item c)))
+pub unmet-breaks : (day : ℕ) (x : List Bool) (c : Construct) → breaks day x c ≡ (is_within c.from c.until day && not (meets x (construct_item c)))
 unmet-breaks day x c = ap (λ (t : Bool). is_within c.from c.until day && not t) (sym (meets-demand x c.demand))
+
+-- the claims of the constructibility rules are met just by the constructible sets
+pub constructible_from_meets : (b : Contents) (day : ℕ) (x : List Bool) → AllMeet x (construct_items b day) → is_constructible b day x ≡ true
+constructible_from_meets b day x h =
+    not_from_false _ (none_from_meets x (λ (c : Construct). is_within c.from c.until day) (breaks day x) construct_item (unmet-breaks day x) b.constructs h)
+
+pub meets_from_constructible : (b : Contents) (day : ℕ) (x : List Bool) → is_constructible b day x ≡ true → AllMeet x (construct_items b day)
+meets_from_constructible b day x h =
+    meets_from_none x (λ (c : Construct). is_within c.from c.until day) (breaks day x) construct_item (unmet-breaks day x) b.constructs (not-true _ h)
 
 -- all claims are met just by the good sets
 pub good_from_meets : (b : Contents) (day : ℕ) (x : List Bool) → length x ≡ length b.codes → AllMeet x (rule_items b day) → is_good b day x ≡ true
 good_from_meets b day x len h =
-    let first = all_first _ (map supplement_item (filter (λ s. is_within s.from s.until day) b.supplements)) _ h in
-    let last = all_last _ (map supplement_item (filter (λ s. is_within s.from s.until day) b.supplements)) _ h in
+    let first = all_first _ (supplement_items b day) (construct_items b day) h in
     and_from _ _
     (and_from _ _
     (not_from_false _ (none_from_meets x (λ (s : Supplement). is_within s.from s.until day) (fires day x) supplement_item (unmet-fires day x) b.supplements first))
-    (not_from_false _ (none_from_meets x (λ (c : Construct). is_within c.from c.until day) (breaks day x) construct_item (unmet-breaks day x) b.constructs last)))
+    (constructible_from_meets b day x (all_last _ (supplement_items b day) (construct_items b day) h)))
     (eq-eqb _ _ len)
 
 pub meets_from_good : (b : Contents) (day : ℕ) (x : List Bool) → is_good b day x ≡ true → AllMeet x (rule_items b day)
 meets_from_good b day x h =
     let rules = and_parts _ (eqb (length x) (length b.codes)) h in
-    let kinds = and_parts _ (not (list_any (breaks day x) b.constructs)) rules.0 in
-    all-append _ (map supplement_item (filter (λ s. is_within s.from s.until day) b.supplements)) _
+    let kinds = and_parts _ (is_constructible b day x) rules.0 in
+    all-append _ (supplement_items b day) (construct_items b day)
     (meets_from_none x (λ (s : Supplement). is_within s.from s.until day) (fires day x) supplement_item (unmet-fires day x) b.supplements (not-true _ kinds.0))
-    (meets_from_none x (λ (c : Construct). is_within c.from c.until day) (breaks day x) construct_item (unmet-breaks day x) b.constructs (not-true _ kinds.1))
+    (meets_from_constructible b day x kinds.1)
 
 pub length_from_good : (b : Contents) (day : ℕ) (x : List Bool) → is_good b day x ≡ true → length x ≡ length b.codes
 length_from_good b day x h = eqb-true _ _ (and_parts _ (eqb (length x) (length b.codes)) h).1
 
-supplement_item_fits : (n : ℕ) (s : Supplement) → SupplementFits n s → item_fits n (supplement_item s) ≡ true
+pub supplement_item_fits : (n : ℕ) (s : Supplement) → SupplementFits n s → item_fits n (supplement_item s) ≡ true
 supplement_item_fits n s h = and_from _ _ (h.rule.in_range) (lt-ltb s.code n h.code)
 
 claim_on_fits : (n : ℕ) (o : Option ℕ) → IfSome o (λ code. code < n) → claim_fits n (claim_on o) ≡ true
@@ -237,19 +264,26 @@ claim_on_fits n (Some code) h = lt-ltb code n h
 group_fits : (n : ℕ) (group : List ℕ) → All (λ (code : ℕ). code < n) group → list_all (λ code. ltb code n) group ≡ true
 group_fits n group h = all_below n group (recursion_from_All (λ (code : ℕ). code < n) group h)
 
-demand_item_fits : (n : ℕ) (d : Demand) → DemandFits n d → item_fits n (demand_item d) ≡ true
+pub demand_item_fits : (n : ℕ) (d : Demand) → DemandFits n d → item_fits n (demand_item d) ≡ true
 demand_item_fits n (demand.Rule on rule) h = and_from _ _ (h.rule.in_range) (claim_on_fits n on h.on)
 demand_item_fits n (demand.One group) h = group_fits n group h.in_range
 demand_item_fits n (demand.Most group) h = group_fits n group h.in_range
 
-construct_item_fits : (n : ℕ) (c : Construct) → ConstructFits n c → item_fits n (construct_item c) ≡ true
+pub construct_item_fits : (n : ℕ) (c : Construct) → ConstructFits n c → item_fits n (construct_item c) ≡ true
 construct_item_fits n c h = demand_item_fits n c.demand h.demand
 
+pub supplement_items_fit : (b : Contents) (day : ℕ) → All (SupplementFits (length b.codes)) b.supplements → AllFit (length b.codes) (supplement_items b day)
+supplement_items_fit b day hs =
+    fit_filtered (length b.codes) (λ (s : Supplement). is_within s.from s.until day) (SupplementFits (length b.codes)) supplement_item (supplement_item_fits (length b.codes)) b.supplements
+    (recursion_from_All (SupplementFits (length b.codes)) b.supplements hs)
+
+pub construct_items_fit : (b : Contents) (day : ℕ) → All (ConstructFits (length b.codes)) b.constructs → AllFit (length b.codes) (construct_items b day)
+construct_items_fit b day hc =
+    fit_filtered (length b.codes) (λ (c : Construct). is_within c.from c.until day) (ConstructFits (length b.codes)) construct_item (construct_item_fits (length b.codes)) b.constructs
+    (recursion_from_All (ConstructFits (length b.codes)) b.constructs hc)
+
 pub rule_items_fit : (b : Contents) (day : ℕ) → All (SupplementFits (length b.codes)) b.supplements → All (ConstructFits (length b.codes)) b.constructs → AllFit (length b.codes) (rule_items b day)
-rule_items_fit b day hs hc =
-    all-append _ (map supplement_item (filter (λ s. is_within s.from s.until day) b.supplements)) _
-    (fit_filtered (length b.codes) (λ (s : Supplement). is_within s.from s.until day) (SupplementFits (length b.codes)) supplement_item (supplement_item_fits (length b.codes)) b.supplements (recursion_from_All (SupplementFits (length b.codes)) b.supplements hs))
-    (fit_filtered (length b.codes) (λ (c : Construct). is_within c.from c.until day) (ConstructFits (length b.codes)) construct_item (construct_item_fits (length b.codes)) b.constructs (recursion_from_All (ConstructFits (length b.codes)) b.constructs hc))
+rule_items_fit b day hs hc = all-append _ (supplement_items b day) (construct_items b day) (supplement_items_fit b day hs) (construct_items_fit b day hc)
 
 pub variables_more : (is js : List Item) → variables_of (is ++ js) ≡ variables_of is + variables_of js
 variables_more is js = variables_of-append is js

@@ -31,20 +31,20 @@ use Rattle.clausify.proofs.ItemLaws.{AllFit, claim_fits, rule_items_fit, variabl
 use Rattle.clausify.proofs.GoalLaws.{UsagesFit, usages_fit, all_usage_items_fit}
 use Rattle.clausify.proofs.QuestionLaws.{asked_in_order}
 
-positive_below : (v m : ℕ) → v < m → literal v true < 2 * m
+pub positive_below : (v m : ℕ) → v < m → literal v true < 2 * m
 positive_below v m h = omega arith
 
-negative_below : (v m : ℕ) → v < m → literal v false < 2 * m
+pub negative_below : (v m : ℕ) → v < m → literal v false < 2 * m
 negative_below v m h = omega arith
 
-complement_below : (l m : ℕ) → l < 2 * m → complement l < 2 * m
+pub complement_below : (l m : ℕ) → l < 2 * m → complement l < 2 * m
 complement_below l m h =
     elim (even_or_odd l) [
       | inl e ↦ omega (arith, complement-even l e)
       | inr o ↦ omega (arith, complement-odd l o)
     ]
 
-both_below : (m v k l : ℕ) → v < m → k < 2 * m → l < 2 * m → AreBelow (2 * m) (both_clauses v k l)
+pub both_below : (m v k l : ℕ) → v < m → k < 2 * m → l < 2 * m → AreBelow (2 * m) (both_clauses v k l)
 both_below m v k l hv hk hl = (
   IsBelow-clause_of (2 * m) (literal v false ∷ k ∷ []) (negative_below v m hv, (hk, tt)),
   (
@@ -57,7 +57,7 @@ both_below m v k l hv hk hl = (
   ),
 )
 
-either_below : (m v k l : ℕ) → v < m → k < 2 * m → l < 2 * m → AreBelow (2 * m) (either_clauses v k l)
+pub either_below : (m v k l : ℕ) → v < m → k < 2 * m → l < 2 * m → AreBelow (2 * m) (either_clauses v k l)
 either_below m v k l hv hk hl = (
   IsBelow-clause_of (2 * m) (literal v false ∷ k ∷ l ∷ []) (negative_below v m hv, (hk, (hl, tt))),
   (
@@ -66,68 +66,68 @@ either_below m v k l hv hk hl = (
   ),
 )
 
--- a formula whose variables go from v up to m, where n is always true
-literal_below : (n v m : ℕ) (f : Rule) → codes_below n f ≡ true → n < v → v + connectives f ≤ m → formula_literal n v f < 2 * m
-literal_below n v m (code place) fit h k = positive_below place m (let below = ltb-true place n fit in omega arith)
-literal_below n v m (negation f) fit h k = complement_below (formula_literal n v f) m (literal_below n v m f fit h k)
-literal_below n v m (both f g) fit h k = positive_below (v + connectives f + connectives g) m (omega arith)
-literal_below n v m (either f g) fit h k = positive_below (v + connectives f + connectives g) m (omega arith)
-literal_below n v m always fit h k = positive_below n m (omega arith)
-literal_below n v m never fit h k = negative_below n m (omega arith)
+-- a formula over the codes below c, whose variables go from v up to m, where n is always true
+pub literal_below : (c n v m : ℕ) (f : Rule) → codes_below c f ≡ true → c ≤ v → n < v → v + connectives f ≤ m → formula_literal n v f < 2 * m
+literal_below c n v m (code place) fit codes h k = positive_below place m (let below = ltb-true place c fit in omega arith)
+literal_below c n v m (negation f) fit codes h k = complement_below (formula_literal n v f) m (literal_below c n v m f fit codes h k)
+literal_below c n v m (both f g) fit codes h k = positive_below (v + connectives f + connectives g) m (omega arith)
+literal_below c n v m (either f g) fit codes h k = positive_below (v + connectives f + connectives g) m (omega arith)
+literal_below c n v m always fit codes h k = positive_below n m (omega arith)
+literal_below c n v m never fit codes h k = negative_below n m (omega arith)
 
-formula_below : (n v m : ℕ) (f : Rule) → codes_below n f ≡ true → n < v → v + connectives f ≤ m → AreBelow (2 * m) (formula_clauses n v f)
-formula_below n v m (code place) fit h k = tt
-formula_below n v m (negation f) fit h k = formula_below n v m f fit h k
-formula_below n v m (both f g) fit h k =
-    let fits = and_parts (codes_below n f) (codes_below n g) fit in
+pub formula_below : (c n v m : ℕ) (f : Rule) → codes_below c f ≡ true → c ≤ v → n < v → v + connectives f ≤ m → AreBelow (2 * m) (formula_clauses n v f)
+formula_below c n v m (code place) fit codes h k = tt
+formula_below c n v m (negation f) fit codes h k = formula_below c n v m f fit codes h k
+formula_below c n v m (both f g) fit codes h k =
+    let fits = and_parts (codes_below c f) (codes_below c g) fit in
     all-append _ (formula_clauses n v f ++ formula_clauses n (v + connectives f) g) _
-    (all-append _ (formula_clauses n v f) _ (formula_below n v m f fits.0 h (omega arith)) (formula_below n (v + connectives f) m g fits.1 (omega arith) (omega arith)))
+    (all-append _ (formula_clauses n v f) _ (formula_below c n v m f fits.0 codes h (omega arith)) (formula_below c n (v + connectives f) m g fits.1 (omega arith) (omega arith) (omega arith)))
     (both_below m (v + connectives f + connectives g) (formula_literal n v f) (formula_literal n (v + connectives f) g) (omega arith)
-    (literal_below n v m f fits.0 h (omega arith)) (literal_below n (v + connectives f) m g fits.1 (omega arith) (omega arith)))
-formula_below n v m (either f g) fit h k =
-    let fits = and_parts (codes_below n f) (codes_below n g) fit in
+    (literal_below c n v m f fits.0 codes h (omega arith)) (literal_below c n (v + connectives f) m g fits.1 (omega arith) (omega arith) (omega arith)))
+formula_below c n v m (either f g) fit codes h k =
+    let fits = and_parts (codes_below c f) (codes_below c g) fit in
     all-append _ (formula_clauses n v f ++ formula_clauses n (v + connectives f) g) _
-    (all-append _ (formula_clauses n v f) _ (formula_below n v m f fits.0 h (omega arith)) (formula_below n (v + connectives f) m g fits.1 (omega arith) (omega arith)))
+    (all-append _ (formula_clauses n v f) _ (formula_below c n v m f fits.0 codes h (omega arith)) (formula_below c n (v + connectives f) m g fits.1 (omega arith) (omega arith) (omega arith)))
     (either_below m (v + connectives f + connectives g) (formula_literal n v f) (formula_literal n (v + connectives f) g) (omega arith)
-    (literal_below n v m f fits.0 h (omega arith)) (literal_below n (v + connectives f) m g fits.1 (omega arith) (omega arith)))
-formula_below n v m always fit h k = tt
-formula_below n v m never fit h k = tt
+    (literal_below c n v m f fits.0 codes h (omega arith)) (literal_below c n (v + connectives f) m g fits.1 (omega arith) (omega arith) (omega arith)))
+formula_below c n v m always fit codes h k = tt
+formula_below c n v m never fit codes h k = tt
 
 -- the clauses of a group of codes
-any_below : (n m : ℕ) (group : List ℕ) → AreCodes n group → n < m → IsBelow (2 * m) (any_clause group)
-any_below n m group codes h =
+any_below : (c m : ℕ) (group : List ℕ) → AreCodes c group → c ≤ m → IsBelow (2 * m) (any_clause group)
+any_below c m group codes h =
     IsBelow-clause_of (2 * m) (map (λ code. literal code true) group)
     (all-map (λ l. l < 2 * m) (λ code. literal code true) group
-    (all_weaker (λ code. code < n) (λ code. literal code true < 2 * m) (λ code below. positive_below code m (omega arith)) group codes))
+    (all_weaker (λ code. code < c) (λ code. literal code true < 2 * m) (λ code below. positive_below code m (omega arith)) group codes))
 
-apart_below : (n m : ℕ) (group : List ℕ) → AreCodes n group → n < m → AreBelow (2 * m) (apart_clauses group)
-apart_below n m group codes h =
+apart_below : (c m : ℕ) (group : List ℕ) → AreCodes c group → c ≤ m → AreBelow (2 * m) (apart_clauses group)
+apart_below c m group codes h =
     all-map (IsBelow (2 * m)) apart_clause (pairs group)
-    (all_weaker (λ (p : ℕ × ℕ). (p.0 < n) × (p.1 < n)) (λ p. IsBelow (2 * m) (apart_clause p))
+    (all_weaker (λ (p : ℕ × ℕ). (p.0 < c) × (p.1 < c)) (λ p. IsBelow (2 * m) (apart_clause p))
     (λ p below. IsBelow-clause_of (2 * m) (literal p.0 false ∷ literal p.1 false ∷ [])
     (negative_below p.0 m (omega (arith, below.0)), (negative_below p.1 m (omega (arith, below.1)), tt)))
-    (pairs group) (all_pairs (λ code. code < n) group codes))
+    (pairs group) (all_pairs (λ code. code < c) group codes))
 
-claim_below : (n m l : ℕ) (d : Claim) → claim_fits n d ≡ true → n < m → l < 2 * m → AreBelow (2 * m) (claim_clauses d l)
-claim_below n m l (adds place) fit h k =
-    let below = ltb-true place n fit in
+claim_below : (c m l : ℕ) (d : Claim) → claim_fits c d ≡ true → c ≤ m → l < 2 * m → AreBelow (2 * m) (claim_clauses d l)
+claim_below c m l (adds place) fit h k =
+    let below = ltb-true place c fit in
     (IsBelow-clause_of (2 * m) (complement l ∷ literal place true ∷ []) (complement_below l m k, (positive_below place m (omega arith), tt)), tt)
-claim_below n m l (needed_by place) fit h k =
-    let below = ltb-true place n fit in
+claim_below c m l (needed_by place) fit h k =
+    let below = ltb-true place c fit in
     (IsBelow-clause_of (2 * m) (literal place false ∷ l ∷ []) (negative_below place m (omega arith), (k, tt)), tt)
-claim_below n m l needed fit h k = (IsBelow-clause_of (2 * m) (l ∷ []) (k, tt), tt)
-claim_below n m l (one_of group) fit h k = (any_below n m group (below_all n group fit) h, apart_below n m group (below_all n group fit) h)
-claim_below n m l (most_of group) fit h k = apart_below n m group (below_all n group fit) h
-claim_below n m l free fit h k = tt
+claim_below c m l needed fit h k = (IsBelow-clause_of (2 * m) (l ∷ []) (k, tt), tt)
+claim_below c m l (one_of group) fit h k = (any_below c m group (below_all c group fit) h, apart_below c m group (below_all c group fit) h)
+claim_below c m l (most_of group) fit h k = apart_below c m group (below_all c group fit) h
+claim_below c m l free fit h k = tt
 
-items_below : (n v m : ℕ) (is : List Item) → AllFit n is → n < v → v + variables_of is ≤ m → AreBelow (2 * m) (item_clauses n v is)
-items_below n v m [] fit h k = tt
-items_below n v m (i ∷ is) fit h k =
-    let fits = and_parts (codes_below n i.rule) (claim_fits n i.claim) fit.0 in
+pub items_below : (c n v m : ℕ) (is : List Item) → AllFit c is → c ≤ v → n < v → v + variables_of is ≤ m → AreBelow (2 * m) (item_clauses n v is)
+items_below c n v m [] fit codes h k = tt
+items_below c n v m (i ∷ is) fit codes h k =
+    let fits = and_parts (codes_below c i.rule) (claim_fits c i.claim) fit.0 in
     all-append _ (own_clauses n v i) (item_clauses n (v + connectives i.rule) is)
-    (all-append _ (formula_clauses n v i.rule) _ (formula_below n v m i.rule fits.0 h (omega arith))
-    (claim_below n m (formula_literal n v i.rule) i.claim fits.1 (omega arith) (literal_below n v m i.rule fits.0 h (omega arith))))
-    (items_below n (v + connectives i.rule) m is fit.1 (omega arith) (omega arith))
+    (all-append _ (formula_clauses n v i.rule) _ (formula_below c n v m i.rule fits.0 codes h (omega arith))
+    (claim_below c m (formula_literal n v i.rule) i.claim fits.1 (omega arith) (literal_below c n v m i.rule fits.0 codes h (omega arith))))
+    (items_below c n (v + connectives i.rule) m is fit.1 (omega arith) (omega arith) (omega arith))
 
 -- the goals of usages whose literals are of variables below m
 abbrev UsagesBelow : ℕ → List Usage → Type 0
@@ -142,7 +142,7 @@ GoalsBelow m asked = AllByRecursion (λ q. q.goal < 2 * m) asked
 usages_below : (b : Contents) → UsagesFit b → (v m : ℕ) (variants : List ℕ) → length b.codes < v → v + variables_of (map (usage_item b) variants) ≤ m → UsagesBelow m (usages_from b (length b.codes) v variants)
 usages_below b fit v m [] h k = tt
 usages_below b fit v m (variant ∷ variants) h k = (
-  literal_below (length b.codes) v m (usage b variant) (fit.below variant) h (omega arith),
+  literal_below (length b.codes) (length b.codes) v m (usage b variant) (fit.below variant) (omega arith) h (omega arith),
   usages_below b fit (v + connectives (usage b variant)) m variants (omega arith) (omega arith),
 )
 
@@ -299,7 +299,7 @@ slice_bounded b day book =
       codes = few;
       clauses = (
         IsBelow-clause_of (2 * m) (literal n true ∷ []) (positive_below n m few, tt),
-        all-append _ (item_clauses n (n + 1) (items b day)) _ (items_below n (n + 1) m (items b day) fits (omega arith) (omega arith))
+        all-append _ (item_clauses n (n + 1) (items b day)) _ (items_below n n (n + 1) m (items b day) fits (omega arith) (omega arith) (omega arith))
             (goals_clauses_below b usages m (usages_start b day) (goals_start b day) (choices b day) above room (omega arith)),
       );
       goals = (

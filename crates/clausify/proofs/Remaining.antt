@@ -8,7 +8,7 @@ use Rattle.clausify.specs.Formulas.{connectives, both_clauses}
 use Rattle.book_model.specs.Activity.{is_within}
 use Rattle.book_model.specs.Contents.{Contents}
 use Rattle.book_model.specs.declared.record.Position.{Position}
-use Rattle.clausify.specs.Items.{Item, item_clauses, variables_of, usage_item, usage_items}
+use Rattle.clausify.specs.Items.{Item, own_clauses, item_clauses, variables_of, usage_item, usage_items}
 use Rattle.clausify.specs.Choices.{Choice, choices_from, active_variants, usage}
 use Rattle.clause_pool.specs.Literal.{literal}
 use Rattle.clausify.specs.Pairs.{pairs}
@@ -17,6 +17,8 @@ use Rattle.clausify.specs.declared.question.Asked.{Asked}
 use Rattle.clausify.specs.declared.question.Question.TheVariants.{Necessary, Inadmissible, Ambiguous}
 use Rattle.clausify.specs.declared.usage.Usage.{Usage}
 use Rattle.clausify.proofs.ItemLaws.{item_clauses-append, variables_of-append}
+use Rattle.clausify.specs.Layout.{start_at, item_starts}
+use Rattle.clausify.specs.declared.layout.Start.{Start}
 use Rattle.clausify.specs.Encoding.{Encodes}
 use Rattle.clausify.specs.declared.encoder.Encoder.{Encoder}
 
@@ -24,6 +26,7 @@ pub record ItemsLeft (start m : Encoder) (all rest : List Item) : Type 0 where
   pub clauses : m.pool.clauses ++ item_clauses start.truth m.next rest ≡ start.pool.clauses ++ item_clauses start.truth start.next all
   pub next : m.next + variables_of rest ≡ start.next + variables_of all
   pub truth : m.truth ≡ start.truth
+  pub first : m.gates.first ≡ start.gates.first
 
 -- a loop over records: the items of the active ones that are left
 abbrev pub ActiveLeft : {X : Type 0} → (X → Bool) → (X → Item) → Encoder → Encoder → List X → ℕ → Type 0
@@ -40,7 +43,38 @@ items_many start m more all is rest left made = record {
       ∙ left.clauses;
   next = omega (arith, made.next, left.next, variables_of-append is rest);
   truth = made.truth ∙ left.truth;
+  first = made.first ∙ left.first;
 }
+
+-- where the items that are left begin
+abbrev pub StartsLeft : Encoder → Encoder → List Start → List Start → List Item → List Item → Type 0
+StartsLeft start m starts0 starts all rest =
+    starts ++ item_starts start.truth m.next (length m.pool.clauses) rest ≡ starts0 ++ item_starts start.truth start.next (length start.pool.clauses) all
+
+pub item_starts-append : (n v at : ℕ) (is js : List Item) → item_starts n v at (is ++ js) ≡ item_starts n v at is ++ item_starts n (v + variables_of is) (at + length (item_clauses n v is)) js
+item_starts-append n v at [] js =
+    ap (λ (w : ℕ). item_starts n w at js) (let e : v ≡ v + 0 = omega arith in e) ∙ ap (λ (k : ℕ). item_starts n (v + 0) k js) (let e : at ≡ at + 0 = omega arith in e)
+item_starts-append n v at (i ∷ is) js =
+    ap (λ (ss : List Start). start_at v at ∷ ss) (item_starts-append n (v + connectives i.rule) (at + length (own_clauses n v i)) is js)
+    ∙ ap (λ (w : ℕ). item_starts n v at (i ∷ is) ++ item_starts n w (at + length (own_clauses n v i) + length (item_clauses n (v + connectives i.rule) is)) js)
+    (let e : v + connectives i.rule + variables_of is ≡ v + variables_of (i ∷ is) = omega arith in e)
+    ∙ ap (λ (k : ℕ). item_starts n v at (i ∷ is) ++ item_starts n (v + variables_of (i ∷ is)) k js)
+    (let e : at + length (own_clauses n v i) + length (item_clauses n (v + connectives i.rule) is) ≡ at + length (item_clauses n v (i ∷ is)) =
+    omega (arith, length-append (own_clauses n v i) (item_clauses n (v + connectives i.rule) is)) in e)
+
+pub starts_many : (start m more : Encoder) (starts0 starts starts' : List Start) (all is rest : List Item) → m.truth ≡ start.truth → StartsLeft start m starts0 starts all (is ++ rest)
+    → Encodes m more (item_clauses m.truth m.next is) (variables_of is) → starts' ≡ starts ++ item_starts m.truth m.next (length m.pool.clauses) is
+    → StartsLeft start more starts0 starts' all rest
+starts_many start m more starts0 starts starts' all is rest truth left made added =
+    let size : length more.pool.clauses ≡ length m.pool.clauses + length (item_clauses m.truth m.next is) =
+    ap length made.clauses ∙ length-append m.pool.clauses (item_clauses m.truth m.next is) in
+    ap (λ (ss : List Start). ss ++ item_starts start.truth more.next (length more.pool.clauses) rest) added
+    ∙ ap (λ (v : ℕ). starts ++ item_starts m.truth m.next (length m.pool.clauses) is ++ item_starts start.truth v (length more.pool.clauses) rest) made.next
+    ∙ ap (λ (k : ℕ). starts ++ item_starts m.truth m.next (length m.pool.clauses) is ++ item_starts start.truth (m.next + variables_of is) k rest) size
+    ∙ ap (λ (t : ℕ). starts ++ item_starts t m.next (length m.pool.clauses) is ++ item_starts start.truth (m.next + variables_of is) (length m.pool.clauses + length (item_clauses t m.next is)) rest) truth
+    ∙ append_assoc starts (item_starts start.truth m.next (length m.pool.clauses) is) _
+    ∙ ap (λ (ss : List Start). starts ++ ss) (sym (item_starts-append start.truth m.next (length m.pool.clauses) is rest))
+    ∙ left
 
 -- the choices from place i on
 abbrev pub choices_left : Contents → ℕ → List Position → ℕ → List Choice
@@ -62,18 +96,22 @@ choices_passed b day ps i p within read e =
     ∙ ap (choices_left b day ps) (let s : suc i ≡ i + 1 = omega arith in s)
 
 -- how far the usages have come
-pub record UsagesLeft (b : Contents) (start m : Encoder) (us : List Usage) (all rest : List Choice) : Type 0 where
+pub record UsagesLeft (b : Contents) (start m : Encoder) (starts0 starts : List Start) (us : List Usage) (all rest : List Choice) : Type 0 where
   pub items : ItemsLeft start m (usage_items b all) (usage_items b rest)
+  pub starts_left : StartsLeft start m starts0 starts (usage_items b all) (usage_items b rest)
   pub usages : us ++ all_usages b start.truth m.next rest ≡ all_usages b start.truth start.next all
 
-pub usages_step : (b : Contents) (start m more : Encoder) (us us' : List Usage) (all rest rest' : List Choice) (c : Choice) → UsagesLeft b start m us all rest → rest ≡ c ∷ rest'
+pub usages_step : (b : Contents) (start m more : Encoder) (starts0 starts starts' : List Start) (us us' : List Usage) (all rest rest' : List Choice) (c : Choice) → UsagesLeft b start m starts0 starts us all rest → rest ≡ c ∷ rest'
     → Encodes m more (item_clauses m.truth m.next (map (usage_item b) c.variants)) (variables_of (map (usage_item b) c.variants))
-    → us' ≡ us ++ usages_from b m.truth m.next c.variants → UsagesLeft b start more us' all rest'
-usages_step b start m more us us' all rest rest' c left is made added =
+    → starts' ≡ starts ++ item_starts m.truth m.next (length m.pool.clauses) (map (usage_item b) c.variants)
+    → us' ≡ us ++ usages_from b m.truth m.next c.variants → UsagesLeft b start more starts0 starts' us' all rest'
+usages_step b start m more starts0 starts starts' us us' all rest rest' c left is made begun added =
     let items : ItemsLeft start m (usage_items b all) (map (usage_item b) c.variants ++ usage_items b rest') =
     subst (λ (cs : List Choice). ItemsLeft start m (usage_items b all) (usage_items b cs)) is left.items in
     record {
       items = items_many start m more (usage_items b all) (map (usage_item b) c.variants) (usage_items b rest') items made;
+      starts_left = starts_many start m more starts0 starts starts' (usage_items b all) (map (usage_item b) c.variants) (usage_items b rest') left.items.truth
+          (subst (λ (cs : List Choice). StartsLeft start m starts0 starts (usage_items b all) (usage_items b cs)) is left.starts_left) made begun;
       usages =
           ap (λ (vs : List Usage). vs ++ all_usages b start.truth more.next rest') added
           ∙ ap (λ (t : ℕ). us ++ usages_from b t m.next c.variants ++ all_usages b start.truth more.next rest') left.items.truth
@@ -84,9 +122,9 @@ usages_step b start m more us us' all rest rest' c left is made added =
     }
 
 -- there is room for the variables of the next choice
-pub usages_room : (b : Contents) (start m : Encoder) (us : List Usage) (all rest rest' : List Choice) (c : Choice) (limit : ℕ) → UsagesLeft b start m us all rest → rest ≡ c ∷ rest'
+pub usages_room : (b : Contents) (start m : Encoder) (starts0 starts : List Start) (us : List Usage) (all rest rest' : List Choice) (c : Choice) (limit : ℕ) → UsagesLeft b start m starts0 starts us all rest → rest ≡ c ∷ rest'
     → start.next + variables_of (usage_items b all) < limit → m.next + variables_of (map (usage_item b) c.variants) < limit
-usages_room b start m us all rest rest' c limit left is room =
+usages_room b start m starts0 starts us all rest rest' c limit left is room =
     let items : ItemsLeft start m (usage_items b all) (map (usage_item b) c.variants ++ usage_items b rest') =
     subst (λ (cs : List Choice). ItemsLeft start m (usage_items b all) (usage_items b cs)) is left.items in
     omega (arith, items.next, variables_of-append (map (usage_item b) c.variants) (usage_items b rest'))
@@ -129,6 +167,7 @@ pub record PairsLeft (start m : Encoder) (asked0 asked : List Asked) (position :
   pub clauses : m.pool.clauses ++ pair_clauses m.next rest ≡ start.pool.clauses ++ pair_clauses start.next all
   pub next : m.next + length rest ≡ start.next + length all
   pub truth : m.truth ≡ start.truth
+  pub first : m.gates.first ≡ start.gates.first
   pub asked_then : asked ++ pairs_asked position m.next rest ≡ asked0 ++ pairs_asked position start.next all
 
 pub pairs_step : (start m more : Encoder) (asked0 asked asked' : List Asked) (position : ℕ) (all rest ps qs : List (Usage × Usage)) → PairsLeft start m asked0 asked position all rest → rest ≡ ps ++ qs
@@ -142,6 +181,7 @@ pairs_step start m more asked0 asked asked' position all rest ps qs left is made
       ∙ left.clauses;
   next = omega (arith, made.next, left.next, ap length is, length-append ps qs);
   truth = made.truth ∙ left.truth;
+  first = made.first ∙ left.first;
   asked_then =
       ap (λ (qs' : List Asked). qs' ++ pairs_asked position more.next qs) added
       ∙ ap (λ (v : ℕ). asked ++ pairs_asked position m.next ps ++ pairs_asked position v qs) made.next
@@ -172,6 +212,7 @@ pub record ChoicesLeft (b : Contents) (n : ℕ) (start m : Encoder) (asked0 aske
   pub next : m.next + goals_variables (numbered_from b n at m.next rest) ≡ start.next + goals_variables (numbered_from b n first start.next all)
   pub asked_then : asked ++ goals_asked n (numbered_from b n at m.next rest) ≡ asked0 ++ goals_asked n (numbered_from b n first start.next all)
   pub truth : m.truth ≡ n
+  pub first_gate : m.gates.first ≡ start.gates.first
 
 -- the usages of the first choice, and those of the later ones
 pub record OwnUsages (b : Contents) (n at : ℕ) (us : List Usage) (c : Choice) (rest : List Choice) (count : ℕ) : Type 0 where
@@ -236,4 +277,5 @@ choices_step b n start m more asked0 asked asked' us own later first all rest re
           ∙ ap (λ (cs : List Choice). asked ++ goals_asked n (numbered_from b n left.at m.next cs)) (sym is)
           ∙ left.asked_then;
       truth = made.truth ∙ left.truth;
+      first_gate = made.first ∙ left.first_gate;
     }

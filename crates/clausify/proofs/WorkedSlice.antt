@@ -3,7 +3,8 @@
 use Rattle.std.proofs.Common.{◌≡◌, List, [], ◌∷◌, length, refl}
 use Rattle.book_model.specs.WorkedBook.{book_t}
 use Rattle.clausify.specs.Questions.{questions}
-use Rattle.clausify.specs.Coded.{slice_clauses, slice_variables, slice_asked}
+use Rattle.clausify.specs.Coded.{goals_start, core_clauses, slice_clauses, slice_variables, slice_asked}
+use Rattle.clausify.specs.Layout.{start_at, slice_starts}
 use Rattle.clausify.specs.declared.question.Asked.{Asked}
 use Rattle.clausify.specs.declared.question.Question.TheVariants.{Void, Necessary, Inadmissible, Superfluous, Ambiguous, Uncovered}
 
@@ -37,3 +38,11 @@ its_questions = refl
 
 there_are_fifteen : length (questions book_t 1) ≡ 15
 there_are_fifteen = refl
+
+-- where the clauses of its supplementing rule, its four constructibility rules and its two variants begin, and those of the goals
+its_starts : slice_starts book_t 1 ≡
+    start_at 6 1 ∷ start_at 7 5 ∷ start_at 8 9 ∷ start_at 8 10 ∷ start_at 9 14 ∷ start_at 9 15 ∷ start_at 9 15 ∷ []
+its_starts = refl
+
+its_goals : start_at (goals_start book_t 1) (length (core_clauses book_t 1)) ≡ start_at 9 15
+its_goals = refl

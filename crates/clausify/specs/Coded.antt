@@ -1,11 +1,9 @@
 -- The clauses of a slice, the number of their variables, and the literals of its goals. Variable i below n is code i, and
 -- variable n is always true. All records are taken as they are active on one day.
-use Rattle.std.specs.Prelude.{◌≡◌, ℕ, ◌+◌, true, List, [], ◌∷◌, ◌++◌, length}
+use Rattle.std.specs.Prelude.{◌≡◌, ℕ, ◌+◌, List, ◌∷◌, ◌++◌, length}
 use Rattle.book_model.specs.Contents.{Contents}
-use Rattle.clause_pool.specs.Literal.{literal}
-use Rattle.clause_pool.specs.Clause.{clause_of}
 use Rattle.clausify.specs.Choices.{choices}
-use Rattle.clausify.specs.Items.{rule_items, items, item_clauses, variables_of}
+use Rattle.clausify.specs.Items.{construct_items, rule_items, items, encoded_items, variables_of}
 use Rattle.clausify.specs.Goals.{NumberedChoice, numbered_from, goals_clauses, goals_variables, goals_asked, codes_asked_from, void_asked}
 use Rattle.clausify.specs.declared.question.Asked.{Asked}
 use Rattle.clausify.specs.declared.question.Coded.{Coded}
@@ -25,10 +23,18 @@ numbered_at b day w = numbered_from b (length b.codes) (usages_start b day) w (c
 abbrev pub numbered_choices : Contents → ℕ → List NumberedChoice
 numbered_choices b day = numbered_at b day (goals_start b day)
 
+-- the clauses of the rules and usages, and of the constructibility rules alone
+abbrev pub core_clauses : Contents → ℕ → List (List ℕ)
+core_clauses b day = encoded_items (length b.codes) (length b.codes + 1) (items b day)
+
+abbrev pub construct_clauses : Contents → ℕ → List (List ℕ)
+construct_clauses b day = encoded_items (length b.codes) (length b.codes + 1) (construct_items b day)
+
+abbrev pub construct_variables : Contents → ℕ → ℕ
+construct_variables b day = length b.codes + 1 + variables_of (construct_items b day)
+
 abbrev pub slice_clauses : Contents → ℕ → List (List ℕ)
-slice_clauses b day =
-    clause_of (literal (length b.codes) true ∷ [])
-    ∷ (item_clauses (length b.codes) (length b.codes + 1) (items b day) ++ goals_clauses (numbered_choices b day))
+slice_clauses b day = core_clauses b day ++ goals_clauses (numbered_choices b day)
 
 abbrev pub slice_variables : Contents → ℕ → ℕ
 slice_variables b day = goals_start b day + goals_variables (numbered_choices b day)

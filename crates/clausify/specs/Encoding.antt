@@ -2,6 +2,7 @@
 --     Encodes old new more taken     so many clauses more at the end, and so many variables taken
 --     EncodesAlone old new more      clauses more, and no variable taken
 --     EncodesItems old new is        the clauses and the variables of these items
+--     AddsStarts old ss ts is        where these items begin
 --     with_node n node m             the node joins the literals of the parts before it
 use Rattle.std.specs.Prelude.{◌≡◌, ℕ, ◌+◌, true, false, List, [], ◌∷◌, ◌++◌, length}
 use Rattle.pb_base.specs.declared.node.Node.{Node}
@@ -10,6 +11,8 @@ use Rattle.clause_pool.specs.Literal.{literal, complement}
 use Rattle.clausify.specs.Formulas.{connectives, both_clauses, either_clauses}
 use Rattle.clausify.specs.Items.{Item, own_clauses, item_clauses, variables_of}
 use Rattle.clausify.specs.Goals.{pair_clauses}
+use Rattle.clausify.specs.Layout.{item_starts}
+use Rattle.clausify.specs.declared.layout.Start.{Start}
 use Rattle.clausify.specs.declared.usage.Usage.{Usage}
 use Rattle.clausify.specs.declared.encoder.Encoder.{Encoder}
 
@@ -17,6 +20,7 @@ pub record Encodes (old new : Encoder) (more : List (List ℕ)) (taken : ℕ) : 
   pub clauses : new.pool.clauses ≡ old.pool.clauses ++ more
   pub next : new.next ≡ old.next + taken
   pub truth : new.truth ≡ old.truth
+  pub first : new.gates.first ≡ old.gates.first
 
 abbrev pub EncodesAlone : Encoder → Encoder → List (List ℕ) → Type 0
 EncodesAlone old new more = Encodes old new more 0
@@ -30,6 +34,10 @@ EncodesItem old new i = Encodes old new (own_clauses old.truth old.next i) (conn
 
 abbrev pub EncodesPairs : Encoder → Encoder → List (Usage × Usage) → Type 0
 EncodesPairs old new ps = Encodes old new (pair_clauses old.next ps) (length ps)
+
+-- where the items begin, behind the other starts
+abbrev pub AddsStarts : Encoder → List Start → List Start → List Item → Type 0
+AddsStarts old starts more is = more ≡ starts ++ item_starts old.truth old.next (length old.pool.clauses) is
 
 -- the clauses, the variable that is taken next, and the literals of the parts of a formula that are still to be joined, the last first
 pub record Making : Type 0 where

@@ -2,6 +2,7 @@
 -- always true, and each `+` and `/` takes the next variable once both its sides have theirs.
 --     connectives f          how many variables the formula takes
 --     formula_literal n v f       its literal, where v is the first variable that it takes
+--     literals_from n v fs   the literals of several, one after another
 --     formula_clauses n v f     the clauses that tie the variables to what they stand for
 use Rattle.std.specs.Prelude.{ℕ, ◌+◌, true, false, List, [], ◌∷◌, ◌++◌}
 use Rattle.pb_base.specs.Rule.{Rule, code, negation, both, either, always, never}
@@ -23,6 +24,10 @@ formula_literal n v (both f g) = literal (v + connectives f + connectives g) tru
 formula_literal n v (either f g) = literal (v + connectives f + connectives g) true
 formula_literal n v always = literal n true
 formula_literal n v never = literal n false
+
+abbrev pub literals_from : ℕ → ℕ → List Rule → List ℕ
+literals_from n v [] = []
+literals_from n v (f ∷ fs) = formula_literal n v f ∷ literals_from n (v + connectives f) fs
 
 -- the variable v stands for both literals
 abbrev pub both_clauses : ℕ → ℕ → ℕ → List (List ℕ)

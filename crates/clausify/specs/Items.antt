@@ -3,6 +3,7 @@
 --     items b day                the formulas of the records that are active on the day
 --     apart_clauses codes        no two of the codes are present
 --     item_clauses n v is        their clauses, where v is the first variable that they take
+--     encoded_items n v is       the same behind the clause that variable n is true
 --     variables_of is            how many variables they take
 use Rattle.std.specs.Prelude.{ℕ, ◌+◌, true, false, List, [], ◌∷◌, ◌++◌, Option, None, Some, filter, map}
 use Rattle.std.specs.List.{flat_map}
@@ -64,12 +65,23 @@ abbrev pub item_clauses : ℕ → ℕ → List Item → List (List ℕ)
 item_clauses n v [] = []
 item_clauses n v (i ∷ is) = own_clauses n v i ++ item_clauses n (v + connectives i.rule) is
 
+abbrev pub encoded_items : ℕ → ℕ → List Item → List (List ℕ)
+encoded_items n v is = clause_of (literal n true ∷ []) ∷ item_clauses n v is
+
+-- a formula of which nothing is claimed
+abbrev pub free_item : Rule → Item
+free_item f = record { rule = f; claim = free }
+
+-- where the formula is true, the code is present
+abbrev pub added_item : ℕ → Rule → Item
+added_item code f = record { rule = f; claim = adds code }
+
 abbrev pub claim_on : Option ℕ → Claim
 claim_on None = needed
 claim_on (Some code) = needed_by code
 
 abbrev pub supplement_item : Supplement → Item
-supplement_item s = record { rule = s.rule; claim = adds s.code }
+supplement_item s = added_item s.code s.rule
 
 abbrev pub rule_item : Option ℕ → Rule → Item
 rule_item on rule = record { rule = rule; claim = claim_on on }
@@ -83,7 +95,7 @@ abbrev pub construct_item : Construct → Item
 construct_item c = demand_item c.demand
 
 abbrev pub usage_item : Contents → ℕ → Item
-usage_item b variant = record { rule = usage b variant; claim = free }
+usage_item b variant = free_item (usage b variant)
 
 -- the supplementing rules that are active on the day, and the constructibility rules
 abbrev pub supplement_items : Contents → ℕ → List Item

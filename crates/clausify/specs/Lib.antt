@@ -1,10 +1,13 @@
 pub mod Formulas
+pub mod Joints
 pub mod Pairs
 pub mod Items
 pub mod Choices
 pub mod Questions
 pub mod Goals
 pub mod Coded
+pub mod Layout
+pub mod Moves
 pub mod Lifting
 pub mod Encoding
 pub mod Limit

@@ -4,6 +4,8 @@
 --     GoalsTrue ..           the literal of each question is the truth of its goal
 --     IsLifted ..            the one assignment that begins with the set and satisfies the clauses
 --     CodesSlice ..          all of it
+--     CodesJust ..           of other clauses, of which just the sets that pass a test begin a satisfying assignment
+--     UsagesTrue ..          the literal of each usage is the truth of its formula
 --     DecidesEach b s c      each question has a set just where some satisfying assignment meets its goal's literal
 use Rattle.std.specs.Prelude.{◌≡◌, ◌↔◌, ℕ, ◌<◌, Bool, true, List, Some, length, slice_get, IsTrue}
 use Rattle.std.specs.List.{AllByRecursion}
@@ -15,15 +17,30 @@ use Rattle.book_model.specs.Good.{is_good}
 use Rattle.book_model.specs.declared.record.Slice.{Slice}
 use Rattle.clause_pool.specs.Literal.{is_true}
 use Rattle.clause_pool.specs.Clause.{Sat}
+use Rattle.clausify.specs.Choices.{usage}
 use Rattle.clausify.specs.Questions.{goal, HasSet}
 use Rattle.clausify.specs.declared.question.Asked.{Asked}
 use Rattle.clausify.specs.declared.question.Coded.{Coded}
+use Rattle.clausify.specs.declared.usage.Usage.{Usage}
 
 abbrev pub BeginsWith : List Bool → (ℕ → Bool) → Type 0
 BeginsWith x a = (i : ℕ) → i < length x → a i ≡ has x i
 
 abbrev pub GoalsTrue : Contents → ℕ → List Bool → (ℕ → Bool) → List Asked → Type 0
 GoalsTrue b day x a asked = AllByRecursion (λ q. is_true a q.goal ≡ holds (goal b day q.question) x) asked
+
+abbrev pub UsagesTrue : Contents → List Bool → (ℕ → Bool) → List Usage → Type 0
+UsagesTrue b x a us = AllByRecursion (λ u. is_true a u.literal ≡ holds (usage b u.variant) x) us
+
+-- the one assignment, up to so many variables, that begins with the set and satisfies the clauses
+pub record IsExtended (clauses : List (List ℕ)) (variables : ℕ) (x : List Bool) (a : ℕ → Bool) : Type 0 where
+  pub begins : BeginsWith x a
+  pub satisfies : Sat clauses a
+  pub alone : (c : ℕ → Bool) → BeginsWith x c → Sat clauses c → (v : ℕ) → v < variables → c v ≡ a v
+
+pub record CodesJust (n : ℕ) (test : List Bool → Bool) (clauses : List (List ℕ)) (variables : ℕ) : Type 0 where
+  pub lifts : (x : List Bool) → length x ≡ n → test x ≡ true → (a : ℕ → Bool) × IsExtended clauses variables x a
+  pub begins_so : (a : ℕ → Bool) (x : List Bool) → length x ≡ n → BeginsWith x a → Sat clauses a → test x ≡ true
 
 pub record IsLifted (b : Contents) (day : ℕ) (clauses : List (List ℕ)) (variables : ℕ) (asked : List Asked) (x : List Bool) (a : ℕ → Bool) : Type 0 where
   pub begins : BeginsWith x a

@@ -11,7 +11,7 @@ use pb_base::limits::MOST_GROUP_CODES;
 
 impl Encoder {
     /// One of these codes is present.
-    pub(crate) fn any_of(&mut self, codes: &[u32]) -> Result<(), Memory>
+    pub fn any_of(&mut self, codes: &[u32]) -> Result<(), Memory>
         requires { length codes.now ≤ MOST_GROUP_CODES }
         ensures { OnOk result (EncodesAlone self.old self.new (any_clause codes.now ∷ [])) }
     {
@@ -19,12 +19,11 @@ impl Encoder {
         for (place, code) in codes.iter().enumerate() {
             lits[place] = Lit::new(*code, true);
         }
-        self.pool.add(&lits[..codes.len()])?;
-        Ok(())
+        self.clause(&lits[..codes.len()])
     }
 
     /// No two of these codes are present.
-    pub(crate) fn apart(&mut self, codes: &[u32]) -> Result<(), Memory>
+    pub fn apart(&mut self, codes: &[u32]) -> Result<(), Memory>
         ensures { OnOk result (EncodesAlone self.old self.new (apart_clauses codes.now)) }
     {
         for (place, first) in codes.iter().enumerate() {
@@ -40,7 +39,7 @@ impl Encoder {
     {
         let absent = Lit::new(first, false);
         for second in later {
-            self.pool.add(&[absent, Lit::new(*second, false)])?;
+            self.clause(&[absent, Lit::new(*second, false)])?;
         }
         Ok(())
     }

@@ -5,4 +5,6 @@ pub mod Faultless
 mod DigitRoom
 pub mod Nodes
 pub mod Shapes
+pub mod LeafLaws
+pub mod PartLaws
 mod TableLemmas

@@ -4,8 +4,10 @@ pub mod Sets
 pub mod Answers
 pub mod Results
 pub mod Node
+pub mod Leaves
 pub mod Shape
 pub mod Padding
 pub mod Table
 pub mod NamedSet
 pub mod Digits
+pub mod InParts

@@ -1,7 +1,7 @@
 pub mod FirstFiring
 pub mod Laws
 mod Steps
-mod OccurrenceLemmas
+pub mod OccurrenceLemmas
 mod WorklistLemmas
 mod Cases
 mod WorkedRows

@@ -9,6 +9,7 @@ invariant-loop-second l = record {
       ≡ l.initial.encoder.pool.clauses ++ pair_clauses l.initial.encoder.next (map (λ (u : Usage). (l.first, u)) l.later);
   next : l.encoder.next ≡ l.initial.encoder.next + l.second-index;
   truth : l.encoder.truth ≡ l.initial.encoder.truth;
+  first : l.encoder.gates.first ≡ l.initial.encoder.gates.first;
   asked : l.asked.items ++ pairs_asked l.position l.encoder.next (map (λ (u : Usage). (l.first, u)) (drop l.second-index l.later))
       ≡ l.initial.asked.items ++ pairs_asked l.position l.initial.encoder.next (map (λ (u : Usage). (l.first, u)) l.later);
 }

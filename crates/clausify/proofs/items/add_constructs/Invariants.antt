@@ -3,10 +3,13 @@ use Rattle.std.specs.List.{filter}
 use Rattle.book_model.specs.Activity.{is_within}
 use Rattle.book_model.specs.declared.record.Construct.{Construct}
 use Rattle.clausify.specs.Items.{construct_item, construct_items}
-use Rattle.clausify.proofs.Remaining.{ItemsLeft}
+use Rattle.clausify.proofs.Remaining.{ItemsLeft, StartsLeft}
 use Rattle.clausify.proofs.items.add_constructs.Given as goal
 
 abbrev pub invariant-loop-construct : goal.invariant-loop-construct
-invariant-loop-construct l =
-    ItemsLeft l.initial.encoder l.encoder (construct_items l.book l.day)
-    (map construct_item (filter (λ (r : Construct). is_within r.from r.until l.day) (drop l.construct-index l.construct-items)))
+invariant-loop-construct l = record {
+  made : ItemsLeft l.initial.encoder l.encoder (construct_items l.book l.day)
+      (map construct_item (filter (λ (r : Construct). is_within r.from r.until l.day) (drop l.construct-index l.construct-items)));
+  starts : StartsLeft l.initial.encoder l.encoder l.initial.starts.items l.starts.items (construct_items l.book l.day)
+      (map construct_item (filter (λ (r : Construct). is_within r.from r.until l.day) (drop l.construct-index l.construct-items)));
+}

@@ -3,10 +3,13 @@ use Rattle.std.specs.List.{filter}
 use Rattle.book_model.specs.Activity.{is_within}
 use Rattle.book_model.specs.declared.record.Supplement.{Supplement}
 use Rattle.clausify.specs.Items.{supplement_item, supplement_items}
-use Rattle.clausify.proofs.Remaining.{ItemsLeft}
+use Rattle.clausify.proofs.Remaining.{ItemsLeft, StartsLeft}
 use Rattle.clausify.proofs.items.add_supplements.Given as goal
 
 abbrev pub invariant-loop-supplement : goal.invariant-loop-supplement
-invariant-loop-supplement l =
-    ItemsLeft l.initial.encoder l.encoder (supplement_items l.book l.day)
-    (map supplement_item (filter (λ (r : Supplement). is_within r.from r.until l.day) (drop l.supplement-index l.supplement-items)))
+invariant-loop-supplement l = record {
+  made : ItemsLeft l.initial.encoder l.encoder (supplement_items l.book l.day)
+      (map supplement_item (filter (λ (r : Supplement). is_within r.from r.until l.day) (drop l.supplement-index l.supplement-items)));
+  starts : StartsLeft l.initial.encoder l.encoder l.initial.starts.items l.starts.items (supplement_items l.book l.day)
+      (map supplement_item (filter (λ (r : Supplement). is_within r.from r.until l.day) (drop l.supplement-index l.supplement-items)));
+}

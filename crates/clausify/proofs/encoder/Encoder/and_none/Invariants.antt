@@ -8,5 +8,6 @@ invariant-loop-usage l = record {
       ≡ l.initial.self.pool.clauses ++ none_clauses l.initial.self.next l.initial.none l.usages;
   next : l.self.next ≡ l.initial.self.next + l.usage-index;
   truth : l.self.truth ≡ l.initial.self.truth;
+  first : l.self.gates.first ≡ l.initial.self.gates.first;
   literal : none_literal l.self.next l.none (drop l.usage-index l.usages) ≡ none_literal l.initial.self.next l.initial.none l.usages;
 }

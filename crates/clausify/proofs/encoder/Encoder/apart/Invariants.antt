@@ -8,4 +8,5 @@ invariant-loop-place l = record {
   clauses : l.self.pool.clauses ++ apart_clauses (drop l.place l.codes) ≡ l.initial.self.pool.clauses ++ apart_clauses l.codes;
   next : l.self.next ≡ l.initial.self.next;
   truth : l.self.truth ≡ l.initial.self.truth;
+  first : l.self.gates.first ≡ l.initial.self.gates.first;
 }

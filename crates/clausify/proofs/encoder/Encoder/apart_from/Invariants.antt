@@ -9,4 +9,5 @@ invariant-loop-second l = record {
       ≡ l.initial.self.pool.clauses ++ map apart_clause (map (λ second. (l.first, second)) l.later);
   next : l.self.next ≡ l.initial.self.next;
   truth : l.self.truth ≡ l.initial.self.truth;
+  first : l.self.gates.first ≡ l.initial.self.gates.first;
 }

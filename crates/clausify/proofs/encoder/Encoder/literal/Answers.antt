@@ -3,7 +3,7 @@ use Rattle.clausify.proofs.NodeLaws.{nodes_begin, node_room}
 use Rattle.clausify.proofs.encoder.Encoder.literal.Goals as goal
 
 pub loop-node-init : goal.loop-node-init
-loop-node-init c = record { left = nodes_begin _ _ _ _ c.nodes-node-items.ensures; truth = refl }
+loop-node-init c = record { left = nodes_begin _ _ _ _ c.nodes-node-items.ensures; truth = refl; first = refl }
 
 pub add_node-requires-clause-room : goal.add_node-requires-clause-room
 add_node-requires-clause-room c =
