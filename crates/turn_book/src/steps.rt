@@ -7,7 +7,7 @@ ghost use Rattle.turn_book.specs.declared.view.Stage.TheVariants.{Idle, Waits, T
 use crate::machine::Machine;
 use crate::plays::{Count, Look, Noted, Opens, PassOn, Portion, Share};
 use crate::slot::{empty, full};
-use crate::view::{LENGTH, MACHINE, Opening, SERVING, Turns, View};
+use crate::view::{LENGTH, MACHINE, Opening, SERVING, TICKET, Turns, View};
 use atomic_table::{Seat, Shared};
 use std::marker::Brand;
 use std::snapshot::Snapshot;
@@ -23,7 +23,11 @@ type TurnTable<M> = Shared<
 
 type TurnSeat<M> = Seat<Option<M>, View<M, <M as Machine>::Call, <M as Machine>::Reply>>;
 
-// Looks at the ticket that is served, until it is this seat's.
+// How often a seat that waits looks before it sleeps.
+const LOOKS: u32 = 64;
+
+// Looks at the ticket that is served, until it is this seat's. A turn is mostly short, so it first lets other threads run
+// and looks again, and then sleeps until the turn is passed on.
 pub(crate) fn wait_turn<M: Machine, B: Opens<M>, R: Wait>(
     rt: &R,
     table: &TurnTable<M>,
@@ -37,16 +41,38 @@ pub(crate) fn wait_turn<M: Machine, B: Opens<M>, R: Wait>(
     ensures turn { let is_run = IsRun M.fits M.legal M.valid in
         TakesTurn is_run table.now.key.start.value seat.old.me seat.new.me }
 {
+    let mut looks = 0;
     for _ in rt.forever() {
-        if table.load::<Look<M, B>>(seat, SERVING) == ticket {
+        let serving = table.load::<Look<M, B>>(seat, SERVING);
+        if serving == ticket {
             return;
         }
-        thread::yield_now();
+        if looks < LOOKS {
+            looks += 1;
+            thread::yield_now();
+        } else {
+            table.park(rt, SERVING, low_half(serving));
+        }
     }
     unreachable!()
 }
 
-// The machine's step, out of the table and back into it, and the end of the turn.
+// The bits of a word by which threads sleep on it.
+fn low_half(word: u64) -> u32 {
+    (word % 4_294_967_296) as u32
+}
+
+// Wakes those who sleep, where a ticket beyond the one that was served has been drawn. Who draws one later finds the turn
+// passed on when it looks, and so doesn't sleep on the old ticket.
+fn wake_waiting<M: Machine>(table: &TurnTable<M>, served: u64)
+    requires { table.now.table_id.words ≡ 3 }
+{
+    if table.peek(TICKET) > served.saturating_add(1) {
+        table.wake_all(SERVING);
+    }
+}
+
+// The machine's step, out of the table and back into it, and the end of the turn. Those who wait are woken.
 pub(crate) fn take_turn<M: Machine>(
     table: &TurnTable<M>,
     seat: &mut TurnSeat<M>,
@@ -67,7 +93,8 @@ pub(crate) fn take_turn<M: Machine>(
     let said = Snapshot::of(&reply);
     empty(table.exchange(seat, MACHINE, Some(machine)));
     count::<M, Brand>(table, seat, &asked, &said);
-    table.fetch_add::<PassOn>(seat, SERVING, 1);
+    let served = table.fetch_add::<PassOn>(seat, SERVING, 1);
+    wake_waiting::<M>(table, served);
     reply
 }
 

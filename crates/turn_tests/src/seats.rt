@@ -36,6 +36,7 @@ impl Machine for Hall {
         (λ first. (first ≡ hall.taken) × (after.taken ≡ hall.taken + wanted) × (after.taken ≤ 1000)) };
 
     fn step(&mut self, wanted: u32) -> Option<u32> {
+        linger();
         if SEATS - self.taken < wanted {
             return None;
         }
@@ -50,6 +51,13 @@ impl Machine for Hall {
         [ None ↦ λ h. Prim.omega (arith, h.1, v) | Some n ↦ λ h. h.2 ] l };
 
     ghost stays_fitting = { λ x c r y d v f l g. g };
+}
+
+// Takes so long that those who wait for their turn sleep.
+fn linger() {
+    for _ in 0..200 {
+        thread::yield_now();
+    }
 }
 
 // Who takes seats in a thread of its own. Its pass is away only within a call.

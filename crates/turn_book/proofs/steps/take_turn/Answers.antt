@@ -21,8 +21,8 @@ count-requires-clause-step g c =
     holds_step g.M.Machine.fits g.M.Machine.legal start _ _ _ _ c.step-reply.new.self c.args.seat.now.me _ swap.1 c.of-asked.ensures c.of-said.ensures swap.2 c.requires.call
     (subst (λ x. g.M.Machine.legal x c.args.call c.step-reply.result c.step-reply.new.self) swap.0 c.step-reply.ensures)
 
-pub fetch_add-requires : goal.fetch_add-requires
-fetch_add-requires g c =
+pub fetch_add-served-requires : goal.fetch_add-served-requires
+fetch_add-served-requires g c =
     let start = c.args.table.now.key.start.value in
     let before = end_of start c.args.seat.now.me.0.seen in
     let swap = swapped c.args.seat.now.me c.exchange.new.seat.me c.exchange-2.new.seat.me before c.full-machine.result c.step-reply.new.self c.exchange.result c.requires.machine c.exchange.ensures.2 c.exchange.ensures.3 c.full-machine.ensures c.exchange-2.ensures.3 in
@@ -39,4 +39,4 @@ returns-clause-call g c =
     let swap = swapped c.args.seat.now.me c.exchange.new.seat.me c.exchange-2.new.seat.me before c.full-machine.result c.step-reply.new.self c.exchange.result c.requires.machine c.exchange.ensures.2 c.exchange.ensures.3 c.full-machine.ensures c.exchange-2.ensures.3 in
     makes_call (g.M.Machine.legal before) _ _ _ _ c.step-reply.new.self c.args.seat.now.me c.exchange-2.new.seat.me _ _ c.of-asked.ensures c.of-said.ensures
     (subst (λ x. g.M.Machine.legal x c.args.call c.step-reply.result c.step-reply.new.self) swap.0 c.step-reply.ensures)
-    swap.1 swap.2 (c.count.ensures.counted _ swap.2) c.fetch_add.ensures.2
+    swap.1 swap.2 (c.count.ensures.counted _ swap.2) c.fetch_add-served.ensures.2

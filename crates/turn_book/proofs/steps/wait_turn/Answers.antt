@@ -2,8 +2,8 @@ use Rattle.std.proofs.Common.{◌∙◌, sym, ap, arith}
 use Rattle.turn_book.proofs.Tickets.{looks_as, took}
 use Rattle.turn_book.proofs.steps.wait_turn.Goals as goal
 
-pub load-requires : goal.load-requires
-load-requires g c =
+pub load-serving-requires : goal.load-serving-requires
+load-serving-requires g c =
     let i = c.loop.invariant in (
       i.0 ∙ c.requires.table.0,
       omega (arith, c.requires.table.1),
@@ -13,12 +13,12 @@ load-requires g c =
 pub loop-preserved : goal.loop-preserved
 loop-preserved g c =
     let i = c.loop.invariant in
-    let l = c.load.ensures in
+    let l = c.load-serving.ensures in
     let mine = ap (λ m. m.0.ticket) i.2 ∙ c.requires.ticket.1 in
-    (l.0 ∙ i.0, l.1 ∙ i.1, l.2.1 (λ e. c.if-load-ticket.false (e ∙ mine)) ∙ i.2)
+    (l.0 ∙ i.0, l.1 ∙ i.1, l.2.1 (λ e. c.if-serving-ticket.false (e ∙ mine)) ∙ i.2)
 
-pub returns-then-load-ticket-clause-turn : goal.returns-then-load-ticket-clause-turn
-returns-then-load-ticket-clause-turn g c =
+pub returns-then-serving-ticket-clause-turn : goal.returns-then-serving-ticket-clause-turn
+returns-then-serving-ticket-clause-turn g c =
     let i = c.loop.invariant in
     let mine = ap (λ m. m.0.ticket) i.2 ∙ c.requires.ticket.1 in
-    took _ _ _ c.requires.start _ _ _ i.2 (c.load.ensures.2.0 (c.if-load-ticket.true ∙ sym mine))
+    took _ _ _ c.requires.start _ _ _ i.2 (c.load-serving.ensures.2.0 (c.if-serving-ticket.true ∙ sym mine))
