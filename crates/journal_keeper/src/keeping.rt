@@ -1,5 +1,5 @@
 //! A keeper over a journal.
-ghost use Rattle.std.specs.Prelude.{◌≡◌, List, ℕ, IfOk, IfSome, OnOk, OnErr};
+ghost use Rattle.std.specs.Prelude.{◌≡◌, List, ℕ, IfOk, IfSome, OnOk, OnErr, ⊤};
 ghost use Rattle.std.specs.Option.{option_map};
 ghost use Rattle.keeper.specs.Causes.{HasCause};
 ghost use Rattle.keeper.specs.Rows.{kept_of, with_draft, with_book, with_order, with_withdrawn, begun, migrated, IsInOrder};
@@ -72,6 +72,8 @@ impl<D: Disk> Keeper for JournalKeeper<D> {
     ghost told = { λ k. option_map (seen_by k.stage) (D.content k.disk) };
 
     ghost failures = { λ k. count_of (D.failures k.disk) k.refusals };
+
+    ghost may_begin = { λ _ _. ⊤ };
 
     fn begin(&mut self, _: &str) -> Result<(), OutError>
         ensures done { OnOk result (option_map (seen_by self.new.stage) (D.content self.new.disk)

@@ -1,5 +1,5 @@
 //! What keeps the rows.
-ghost use Rattle.std.specs.Prelude.{◌≡◌, Option, IfOk, IfSome, OnOk, OnErr};
+ghost use Rattle.std.specs.Prelude.{◌≡◌, ℕ, List, Option, IfOk, IfSome, OnOk, OnErr};
 ghost use Rattle.std.specs.Option.{option_map};
 ghost use Rattle.pb_outside.specs.Faults.{Faults};
 ghost use Rattle.keeper.specs.Causes.{HasCause};
@@ -17,9 +17,14 @@ pub trait Keeper {
     /// How often a call has failed so far, and whether no call fails from here on.
     ghost failures: { Self → Faults };
 
+    /// By which names it may begin. A keeper takes any; who runs one of a kind that isn't known has only the names of which
+    /// this was said.
+    ghost may_begin: { Self → List ℕ → Type 0 };
+
     /// Begins to keep rows in the store of this name. An empty store gets form 2, and every other is left as it
     /// is.
     fn begin(&mut self, name: &str) -> Result<(), OutError>
+        requires { may_begin self.old name.now }
         ensures done { OnOk result (told self.new ≡ option_map begun (told self.old)) }
         ensures unchanged { OnErr result (told self.new ≡ told self.old) }
         ensures count { HasCause result (failures self.old) (failures self.new) };

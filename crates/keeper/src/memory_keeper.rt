@@ -1,5 +1,5 @@
 //! A keeper in memory.
-ghost use Rattle.std.specs.Prelude.{◌≡◌, ◌≢◌, Some, IfOk, OnOk, OnErr};
+ghost use Rattle.std.specs.Prelude.{◌≡◌, ◌≢◌, Some, IfOk, OnOk, OnErr, ⊤};
 ghost use Rattle.pb_outside.specs.FaultPlan.{faults_of};
 ghost use Rattle.keeper.specs.Rows.{kept_of, with_draft, with_book, with_order, with_withdrawn, begun, migrated, IsInOrder};
 ghost use Rattle.keeper.specs.Causes.{HasCause};
@@ -63,6 +63,8 @@ impl Keeper for MemoryKeeper {
     ghost told = { λ k. Some k.rows };
 
     ghost failures = { λ k. faults_of k.plan };
+
+    ghost may_begin = { λ _ _. ⊤ };
 
     fn begin(&mut self, _: &str) -> Result<(), OutError>
         ensures done { OnOk result (self.new.rows ≡ begun self.old.rows) }

@@ -1,5 +1,5 @@
 //! A keeper over a file.
-ghost use Rattle.std.specs.Prelude.{◌≡◌, None};
+ghost use Rattle.std.specs.Prelude.{◌≡◌, None, ⊤};
 ghost use Rattle.keeper.specs.Counting.{fallible};
 ghost use Rattle.keeper_sql.specs.Kinds.{by_kind};
 
@@ -100,6 +100,8 @@ impl<S: Opens> Keeper for SqlKeeper<S> {
     ghost told = { λ _. None };
 
     ghost failures = { λ k. fallible k.faults };
+
+    ghost may_begin = { λ _ _. ⊤ };
 
     fn begin(&mut self, name: &str) -> Result<(), OutError> {
         let store = counted(&mut self.faults, by_kind(opened(&self.rt, name)))?;

@@ -25,3 +25,4 @@ pub mod BookDays
 pub mod OwnRows
 pub mod RowsTell
 pub mod StartRead
+pub mod KeptOrders

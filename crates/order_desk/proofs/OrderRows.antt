@@ -132,7 +132,7 @@ find_book books (suc n) = find_from books 1 (suc n) n (omega arith) ∙ sym (ap 
     at : book_at books (suc n) ≡ slice_get books n
     at = ap (λ b. cond b None (slice_get books (suc n - 1))) (ne_eqb (suc n) 0 (λ none. omega arith)) ∙ ap (slice_get books) (omega arith)
 
-all_at : {A : Type 0} (P : A → Type 0) (xs : List A) (place : ℕ) (x : A) → AllByRecursion P xs → slice_get xs place ≡ Some x → P x
+pub all_at : {A : Type 0} (P : A → Type 0) (xs : List A) (place : ℕ) (x : A) → AllByRecursion P xs → slice_get xs place ≡ Some x → P x
 all_at P [] place x all at = cc
 all_at P (y ∷ xs) zero x all at = let same : y ≡ x = cc in subst P same all.0
 all_at P (y ∷ xs) (suc place) x all at = all_at P xs place x all.1 at

@@ -1,12 +1,15 @@
 //! What stands at a key.
-ghost use Rattle.std.specs.Prelude.{◌≡◌, ◌≤◌, length, option_copied};
+ghost use Rattle.std.specs.Prelude.{◌≡◌, ◌≤◌, length, option_copied, slice_get};
+ghost use Rattle.std.specs.Map.Iter.{deref_pair};
+ghost use Rattle.std.specs.Option.{option_map};
 ghost use Rattle.order_desk.specs.Effect.{same_order};
 ghost use Rattle.order_desk.specs.Tables.{book_at, released_as};
 ghost use Rattle.order_desk.specs.declared.limits.TheConstants.{MOST_BOOKS as most_books};
 
-use crate::KeptBook;
+use crate::{KeptBook, OrderKey};
 use desk_words::{OrderWords, equal_orders};
 use pb_base::Id;
+use std::collections::BTreeMap;
 
 /// The book of this number.
 pub(crate) fn book_at(books: &[KeptBook], number: u32) -> Option<&KeptBook>
@@ -29,6 +32,16 @@ pub(crate) fn released_as(books: &[KeptBook], draft: Id, revision: u32) -> Optio
         }
     }
     None
+}
+
+/// The order at this place, from 0, in the order of the keys. It goes along those before it.
+pub(crate) fn entry_at(
+    orders: &BTreeMap<OrderKey, OrderWords>,
+    place: u32,
+) -> Option<(&OrderKey, &OrderWords)>
+    ensures { option_map deref_pair result ≡ slice_get orders.now.entries place }
+{
+    orders.iter().nth(place as usize)
 }
 
 /// Whether two orders say the same.

@@ -40,6 +40,13 @@ impl SharedBook {
         &self.released
     }
 
+    /// The book as it is shared.
+    pub(crate) fn shared(&self) -> &Arc<Released>
+        ensures { result.now.value ≡ self.now }
+    {
+        &self.released
+    }
+
     /// A further holder of the same book. Nothing is copied.
     pub fn share(&self) -> Result<SharedBook, Memory>
         ensures { IfOk result (λ book. book ≡ self.now) }

@@ -58,6 +58,7 @@ impl<P: Keeper> Desk<P> {
     /// Begins the keeper, loads its rows, tests them, and has them migrated where their form is 1. Each certificate is checked
     /// and each order judged again. A row that isn't right leaves the keeper begun and not migrated.
     pub fn start(alloc: Global, keeper: P, name: &str) -> Result<Desk<P>, NotStarted<P>>
+        requires { P.may_begin keeper name.now }
         ensures rows { IfOk result (λ desk. IfSome (P.told keeper)
             (λ rows. rows_of desk.tables ≡ migrated (begun rows))) }
         ensures right { IfOk result (λ desk.
@@ -84,6 +85,7 @@ fn read_from<P: Keeper>(
     keeper: &mut P,
     name: &str,
 ) -> Result<ReadTables, Fail<StartFault>>
+    requires { P.may_begin keeper.old name.now }
     ensures rows { IfOk result (λ read. IfSome (P.told keeper.old)
         (λ rows. rows_of (tables_in read) ≡ migrated (begun rows))) }
     ensures right { IfOk result (λ read.
@@ -118,6 +120,7 @@ fn read_from<P: Keeper>(
 
 // The rows of the keeper, which it has begun.
 fn load_from<P: Keeper>(keeper: &mut P, name: &str) -> Result<Rows, OutError>
+    requires { P.may_begin keeper.old name.now }
     ensures rows { IfOk result (λ rows. IfSome (P.told keeper.old) (λ kept. kept_of rows ≡ begun kept)) }
     ensures told { OnOk result (P.told keeper.new ≡ option_map begun (P.told keeper.old)) }
     ensures left { (P.told keeper.new ≡ P.told keeper.old)

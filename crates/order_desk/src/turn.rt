@@ -21,9 +21,7 @@ impl<P: Keeper> Machine for Desk<P> {
     ghost legal = { λ old event answer new. IsTurn old event answer new };
 
     fn step(&mut self, event: Event) -> Answer {
-        let answer = Desk::step(self, event);
-        let _counts = self.counts();
-        answer
+        Desk::step(self, event)
     }
 
     ghost stays_valid = { λ x c r y valid fits turn. turn.valid };

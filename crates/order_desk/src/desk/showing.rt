@@ -1,0 +1,168 @@
+//! Events that write nothing.
+ghost use Rattle.std.specs.Prelude.{if◌then◌else◌};
+ghost use Rattle.desk_words.specs.declared.reply.Reply.TheVariants as Reply;
+ghost use Rattle.order_desk.specs.declared.answer.Answer.TheVariants as Answer;
+ghost use Rattle.order_desk.specs.Effect.{says, look, read_book, read_cert, read_draft, read_order, read_owner, take_draft, shows_kept, same_order};
+ghost use Rattle.order_desk.specs.Step.{IsOrMemory, Shows};
+
+use crate::lookup::same_order;
+use crate::writing::body_of;
+use crate::{Answer, Desk, Draft, OrderKey, SharedBook};
+use desk_words::{Missing, OrderWords, Reply};
+use keeper::Keeper;
+use pb_base::{Id, Memory};
+use std::alloc::Global;
+
+// The answers that copy something.
+
+fn raw(alloc: Global, text: &[u8]) -> Answer
+    ensures { IsOrMemory (Answer.Say (Reply.Raw text.now)) result }
+{
+    match body_of(alloc, text) {
+        Ok(text) => Answer::Say(Reply::Raw(text)),
+        Err(Memory) => Answer::Say(Reply::Memory),
+    }
+}
+
+fn certificate(alloc: Global, cert: &[u8]) -> Answer
+    ensures { IsOrMemory (Answer.Say (Reply.Cert cert.now)) result }
+{
+    match body_of(alloc, cert) {
+        Ok(cert) => Answer::Say(Reply::Cert(cert)),
+        Err(Memory) => Answer::Say(Reply::Memory),
+    }
+}
+
+fn taken(alloc: Global, draft: &Draft) -> Answer
+    ensures { IsOrMemory (Answer.Draft draft.now.text draft.now.revision) result }
+{
+    match draft.text.copy(alloc) {
+        Ok(text) => Answer::Draft {
+            text,
+            revision: draft.revision,
+        },
+        Err(Memory) => Answer::Say(Reply::Memory),
+    }
+}
+
+fn to_judge_by(book: &SharedBook) -> Answer
+    ensures { IsOrMemory (Answer.Book book.now) result }
+{
+    match book.share() {
+        Ok(book) => Answer::Book(book),
+        Err(Memory) => Answer::Say(Reply::Memory),
+    }
+}
+
+fn kept_under(alloc: Global, kept: &OrderWords, book: &SharedBook) -> Answer
+    ensures { IsOrMemory (Answer.Kept kept.now book.now) result }
+{
+    match kept.copy(alloc) {
+        Ok(order) => match book.share() {
+            Ok(book) => Answer::Kept { order, book },
+            Err(Memory) => Answer::Say(Reply::Memory),
+        },
+        Err(Memory) => Answer::Say(Reply::Memory),
+    }
+}
+
+impl<P: Keeper> Desk<P> {
+    #[tactic(auto, unfolding(crate::specs::Effect::read_draft))]
+    pub(super) fn read_draft(&self, name: Id) -> Answer
+        ensures { Shows (read_draft self.now.tables name) result }
+    {
+        match self.draft_of(name) {
+            Ok(draft) => raw(*self.books.allocator(), draft.text.as_slice()),
+            Err(said) => Answer::Say(said),
+        }
+    }
+
+    #[tactic(auto, unfolding(crate::specs::Effect::read_owner))]
+    pub(super) fn read_owner(&self, name: Id) -> Answer
+        ensures { Shows (read_owner self.now.tables name) result }
+    {
+        match self.draft_of(name) {
+            Ok(draft) => Answer::Say(Reply::OwnerIs {
+                owner: draft.owner,
+                revision: draft.revision,
+            }),
+            Err(said) => Answer::Say(said),
+        }
+    }
+
+    #[tactic(auto, unfolding(crate::specs::Effect::take_draft))]
+    pub(super) fn take_draft(&self, caller: Id, name: Id, revision: Option<u32>) -> Answer
+        ensures { Shows (take_draft self.now.tables caller name revision) result }
+    {
+        match self.to_take(caller, name, revision) {
+            Ok(draft) => taken(*self.books.allocator(), draft),
+            Err(said) => Answer::Say(said),
+        }
+    }
+
+    #[tactic(auto, unfolding(crate::specs::Effect::read_book))]
+    pub(super) fn read_book(&self, number: u32) -> Answer
+        ensures { Shows (read_book self.now.tables number) result }
+    {
+        match self.book_of(number) {
+            Ok(book) => raw(*self.books.allocator(), book.released.released().text()),
+            Err(said) => Answer::Say(said),
+        }
+    }
+
+    #[tactic(auto, unfolding(crate::specs::Effect::read_cert))]
+    pub(super) fn read_cert(&self, number: u32) -> Answer
+        ensures { Shows (read_cert self.now.tables number) result }
+    {
+        match self.book_of(number) {
+            Ok(book) => certificate(*self.books.allocator(), book.released.released().cert()),
+            Err(said) => Answer::Say(said),
+        }
+    }
+
+    // A kept order, with its own book.
+    #[tactic(auto, unfolding(crate::specs::Effect::shows_kept))]
+    pub(super) fn show_kept(&self, kept: &OrderWords) -> Answer
+        ensures { Shows (shows_kept self.now.tables kept.now) result }
+    {
+        match self.book_of(kept.book) {
+            Ok(book) => kept_under(*self.books.allocator(), kept, &book.released),
+            Err(said) => Answer::Say(said),
+        }
+    }
+
+    // What an order gets whose number is taken.
+    pub(super) fn repeat(&self, kept: &OrderWords, order: &OrderWords) -> Answer
+        ensures { Shows (if same_order kept.now order.now then shows_kept self.now.tables kept.now
+            else says (Answer.Say (Reply.NumberUsed kept.now.book))) result }
+    {
+        if same_order(kept, order) {
+            self.show_kept(kept)
+        } else {
+            Answer::Say(Reply::NumberUsed(kept.book))
+        }
+    }
+
+    #[tactic(auto, unfolding(crate::specs::Effect::look))]
+    pub(super) fn look(&self, caller: Id, number: u32, order: OrderWords) -> Answer
+        ensures { Shows (look self.now.tables caller number order) result }
+    {
+        match self.orders.get(&OrderKey { caller, number }) {
+            Some(kept) => self.repeat(kept, &order),
+            None => match self.to_place(&order) {
+                Ok(book) => to_judge_by(&book.released),
+                Err(said) => Answer::Say(said),
+            },
+        }
+    }
+
+    #[tactic(auto, unfolding(crate::specs::Effect::read_order))]
+    pub(super) fn read_order(&self, caller: Id, number: u32) -> Answer
+        ensures { Shows (read_order self.now.tables caller number) result }
+    {
+        match self.orders.get(&OrderKey { caller, number }) {
+            Some(kept) => self.show_kept(kept),
+            None => Answer::Say(Reply::NoSuch(Missing::Order)),
+        }
+    }
+}
