@@ -56,8 +56,6 @@ impl<P: Keeper> Turns for Alone<P> {
             return Answer::Say(Reply::Full(FullOf::Calls));
         }
         self.left -= 1;
-        let answer = self.desk.step(event);
-        let _counts = self.desk.counts();
-        answer
+        self.desk.step(event)
     }
 }

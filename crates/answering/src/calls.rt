@@ -1,8 +1,5 @@
 //! Calls and their answers.
-ghost use Rattle.desk_words.specs.declared.call.Call.{Call};
 ghost use Rattle.answering.specs.LaterHand.{IsLaterHand};
-ghost use Rattle.answering.specs.Hand.{Hand};
-ghost use Rattle.answering.specs.declared.said.Said.{Said};
 ghost use Rattle.answering.specs.Answers.{Answers, IsCall, course_of};
 
 use crate::drafts::{Asked, check_draft, release_draft};
@@ -27,8 +24,10 @@ pub fn answer_call<T: Turns, G: Gate>(
     notes: &mut Report,
 ) -> Reply
     requires { IsCall call.what }
-    ensures { Answers call (T.hand turns.old) (record { reply = result; notes = notes.new })
+    ensures answers { Answers call (T.hand turns.old) (record { reply = result; notes = notes.new })
         (T.hand turns.new) }
+    // However it is answered, legal steps lead from the desk that was seen to the one that is seen then.
+    ensures steps { IsLaterHand (T.hand turns.old) (T.hand turns.new) }
 {
     let said = said_to(alloc, turns, gate, call.caller, call.what);
     let Said { reply, notes: told } = said;
@@ -71,10 +70,3 @@ fn said_to<T: Turns, G: Gate>(
         What::ReadOrder { number } => read_order(alloc, turns, caller, number),
     }
 }
-
-/// However a call is answered, legal steps lead from the desk that was seen to the one that is seen then. It does
-/// nothing.
-pub fn answers_law()
-    ensures { (call : Call) (h : Hand) (said : Said) (new : Hand)
-        → Answers call h said new → IsLaterHand h new }
-{}

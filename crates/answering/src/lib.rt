@@ -12,7 +12,7 @@ mod seat;
 mod turns;
 
 pub use alone::Alone;
-pub use calls::{answer_call, answers_law};
+pub use calls::answer_call;
 pub use headline::headline_laws;
 pub use said::Said;
 pub use seat::Seat;
