@@ -58,7 +58,7 @@ fn run(alloc: Global, disk: MemoryDisk, link: &mut MemoryLink) -> MemoryDisk {
             let _end = session(alloc, link, &mut turns, &NoGate);
             turns.into_desk().finish().into_disk()
         }
-        Err(NotStarted { keeper, .. }) => keeper.into_disk(),
+        Err(NotStarted { why: _, keeper }) => keeper.into_disk(),
     }
 }
 
