@@ -1,2 +1,4 @@
 mod OnePut
 mod Stopped
+mod Placed
+mod Whole

@@ -12,7 +12,7 @@ use Rattle.order_desk.specs.declared.event.Event.{Event}
 use Rattle.order_desk.specs.declared.event.Event.TheVariants as event
 use Rattle.order_desk.specs.declared.kept_book.KeptBook.{KeptBook}
 use Rattle.order_desk.specs.declared.order_key.OrderKey.{OrderKey}
-use Rattle.order_desk.specs.Effect.{Effect, says, keeps, go_on, effect, owned, book_of, withdraw}
+use Rattle.order_desk.specs.Effect.{Effect, says, shows, keeps, go_on, effect, owned, book_of, withdraw}
 use Rattle.order_desk.specs.History.{Stays, IsSameOrder}
 use Rattle.order_desk.specs.Rows.{draft_row, book_row, order_row, rows_of}
 use Rattle.order_desk.specs.Tables.{Tables, key_of, order_at, with_withdrawn, with_order}
@@ -22,9 +22,13 @@ use Rattle.order_desk.proofs.Growth.{book_there, grows-with_order}
 use Rattle.order_desk.proofs.Keys.{by_key_total, by_key_exact}
 use Rattle.order_desk.proofs.Kept.{least_number}
 use Rattle.order_desk.proofs.RowsAfter.{rows-with_draft, rows-with_book, rows-with_withdrawn, rows-with_order}
-use Rattle.journal_desk.specs.Stop.{row_if_ok, put_of}
+use Rattle.journal_desk.specs.Stop.{row_if_ok, row_for, where_kept, put_of}
 
--- these tables have the rows of the old ones with the event's put
+-- these tables have the rows of the old ones with the event's row
+abbrev IsOneRow : Tables → Event → Tables → Type 0
+IsOneRow t e after = (entry : Entry) × (row_for t e ≡ Some entry) × (rows_of after ≡ put.effect entry (rows_of t))
+
+-- or with its put
 abbrev pub IsOnePut : Tables → Event → Tables → Type 0
 IsOnePut t e after = (entry : Entry) × (put_of t e ≡ Some entry) × (rows_of after ≡ put.effect entry (rows_of t))
 
@@ -37,47 +41,68 @@ module _ (P : Tables → Type 0) where
   unless true said due after so = tt
   unless false said due after so = so refl
 
-withdraw_puts : (t : Tables) (caller : List ℕ) (number : ℕ) → Writes (IsOnePut t (event.Withdraw caller number)) (withdraw t caller number)
+pub same_entry : (o : Option Entry) (a b : Entry) → o ≡ Some a → o ≡ Some b → a ≡ b
+same_entry o a b first second = cc
+
+withdraw_puts : (t : Tables) (caller : List ℕ) (number : ℕ) → Writes (IsOneRow t (event.Withdraw caller number)) (withdraw t caller number)
 unfolding withdraw
 withdraw_puts t caller number =
-    on_found (IsOnePut t (event.Withdraw caller number)) (book_of t number)
+    on_found (IsOneRow t (event.Withdraw caller number)) (book_of t number)
     (λ book. go_on (owned t caller book.draft) (λ draft.
     if book.withdrawn then says (answer.Say (reply.Withdrawn number))
     else keeps (answer.Say (reply.Withdrawn number)) (with_withdrawn t number book)))
-    (λ b is. on_found (IsOnePut t (event.Withdraw caller number)) (owned t caller b.draft)
+    (λ b is. on_found (IsOneRow t (event.Withdraw caller number)) (owned t caller b.draft)
     (λ draft. if b.withdrawn then says (answer.Say (reply.Withdrawn number))
     else keeps (answer.Say (reply.Withdrawn number)) (with_withdrawn t number b))
-    (λ d at. unless (IsOnePut t (event.Withdraw caller number)) b.withdrawn (answer.Say (reply.Withdrawn number)) (answer.Say (reply.Withdrawn number)) (with_withdrawn t number b)
+    (λ d at. unless (IsOneRow t (event.Withdraw caller number)) b.withdrawn (answer.Say (reply.Withdrawn number)) (answer.Say (reply.Withdrawn number)) (with_withdrawn t number b)
     (λ in_force.
     let there = book_there t number b is in
     (Withdrawn number, refl, rows-with_withdrawn t number b there (least_number t.books number b there) in_force))))
 
-event_puts : (t : Tables) (e : Event) → Writes (IsOnePut t e) (effect t e)
+event_puts : (t : Tables) (e : Event) → Writes (IsOneRow t e) (effect t e)
 event_puts t (event.PutDraft caller name text) =
-    effect_writes (IsOnePut t (event.PutDraft caller name text)) t (event.PutDraft caller name text)
+    effect_writes (IsOneRow t (event.PutDraft caller name text)) t (event.PutDraft caller name text)
     (λ d is. (Draft (draft_row (name, d)), ap (λ r. row_if_ok name r (λ new. new)) is, rows-with_draft t name d))
 event_puts t (event.GiveDraft caller name to) =
-    effect_writes (IsOnePut t (event.GiveDraft caller name to)) t (event.GiveDraft caller name to)
+    effect_writes (IsOneRow t (event.GiveDraft caller name to)) t (event.GiveDraft caller name to)
     (λ d is. (Draft (draft_row (name, record d { owner = to })), ap (λ r. row_if_ok name r (λ old. record old { owner = to })) is, rows-with_draft t name (record d { owner = to })))
-event_puts t (event.ReadDraft draft) = effect_writes (IsOnePut t (event.ReadDraft draft)) t (event.ReadDraft draft) tt
-event_puts t (event.ReadOwner draft) = effect_writes (IsOnePut t (event.ReadOwner draft)) t (event.ReadOwner draft) tt
-event_puts t (event.TakeDraft caller draft revision) = effect_writes (IsOnePut t (event.TakeDraft caller draft revision)) t (event.TakeDraft caller draft revision) tt
+event_puts t (event.ReadDraft draft) = effect_writes (IsOneRow t (event.ReadDraft draft)) t (event.ReadDraft draft) tt
+event_puts t (event.ReadOwner draft) = effect_writes (IsOneRow t (event.ReadOwner draft)) t (event.ReadOwner draft) tt
+event_puts t (event.TakeDraft caller draft revision) = effect_writes (IsOneRow t (event.TakeDraft caller draft revision)) t (event.TakeDraft caller draft revision) tt
 event_puts t (event.Commit caller name revision released) =
-    effect_writes (IsOnePut t (event.Commit caller name revision released)) t (event.Commit caller name revision released)
+    effect_writes (IsOneRow t (event.Commit caller name revision released)) t (event.Commit caller name revision released)
     (λ d is.
     let book : KeptBook = record { draft = name; revision = revision; released = released; withdrawn = false } in
     (Book (book_row (length t.books + 1) book), refl, rows-with_book t book refl))
-event_puts t (event.ReadBook book) = effect_writes (IsOnePut t (event.ReadBook book)) t (event.ReadBook book) tt
-event_puts t (event.ReadCert book) = effect_writes (IsOnePut t (event.ReadCert book)) t (event.ReadCert book) tt
+event_puts t (event.ReadBook book) = effect_writes (IsOneRow t (event.ReadBook book)) t (event.ReadBook book) tt
+event_puts t (event.ReadCert book) = effect_writes (IsOneRow t (event.ReadCert book)) t (event.ReadCert book) tt
 event_puts t (event.Withdraw caller number) = withdraw_puts t caller number
-event_puts t (event.Look caller number order) = effect_writes (IsOnePut t (event.Look caller number order)) t (event.Look caller number order) tt
+event_puts t (event.Look caller number order) = effect_writes (IsOneRow t (event.Look caller number order)) t (event.Look caller number order) tt
 event_puts t (event.Place caller number order) =
-    effect_writes (IsOnePut t (event.Place caller number order)) t (event.Place caller number order)
+    effect_writes (IsOneRow t (event.Place caller number order)) t (event.Place caller number order)
     (λ b none is. (Order (order_row (key_of caller number, order)), refl, rows-with_order t (key_of caller number) order))
-event_puts t (event.ReadOrder caller number) = effect_writes (IsOnePut t (event.ReadOrder caller number)) t (event.ReadOrder caller number) tt
+event_puts t (event.ReadOrder caller number) = effect_writes (IsOneRow t (event.ReadOrder caller number)) t (event.ReadOrder caller number) tt
 
 pub one_put : (t : Tables) (e : Event) (due : Answer) (after : Tables) → effect t e ≡ keeps due after → IsOnePut t e after
-one_put t e due after is = subst (Writes (IsOnePut t e)) is (event_puts t e)
+one_put t e due after is =
+    let row : IsOneRow t e after = subst (Writes (IsOneRow t e)) is (event_puts t e) in
+    (row.0, ap (λ f. where_kept f (row_for t e)) is ∙ row.1, row.2)
+
+pub none_is_some : (x : Entry) → None ≡ Some x → ⊥
+none_is_some x is = cc
+
+kept_by : (f : Effect) (row : Option Entry) (entry : Entry) → where_kept f row ≡ Some entry → (due : Answer) × (after : Tables) × (f ≡ keeps due after)
+kept_by (says due) row entry puts = absurd (none_is_some entry puts)
+kept_by (shows due) row entry puts = absurd (none_is_some entry puts)
+kept_by (keeps due after) row entry puts = (due, after, refl)
+
+-- an event that has a put keeps something
+pub put_keeps : (t : Tables) (e : Event) (entry : Entry) → put_of t e ≡ Some entry
+    → (due : Answer) × (after : Tables) × (effect t e ≡ keeps due after) × (rows_of after ≡ put.effect entry (rows_of t))
+put_keeps t e entry puts =
+    let kept = kept_by (effect t e) (row_for t e) entry puts in
+    let one = one_put t e kept.0 kept.1 kept.2 in
+    (kept.0, kept.1, kept.2, one.2 ∙ ap (λ x. put.effect x (rows_of t)) (same_entry (put_of t e) one.0 entry one.1 puts))
 
 -- ---- orders
 
@@ -85,7 +110,7 @@ one_put t e due after is = subst (Writes (IsOnePut t e)) is (event_puts t e)
 abbrev HasOrders : Tables → Tables → Type 0
 HasOrders t after = (key : OrderKey) (order : OrderWords) → order_at t.orders key ≡ Some order → order_at after.orders key ≡ Some order
 
-still_there : (o later : Option OrderWords) (order : OrderWords) → Stays IsSameOrder o later → o ≡ Some order → later ≡ Some order
+pub still_there : (o later : Option OrderWords) (order : OrderWords) → Stays IsSameOrder o later → o ≡ Some order → later ≡ Some order
 still_there None later order so is = cc
 still_there (Some a) None order so is = absurd so
 still_there (Some a) (Some b) order so is = ap Some so ∙ is

@@ -16,10 +16,7 @@ use Rattle.order_desk.specs.Tables.{Tables, order_at}
 use Rattle.order_desk.specs.Valid.{IsValid}
 use Rattle.order_desk.proofs.RowsTell.{rows_tell}
 use Rattle.journal_desk.specs.Stop.{put_of, MayFind, IsEither}
-use Rattle.journal_desk.proofs.OnePut.{one_put, orders_stay}
-
-same_entry : (o : Option Entry) (a b : Entry) → o ≡ Some a → o ≡ Some b → a ≡ b
-same_entry o a b first second = cc
+use Rattle.journal_desk.proofs.OnePut.{same_entry, one_put, orders_stay}
 
 pub found_after : (t : Tables) (e : Event) (due : Answer) (after : Tables) (entry : Entry) (gate : ℕ) (in_doubt : Bool) (file image : List ℕ) → effect t e ≡ keeps due after
     → put_of t e ≡ Some entry → seen_by (Stage.Open gate in_doubt) file ≡ rows_of t → StandsOrGrew entry (Stage.Open gate in_doubt) file image

@@ -12,7 +12,7 @@ use Rattle.journal_keeper.specs.Stage.{doubted_by}
 use Rattle.order_desk.specs.declared.draft.Draft as draft
 use Rattle.order_desk.specs.declared.event.Event.{Event}
 use Rattle.order_desk.specs.declared.event.Event.TheVariants as event
-use Rattle.order_desk.specs.Effect.{owned, next_draft}
+use Rattle.order_desk.specs.Effect.{Effect, says, shows, keeps, effect, owned, next_draft}
 use Rattle.order_desk.specs.Rows.{draft_row, book_row, order_row, rows_of}
 use Rattle.order_desk.specs.Tables.{Tables, key_of}
 
@@ -21,14 +21,23 @@ abbrev pub row_if_ok : List ℕ → Result draft.Draft Reply → (draft.Draft �
 row_if_ok name (Ok found) change = Some (Draft (draft_row (name, change found)))
 row_if_ok name (Err said) change = None
 
-abbrev pub put_of : Tables → Event → Option Entry
-put_of t (event.PutDraft caller name text) = row_if_ok name (next_draft t caller name text) (λ new. new)
-put_of t (event.GiveDraft caller name to) = row_if_ok name (owned t caller name) (λ old. record old { owner = to })
-put_of t (event.Commit caller name revision released) =
+-- the row that the event may set
+abbrev pub row_for : Tables → Event → Option Entry
+row_for t (event.PutDraft caller name text) = row_if_ok name (next_draft t caller name text) (λ new. new)
+row_for t (event.GiveDraft caller name to) = row_if_ok name (owned t caller name) (λ old. record old { owner = to })
+row_for t (event.Commit caller name revision released) =
     Some (Book (book_row (length t.books + 1) (record { draft = name; revision = revision; released = released; withdrawn = false })))
-put_of t (event.Withdraw caller number) = Some (Withdrawn number)
-put_of t (event.Place caller number order) = Some (Order (order_row (key_of caller number, order)))
-put_of t _ = None
+row_for t (event.Withdraw caller number) = Some (Withdrawn number)
+row_for t (event.Place caller number order) = Some (Order (order_row (key_of caller number, order)))
+row_for t _ = None
+
+abbrev pub where_kept : Effect → Option Entry → Option Entry
+where_kept (says due) row = None
+where_kept (shows due) row = None
+where_kept (keeps due after) row = row
+
+abbrev pub put_of : Tables → Event → Option Entry
+put_of t event = where_kept (effect t event) (row_for t event)
 
 -- The rows of the tables from before the call, those of the tables after it, or those from before it with the put of an earlier
 -- call whose gate is in doubt: that call was answered with a store fault.

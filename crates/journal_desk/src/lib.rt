@@ -3,4 +3,4 @@
 
 mod law;
 
-pub use law::stop_laws;
+pub use law::{run_laws, stop_laws};

@@ -1,14 +1,14 @@
 -- What is so after a gate in doubt was written again, and in each part of a put.
-use Rattle.std.proofs.Common.{◌≡◌, inl, inr, ℕ, ◌+◌, ◌≤◌, Bool, true, false, List, [], ◌∷◌, ◌++◌, length, drop, sym, ap, subst, ◌∙◌, append_assoc, arith, length-append}
+use Rattle.std.proofs.Common.{◌≡◌, inl, inr, ℕ, ◌+◌, ◌≤◌, Bool, true, false, List, [], ◌∷◌, ◌++◌, length, drop, Some, sym, ap, subst, ◌∙◌, append_assoc, arith, length-append}
 use Rattle.keeper.specs.Rows.{bare}
 use Rattle.journal_keeper.specs.declared.stage.Stage.TheVariants.{Open}
 use Rattle.journal_keeper.specs.Disk.{overwritten, Torn, AfterStep, Follows, Only}
 use Rattle.journal_keeper.specs.Record.{Entry, effect}
 use Rattle.journal_keeper.specs.Journal.{after, IsRecord}
-use Rattle.journal_keeper.specs.Stage.{seen_by, StillStands, StandsOrGrew}
+use Rattle.journal_keeper.specs.Stage.{seen_by, doubted_by, StillStands, StandsOrGrew}
 use Rattle.journal_keeper.specs.Sound.{IsFront, IsClosed, IsInDoubt, IsOpen, IsMade}
 use Rattle.journal_keeper.proofs.Fronts.{front_more, after_more, kept_closed, kept_in_doubt}
-use Rattle.journal_keeper.proofs.Stages.{seen_front, open_seen, open_stands}
+use Rattle.journal_keeper.proofs.Stages.{seen_front, doubted_entry, open_seen, open_stands}
 use Rattle.journal_keeper.proofs.Writes.{long, torn_gate, torn_tail, written_gate, written_tail}
 
 -- the gate stands in the file
@@ -68,6 +68,12 @@ module _ (gate : ℕ) (file : List ℕ) (leaves : List ℕ → Type 0) (o : IsOp
   pub seen_again : (file' : List ℕ) → file' ≡ overwritten gate (0 ∷ []) file → seen_by (Open gate false) file' ≡ seen_by (Open gate true) file
   seen_again file' is =
       same_seen false file' _ (is ∙ written_gate o.front o.ends.here.gate (o.ends.bytes ++ 0 ∷ o.ends.here.rest) file gate o.place o.ends.here.file_is 0)
+
+  -- the record behind the gate stays
+  pub doubt_still : (file' : List ℕ) → Torn gate 1 file file' → doubted_by (Open gate true) file' ≡ doubted_by (Open gate true) file
+  doubt_still file' torn =
+      doubted_entry gate o.front o.ends.bytes o.ends.entry file' o.place o.ends.is_record (doubt_torn o.front o.ends.bytes file file' gate o.place o.ends.here torn)
+      ∙ sym (doubted_entry gate o.front o.ends.bytes o.ends.entry file o.place o.ends.is_record o.ends.here)
 
   -- what a stop leaves in the write
   pub doubted_step : (image : List ℕ) → AfterStep (Torn gate 1) leaves image → StillStands (Open gate true) file image
@@ -178,6 +184,9 @@ module _ (gate : ℕ) (entry : Entry) (bytes old file : List ℕ) (leaves : List
 
   pub seen_doubted : (file' : List ℕ) → Torn gate 1 file file' → seen_by (Open gate true) file' ≡ seen_by (Open gate false) old
   seen_doubted file' torn = seen_front gate true s.front _ s.entries file' s.is_front s.place (staged_torn file' torn).file_is ∙ sym s.was
+
+  pub doubt_own : (file' : List ℕ) → Torn gate 1 file file' → doubted_by (Open gate true) file' ≡ Some entry
+  doubt_own file' torn = doubted_entry gate s.front s.line entry file' s.place s.is_record (staged_torn file' torn)
 
   next_place : gate + length bytes ≡ length (s.front ++ 1 ∷ s.line)
   next_place = omega (arith, s.place, ap length s.made, length-append s.line (0 ∷ []), length-append s.front (1 ∷ s.line))

@@ -11,7 +11,7 @@ mod Walks
 mod Begins
 mod Written
 mod Sets
-mod InOrder
+mod Doubts
 mod Answered
 mod Tapes
 mod Replays

@@ -5,7 +5,14 @@ use Rattle.journal_keeper.specs.Tape.{Tape, content_of, AreWithin}
 use Rattle.journal_keeper.specs.Calls.{dones, total}
 
 abbrev pub tape_of : Inside → Tape
-tape_of d = record { first = d.first.items; calls = dones d.calls.items d.written.items; plan = d.plan }
+tape_of d = record {
+  first = d.first.items;
+  calls = dones d.calls.items d.written.items;
+  plan = d.plan;
+  calls_left = d.calls_left;
+  room_left = d.room_left;
+  stop = d.stop;
+}
 
 -- the file is what the calls have made of it
 pub record IsKept (d : Inside) : Type 0 where

@@ -1,10 +1,12 @@
 -- What a keeper tells of its file, by how far it has come with it.
-use Rattle.std.specs.Prelude.{◌≡◌, ◌⊎◌, ℕ, ◌+◌, Bool, true, false, List, [], ◌∷◌, ◌++◌, length, take, drop, Option, Some, None, nat_lt}
+use Rattle.std.specs.Prelude.{◌≡◌, ◌⊎◌, ℕ, ◌+◌, Bool, true, false, List, [], ◌∷◌, ◌++◌, length, take, drop, Option, Some, None, Result, Ok, Err, nat_lt}
 use Rattle.std.specs.Option.{option_map}
 use Rattle.keeper.specs.Rows.{Kept, bare}
+use Rattle.pb_outside.specs.declared.error.OutError.{OutError}
+use Rattle.pb_outside.specs.declared.error.OutError.TheVariants.{Failed, Memory}
 use Rattle.journal_keeper.specs.declared.stage.Stage.{Stage}
 use Rattle.journal_keeper.specs.declared.stage.Stage.TheVariants.{Shut, Late, Open}
-use Rattle.journal_keeper.specs.Record.{Entry, effect, record_in, record_of}
+use Rattle.journal_keeper.specs.Record.{Entry, effect, ◌>>=◌, record_in, record_of}
 use Rattle.journal_keeper.specs.Journal.{kept_in, journal_in, is_empty_store, header}
 
 -- the rows that a keeper tells of a file: those up to its last gate; where a `begin` failed late, it counts as empty
@@ -19,6 +21,25 @@ doubted_by Shut file = None
 doubted_by Late file = None
 doubted_by (Open gate false) file = None
 doubted_by (Open gate true) file = option_map (λ read. read.0) (record_in (drop (gate + 1) file))
+
+-- the same, where the content is told
+abbrev pub doubted : Stage → Option (List ℕ) → Option Entry
+doubted Shut content = None
+doubted Late content = None
+doubted (Open gate false) content = None
+doubted (Open gate true) content = content >>= doubted_by (Open gate true)
+
+-- After a put no gate is in doubt, or the put failed, and it is the gate that was in doubt before or the put's own.
+abbrev pub DoubtsOnly : {T : Type 0} → Result T OutError → Entry → Option Entry → Option Entry → Type 0
+DoubtsOnly (Ok done) entry before after = after ≡ None
+DoubtsOnly (Err Failed) entry before after = (after ≡ None) ⊎ (after ≡ before) ⊎ (after ≡ Some entry)
+DoubtsOnly (Err Memory) entry before after = after ≡ None
+
+-- a `begin` has found a journal, or made one
+abbrev pub is_open : Stage → Bool
+is_open Shut = false
+is_open Late = false
+is_open (Open gate in_doubt) = true
 
 -- no gate is in doubt
 abbrev pub settled : Stage → Stage

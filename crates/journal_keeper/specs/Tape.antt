@@ -1,7 +1,7 @@
 -- A disk in memory: the file as it was at first, and what each call did.
 --     leaves_of    the images that may be left after some calls
 --     left_since   the images of some moment
-use Rattle.std.specs.Prelude.{◌≡◌, ℕ, ◌≤◌, List, [], ◌∷◌, length, take}
+use Rattle.std.specs.Prelude.{◌≡◌, ℕ, ◌≤◌, List, [], ◌∷◌, length, take, Option}
 use Rattle.std.proofs.Common.{sym, subst, arith}
 use Rattle.std.proofs.lemmas.List.{take_all}
 use Rattle.pb_outside.specs.FaultPlan.{Plan}
@@ -52,11 +52,15 @@ abbrev pub AreWithin : List ℕ → List Done → Type 0
 AreWithin file [] = Unit {0}
 AreWithin file (call ∷ calls) = BeginsWithin file call × AreWithin (content_after file call) calls
 
--- what a contract sees: the file at first, the calls, and which calls are to fail
+-- what a contract sees: the file at first, the calls, and which calls are to fail, by their numbers and by what is left: for so
+-- many calls that write, cut or sync, and for so many bytes of writes, and the call in which the disk stops, if it stops
 pub record Tape : Type 0 where
   pub first : List ℕ
   pub calls : List Done
   pub plan : Plan
+  pub calls_left : ℕ
+  pub room_left : ℕ
+  pub stop : Option ℕ
 
 -- the images that a stop may leave now
 abbrev pub left_now : List ℕ → List Done → List ℕ → Type 0

@@ -1,10 +1,10 @@
 //! Begins a journal.
-ghost use Rattle.std.specs.Prelude.{◌≡◌, ◌≢◌, true, false, List, ℕ, IfOk, OnOk, OnErr};
+ghost use Rattle.std.specs.Prelude.{◌≡◌, ◌≢◌, true, false, List, ℕ, None, IfOk, OnOk, OnErr};
 ghost use Rattle.std.specs.Option.{option_map};
 ghost use Rattle.keeper.specs.Rows.{bare, begun};
 ghost use Rattle.journal_keeper.specs.Disk.{WhereTold, Becomes, Only, LeavesOnly, CountsFaults};
 ghost use Rattle.journal_keeper.specs.Journal.{unopened};
-ghost use Rattle.journal_keeper.specs.Stage.{seen_by, counts_empty, IsBlank, KeepsBlank, IsBegun, IsFound};
+ghost use Rattle.journal_keeper.specs.Stage.{seen_by, doubted, counts_empty, IsBlank, KeepsBlank, IsBegun, IsFound};
 ghost use Rattle.journal_keeper.specs.Sound.{IsSound};
 
 use crate::reading::{counts_as_empty, stage_of};
@@ -45,6 +45,7 @@ fn format<D: Disk>(disk: &mut D, stage: &mut Stage) -> Result<(), OutError>
     ensures unchanged { OnErr result (option_map (seen_by stage.new) (D.content disk.new)
         ≡ option_map (λ _. bare 0) (D.content disk.old)) }
     ensures found { OnOk result (stage.new ≡ Stage.Open 8 false) }
+    ensures doubt { doubted stage.new (D.content disk.new) ≡ None }
     ensures any_moment { WhereTold (D.content disk.old) (λ _.
         LeavesOnly D.moment D.left_since disk.old disk.new IsBlank) }
     ensures no_memory { result ≢ Err OutError.Memory }
@@ -72,6 +73,7 @@ fn begin_with<D: Disk>(disk: &mut D, stage: &mut Stage, file: &[u8]) -> Result<(
     ensures unchanged { OnErr result (option_map (seen_by stage.new) (D.content disk.new)
         ≡ option_map (seen_by stage.old) (D.content disk.old)) }
     ensures found { OnOk result (WhereTold (D.content disk.new) (IsFound stage.new)) }
+    ensures doubt { doubted stage.new (D.content disk.new) ≡ doubted stage.old (D.content disk.old) }
     ensures any_moment { WhereTold (D.content disk.old) (λ file.
         LeavesOnly D.moment D.left_since disk.old disk.new (IsBegun stage.old file (D.may_leave disk.old))) }
     ensures no_memory { result ≢ Err OutError.Memory }
@@ -111,6 +113,7 @@ pub(crate) fn begin<D: Disk>(alloc: Global, disk: &mut D, stage: &mut Stage) -> 
     ensures unchanged { OnErr result (option_map (seen_by stage.new) (D.content disk.new)
         ≡ option_map (seen_by stage.old) (D.content disk.old)) }
     ensures found { OnOk result (WhereTold (D.content disk.new) (IsFound stage.new)) }
+    ensures doubt { doubted stage.new (D.content disk.new) ≡ doubted stage.old (D.content disk.old) }
     ensures any_moment { WhereTold (D.content disk.old) (λ file.
         LeavesOnly D.moment D.left_since disk.old disk.new (IsBegun stage.old file (D.may_leave disk.old))) }
     ensures count { CountsFaults result (D.failures disk.old) (D.failures disk.new) }

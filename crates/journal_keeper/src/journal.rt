@@ -1,9 +1,9 @@
 //! What a keeper does to its file.
-ghost use Rattle.std.specs.Prelude.{◌≡◌, ◌≢◌, ◌+◌, ◌≤◌, List, ℕ, false, length, OnOk, OnErr};
+ghost use Rattle.std.specs.Prelude.{◌≡◌, ◌≢◌, ◌+◌, ◌≤◌, List, ℕ, None, true, false, length, OnOk, OnErr};
 ghost use Rattle.std.specs.Option.{option_map};
 ghost use Rattle.journal_keeper.specs.Disk.{WhereTold, LeavesOnly, CountsFaults};
 ghost use Rattle.journal_keeper.specs.Record.{Entry, effect};
-ghost use Rattle.journal_keeper.specs.Stage.{seen_by, settled, StillStands, StandsOrGrew};
+ghost use Rattle.journal_keeper.specs.Stage.{seen_by, settled, doubted, is_open, DoubtsOnly, StillStands, StandsOrGrew};
 ghost use Rattle.journal_keeper.specs.Sound.{IsSound, IsMade};
 
 use crate::through::write_through;
@@ -18,6 +18,8 @@ pub(crate) fn settle<D: Disk>(disk: &mut D, stage: &mut Stage) -> Result<(), Out
         ≡ option_map (seen_by stage.old) (D.content disk.old) }
     ensures sure { OnOk result (stage.new ≡ settled stage.old) }
     ensures kept { OnErr result (stage.new ≡ stage.old) }
+    ensures doubt { OnErr result (doubted stage.new (D.content disk.new)
+        ≡ doubted stage.old (D.content disk.old)) }
     ensures any_moment { WhereTold (D.content disk.old) (λ file.
         LeavesOnly D.moment D.left_since disk.old disk.new (StillStands stage.old file)) }
     ensures no_memory { result ≢ Err OutError.Memory }
@@ -55,6 +57,9 @@ pub(crate) fn append<D: Disk>(
         ≡ option_map (seen_by stage.old) (D.content disk.old)) }
     ensures any_moment { (entry : Entry) → IsMade bytes.now entry → WhereTold (D.content disk.old) (λ file.
         LeavesOnly D.moment D.left_since disk.old disk.new (StandsOrGrew entry stage.old file)) }
+    ensures doubt { (entry : Entry) → IsMade bytes.now entry → DoubtsOnly result entry None
+        (doubted stage.new (D.content disk.new)) }
+    ensures stays_open { is_open stage.new ≡ true }
     ensures no_memory { result ≢ Err OutError.Memory }
     ensures count { CountsFaults result (D.failures disk.old) (D.failures disk.new) }
 {

@@ -1,11 +1,11 @@
 //! A keeper over a journal.
-ghost use Rattle.std.specs.Prelude.{◌≡◌, List, ℕ, IfOk, IfSome, OnOk, OnErr, ⊤};
+ghost use Rattle.std.specs.Prelude.{◌≡◌, ◌⊎◌, List, ℕ, None, IfOk, IfSome, OnOk, OnErr, ⊤};
 ghost use Rattle.std.specs.Option.{option_map};
 ghost use Rattle.keeper.specs.Causes.{HasCause};
 ghost use Rattle.keeper.specs.Rows.{kept_of, with_draft, with_book, with_order, with_withdrawn, begun, migrated, IsInOrder};
 ghost use Rattle.journal_keeper.specs.Disk.{WhereTold, LeavesOnly};
 ghost use Rattle.journal_keeper.specs.Record.{Draft, Book, Order, Withdrawn};
-ghost use Rattle.journal_keeper.specs.Stage.{seen_by, is_refused, IsBegun, IsFound, StillStands, StandsOrGrew};
+ghost use Rattle.journal_keeper.specs.Stage.{seen_by, doubted, is_open, is_refused, DoubtsOnly, IsBegun, IsFound, StillStands, StandsOrGrew};
 ghost use Rattle.journal_keeper.specs.Counts.{count_of, Refuses};
 
 use crate::beginning::begin;
@@ -89,6 +89,8 @@ impl<D: Disk> Keeper for JournalKeeper<D> {
             self.old.disk self.new.disk (IsBegun self.old.stage file (D.may_leave self.old.disk))) }
         ensures stands { WhereTold (D.content self.new.disk) (λ file. (image : List ℕ)
             → D.may_leave self.new.disk image → StillStands self.new.stage file image) }
+        ensures doubt { doubted self.new.stage (D.content self.new.disk)
+            ≡ doubted self.old.stage (D.content self.old.disk) }
     {
         begin(self.alloc, &mut self.disk, &mut self.stage)
     }
@@ -103,6 +105,12 @@ impl<D: Disk> Keeper for JournalKeeper<D> {
             (count_of (D.failures self.new.disk) self.new.refusals) }
         ensures any_moment { WhereTold (D.content self.old.disk) (λ file. LeavesOnly D.moment D.left_since
             self.old.disk self.new.disk (StillStands self.old.stage file)) }
+        ensures stands { WhereTold (D.content self.new.disk) (λ file. (image : List ℕ)
+            → D.may_leave self.new.disk image → StillStands self.new.stage file image) }
+        ensures doubt { (doubted self.new.stage (D.content self.new.disk) ≡ None)
+            ⊎ (doubted self.new.stage (D.content self.new.disk)
+            ≡ doubted self.old.stage (D.content self.old.disk)) }
+        ensures stays_open { is_open self.new.stage ≡ is_open self.old.stage }
     {
         load(self.alloc, &mut self.disk, &mut self.stage)
     }
@@ -119,6 +127,11 @@ impl<D: Disk> Keeper for JournalKeeper<D> {
             (count_of (D.failures self.new.disk) self.new.refusals) }
         ensures any_moment { WhereTold (D.content self.old.disk) (λ file. LeavesOnly D.moment D.left_since
             self.old.disk self.new.disk (StandsOrGrew (Draft row.now) self.old.stage file)) }
+        ensures stands { WhereTold (D.content self.new.disk) (λ file. (image : List ℕ)
+            → D.may_leave self.new.disk image → StillStands self.new.stage file image) }
+        ensures doubt { DoubtsOnly result (Draft row.now) (doubted self.old.stage (D.content self.old.disk))
+            (doubted self.new.stage (D.content self.new.disk)) }
+        ensures stays_open { is_open self.new.stage ≡ is_open self.old.stage }
         ensures refuses { Refuses result (is_refused self.old.stage (Draft row.now))
             (D.failures self.old.disk)
             (D.failures self.new.disk) self.old.refusals self.new.refusals }
@@ -144,6 +157,11 @@ impl<D: Disk> Keeper for JournalKeeper<D> {
             (count_of (D.failures self.new.disk) self.new.refusals) }
         ensures any_moment { WhereTold (D.content self.old.disk) (λ file. LeavesOnly D.moment D.left_since
             self.old.disk self.new.disk (StandsOrGrew (Book row.now) self.old.stage file)) }
+        ensures stands { WhereTold (D.content self.new.disk) (λ file. (image : List ℕ)
+            → D.may_leave self.new.disk image → StillStands self.new.stage file image) }
+        ensures doubt { DoubtsOnly result (Book row.now) (doubted self.old.stage (D.content self.old.disk))
+            (doubted self.new.stage (D.content self.new.disk)) }
+        ensures stays_open { is_open self.new.stage ≡ is_open self.old.stage }
         ensures refuses { Refuses result (is_refused self.old.stage (Book row.now)) (D.failures self.old.disk)
             (D.failures self.new.disk) self.old.refusals self.new.refusals }
     {
@@ -168,6 +186,11 @@ impl<D: Disk> Keeper for JournalKeeper<D> {
             (count_of (D.failures self.new.disk) self.new.refusals) }
         ensures any_moment { WhereTold (D.content self.old.disk) (λ file. LeavesOnly D.moment D.left_since
             self.old.disk self.new.disk (StandsOrGrew (Order row.now) self.old.stage file)) }
+        ensures stands { WhereTold (D.content self.new.disk) (λ file. (image : List ℕ)
+            → D.may_leave self.new.disk image → StillStands self.new.stage file image) }
+        ensures doubt { DoubtsOnly result (Order row.now) (doubted self.old.stage (D.content self.old.disk))
+            (doubted self.new.stage (D.content self.new.disk)) }
+        ensures stays_open { is_open self.new.stage ≡ is_open self.old.stage }
         ensures refuses { Refuses result (is_refused self.old.stage (Order row.now))
             (D.failures self.old.disk)
             (D.failures self.new.disk) self.old.refusals self.new.refusals }
@@ -193,6 +216,11 @@ impl<D: Disk> Keeper for JournalKeeper<D> {
             (count_of (D.failures self.new.disk) self.new.refusals) }
         ensures any_moment { WhereTold (D.content self.old.disk) (λ file. LeavesOnly D.moment D.left_since
             self.old.disk self.new.disk (StandsOrGrew (Withdrawn number) self.old.stage file)) }
+        ensures stands { WhereTold (D.content self.new.disk) (λ file. (image : List ℕ)
+            → D.may_leave self.new.disk image → StillStands self.new.stage file image) }
+        ensures doubt { DoubtsOnly result (Withdrawn number) (doubted self.old.stage (D.content self.old.disk))
+            (doubted self.new.stage (D.content self.new.disk)) }
+        ensures stays_open { is_open self.new.stage ≡ is_open self.old.stage }
         ensures refuses { Refuses result (is_refused self.old.stage (Withdrawn number))
             (D.failures self.old.disk)
             (D.failures self.new.disk) self.old.refusals self.new.refusals }

@@ -1,10 +1,10 @@
 //! Loads all rows.
-ghost use Rattle.std.specs.Prelude.{◌≡◌, List, ℕ, IfOk, IfSome};
+ghost use Rattle.std.specs.Prelude.{◌≡◌, ◌⊎◌, List, ℕ, None, IfOk, IfSome};
 ghost use Rattle.std.specs.Option.{option_map};
 ghost use Rattle.keeper.specs.Rows.{kept_of, bare};
 ghost use Rattle.journal_keeper.specs.Disk.{WhereTold, LeavesOnly, CountsFaults};
 ghost use Rattle.journal_keeper.specs.Journal.{entries_from, rows_of, kept_in};
-ghost use Rattle.journal_keeper.specs.Stage.{seen_by, StillStands};
+ghost use Rattle.journal_keeper.specs.Stage.{seen_by, doubted, is_open, StillStands};
 ghost use Rattle.journal_keeper.specs.Sound.{IsSound};
 ghost use Rattle.journal_keeper.specs.Tables.{kept_where_found};
 
@@ -91,6 +91,9 @@ pub(crate) fn load<D: Disk>(
         ≡ option_map (seen_by stage.old) (D.content disk.old) }
     ensures any_moment { WhereTold (D.content disk.old) (λ file.
         LeavesOnly D.moment D.left_since disk.old disk.new (StillStands stage.old file)) }
+    ensures doubt { (doubted stage.new (D.content disk.new) ≡ None)
+        ⊎ (doubted stage.new (D.content disk.new) ≡ doubted stage.old (D.content disk.old)) }
+    ensures stays_open { is_open stage.new ≡ is_open stage.old }
     ensures count { CountsFaults result (D.failures disk.old) (D.failures disk.new) }
 {
     if let Stage::Late = *stage {

@@ -228,6 +228,9 @@ impl MemoryDisk {
         ensures calls { IfOk result (λ disk. disk.calls ≡ []) }
         ensures plan { IfOk result (λ disk. disk.plan
             ≡ record { fails = fails.items; next_call = 0; faults = 0 }) }
+        ensures room { IfOk result (λ disk. disk.room_left ≡ room) }
+        ensures calls_left { IfOk result (λ disk. disk.calls_left ≡ calls) }
+        ensures stop { IfOk result (λ disk. disk.stop ≡ stop) }
     {
         let alloc = *content.allocator();
         let longest = content.len().saturating_add(room as usize);

@@ -1,11 +1,11 @@
 //! Puts a row.
-ghost use Rattle.std.specs.Prelude.{◌≡◌, ◌+◌, ◌≤◌, not, nat_lt, false, Err, OnOk, OnErr};
+ghost use Rattle.std.specs.Prelude.{◌≡◌, ◌+◌, ◌≤◌, not, nat_lt, true, false, None, Err, OnOk, OnErr};
 ghost use Rattle.pb_outside.specs.Faults.{Rose, raised};
 ghost use Rattle.std.specs.Option.{option_map};
 ghost use Rattle.keeper.specs.Causes.{HasCause};
 ghost use Rattle.journal_keeper.specs.Disk.{WhereTold, LeavesOnly};
 ghost use Rattle.journal_keeper.specs.Record.{effect};
-ghost use Rattle.journal_keeper.specs.Stage.{seen_by, is_refused, StandsOrGrew};
+ghost use Rattle.journal_keeper.specs.Stage.{seen_by, doubted, is_open, is_refused, DoubtsOnly, StandsOrGrew};
 ghost use Rattle.journal_keeper.specs.Sound.{IsSound};
 ghost use Rattle.journal_keeper.specs.Counts.{count_of, Refuses};
 
@@ -54,6 +54,8 @@ fn put_behind<D: Disk, R: Recorded>(
         ≡ option_map (seen_by stage.old) (D.content disk.old)) }
     ensures any_moment { WhereTold (D.content disk.old) (λ file.
         LeavesOnly D.moment D.left_since disk.old disk.new (StandsOrGrew (R.entry row.now) stage.old file)) }
+    ensures doubt { DoubtsOnly result (R.entry row.now) None (doubted stage.new (D.content disk.new)) }
+    ensures stays_open { is_open stage.new ≡ true }
     ensures refuses { Refuses result (is_refused stage.old (R.entry row.now))
         (D.failures disk.old) (D.failures disk.new) refusals.old refusals.new }
     ensures count { HasCause result (count_of (D.failures disk.old) refusals.old)
@@ -83,6 +85,9 @@ pub(crate) fn put<D: Disk, R: Recorded>(
         ≡ option_map (seen_by stage.old) (D.content disk.old)) }
     ensures any_moment { WhereTold (D.content disk.old) (λ file.
         LeavesOnly D.moment D.left_since disk.old disk.new (StandsOrGrew (R.entry row.now) stage.old file)) }
+    ensures doubt { DoubtsOnly result (R.entry row.now) (doubted stage.old (D.content disk.old))
+        (doubted stage.new (D.content disk.new)) }
+    ensures stays_open { is_open stage.new ≡ is_open stage.old }
     ensures refuses { Refuses result (is_refused stage.old (R.entry row.now))
         (D.failures disk.old) (D.failures disk.new) refusals.old refusals.new }
     ensures count { HasCause result (count_of (D.failures disk.old) refusals.old)

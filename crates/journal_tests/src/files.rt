@@ -1,7 +1,7 @@
 //! A journal in a real file.
 
 use crate::rows::shown;
-use journal_keeper::{FileDisk, JournalKeeper};
+use journal_keeper::{Disk, FileDisk, JournalKeeper};
 use keeper::Keeper;
 use pb_base::Text;
 use std::alloc::Global;
@@ -15,13 +15,13 @@ const JOURNAL: &str = "journal_test/s.journal";
 // One record: book 1 is withdrawn.
 const WITHDRAWN: &[u8] = b"\x01PBJOURN\x01\x04\x00\x00\x00\x08\x00\x00\x00\x00\x00\x00\x00\x01\x00";
 
-fn put_withdrawn<K: Keeper>(keeper: &mut K) -> Result<(), Fail> {
+fn put_withdrawn<D: Disk>(keeper: &mut JournalKeeper<D>) -> Result<(), Fail> {
     keeper.begin("")?;
     keeper.put_withdrawn(1)?;
     Ok(())
 }
 
-fn loaded<K: Keeper>(alloc: Global, keeper: &mut K) -> Result<Text, Fail> {
+fn loaded<D: Disk>(alloc: Global, keeper: &mut JournalKeeper<D>) -> Result<Text, Fail> {
     keeper.begin("")?;
     let rows = keeper.load()?;
     shown(alloc, &rows)

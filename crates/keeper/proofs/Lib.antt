@@ -1,2 +1,2 @@
 mod Places
-mod InOrder
+pub mod InOrder

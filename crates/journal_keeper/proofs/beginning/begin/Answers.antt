@@ -2,7 +2,7 @@ use Rattle.std.proofs.Common.{ap, ◌∙◌}
 use Rattle.std.specs.Option.{option_map}
 use Rattle.std.proofs.lemmas.Result.{on_ok_weaker, on_err_weaker}
 use Rattle.keeper.specs.Rows.{begun}
-use Rattle.journal_keeper.specs.Stage.{seen_by, IsBegun}
+use Rattle.journal_keeper.specs.Stage.{seen_by, doubted, IsBegun}
 use Rattle.journal_keeper.proofs.Moments.{and_then, widened}
 use Rattle.journal_keeper.proofs.Told.{at_err}
 use Rattle.journal_keeper.proofs.Begins.{begun_left}
@@ -46,3 +46,9 @@ returns-clause-any_moment g c = λ file told.
     and_then g.D.Disk.moment g.D.Disk.left_since c.args.disk.now c.read_synced.new.disk c.begin_with.new.disk P (IsBegun c.args.stage.now file leaves') first
     (c.begin_with.ensures.any_moment file (c.read_synced.ensures.kept ∙ told))
     (λ image begun. begun_wider c.args.stage.now file leaves leaves' image c.read_synced.ensures.crash begun)
+
+pub returns-in_err-file-clause-doubt : goal.returns-in_err-file-clause-doubt
+returns-in_err-file-clause-doubt g c = ap (doubted c.args.stage.now) c.read_synced.ensures.kept
+
+pub returns-clause-doubt : goal.returns-clause-doubt
+returns-clause-doubt g c = c.begin_with.ensures.doubt ∙ ap (doubted c.args.stage.now) c.read_synced.ensures.kept

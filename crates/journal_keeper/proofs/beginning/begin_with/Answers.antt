@@ -1,4 +1,4 @@
-use Rattle.std.proofs.Common.{◌≡◌, true, false, sym, ap, subst, ◌∙◌}
+use Rattle.std.proofs.Common.{◌≡◌, true, false, refl, sym, ap, subst, ◌∙◌}
 use Rattle.std.specs.Option.{option_map}
 use Rattle.std.proofs.lemmas.Result.{on_ok_weaker, on_err_weaker}
 use Rattle.pb_outside.specs.declared.error.OutError.TheVariants.{Memory}
@@ -6,10 +6,11 @@ use Rattle.keeper.specs.Rows.{begun}
 use Rattle.journal_keeper.specs.declared.stage.Stage.TheVariants.{Shut}
 use Rattle.journal_keeper.specs.Disk.{WhereTold}
 use Rattle.journal_keeper.specs.Journal.{is_empty_store}
-use Rattle.journal_keeper.specs.Stage.{seen_by, counts_empty, IsBlank, IsBegun, IsFound}
+use Rattle.journal_keeper.specs.Stage.{seen_by, doubted, counts_empty, IsBlank, IsBegun, IsFound}
 use Rattle.journal_keeper.proofs.Moments.{started, widened}
 use Rattle.journal_keeper.proofs.Blanks.{counted_blank}
 use Rattle.journal_keeper.proofs.Begins.{told_empty, begun_empty, begun_blank, begun_left, begun_open, found_open_before, found_sound, found_told, found_found}
+use Rattle.journal_keeper.proofs.Doubts.{empty_undoubted_now, found_undoubted}
 use Rattle.journal_keeper.proofs.Answered.{ok_is_no_error, no_fault}
 use Rattle.journal_keeper.proofs.beginning.begin_with.Goals as goal
 
@@ -40,6 +41,13 @@ returns-then-counts_as_empty-clause-found g c =
     let content = g.D.Disk.content c.format.new.disk in
     on_ok_weaker c.format.result (λ is. subst (λ s. WhereTold content (IsFound s)) (sym is) (λ file told. tt)) c.format.ensures.found
 
+pub returns-then-counts_as_empty-clause-doubt : goal.returns-then-counts_as_empty-clause-doubt
+returns-then-counts_as_empty-clause-doubt g c =
+    let content = g.D.Disk.content c.args.disk.now in
+    let empty : WhereTold content (λ file. counts_empty c.args.stage.now file ≡ true) = λ file told.
+    ap (counts_empty c.args.stage.now) (sym (c.requires.read file told)) ∙ sym c.counts_as_empty.ensures ∙ c.if-counts_as_empty.true in
+    c.format.ensures.doubt ∙ sym (empty_undoubted_now c.args.stage.now content empty)
+
 pub returns-then-counts_as_empty-clause-any_moment : goal.returns-then-counts_as_empty-clause-any_moment
 returns-then-counts_as_empty-clause-any_moment g c = λ file told.
     let leaves = g.D.Disk.may_leave c.args.disk.now in
@@ -61,6 +69,7 @@ returns-in_default g c =
       done = begun_open c.args.stage.now content leaves c.requires.sound full c.in_default.not-Shut;
       unchanged = tt;
       found = found_open_before c.args.stage.now content full c.in_default.not-Shut;
+      doubt = refl;
       any_moment = λ file told.
           started g.D.Disk.moment g.D.Disk.left_since c.args.disk.now (IsBegun c.args.stage.now file leaves)
           (λ image left. begun_left c.args.stage.now content leaves file image c.requires.sound told (g.met.D.Disk.only_now c.args.disk.now image left));
@@ -87,6 +96,12 @@ returns-clause-found g c =
     let stage_is : c.args.stage.now ≡ Shut = cc in
     let full : is_empty_store c.args.file.now ≡ false = ap (λ s. counts_empty s c.args.file.now) (sym stage_is) ∙ sym c.counts_as_empty.ensures ∙ c.if-counts_as_empty.false in
     found_found c.args.file.now c.stage_of.result (g.D.Disk.content c.args.disk.now) c.stage_of.ensures full c.requires.read
+
+pub returns-clause-doubt : goal.returns-clause-doubt
+returns-clause-doubt g c =
+    let content = g.D.Disk.content c.args.disk.now in
+    let stage_is : c.args.stage.now ≡ Shut = cc in
+    found_undoubted c.args.file.now c.stage_of.result content c.stage_of.ensures ∙ ap (λ s. doubted s content) (sym stage_is)
 
 pub returns-clause-any_moment : goal.returns-clause-any_moment
 returns-clause-any_moment g c = λ file told.

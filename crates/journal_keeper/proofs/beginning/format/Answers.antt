@@ -9,6 +9,7 @@ use Rattle.journal_keeper.specs.Stage.{seen_by, IsBlank, KeepsBlank}
 use Rattle.journal_keeper.proofs.Moments.{and_then}
 use Rattle.journal_keeper.proofs.Told.{came_from, mapped, told_by, map_map, Both, both, at_err}
 use Rattle.journal_keeper.proofs.Blanks.{step_from, last_blank, new_open, counted_seen, counted_still, counted_sound}
+use Rattle.journal_keeper.proofs.Doubts.{empty_undoubted}
 use Rattle.journal_keeper.proofs.beginning.format.Goals as goal
 
 pub returns-in_err-clear-clause-sound : goal.returns-in_err-clear-clause-sound
@@ -24,6 +25,11 @@ pub returns-in_err-clear-clause-unchanged : goal.returns-in_err-clear-clause-unc
 returns-in_err-clear-clause-unchanged g c =
     at_err c.from_residual.result (told_by KeepsBlank (λ _. bare 0) (seen_by c.args.stage.now) (g.D.Disk.content c.args.disk.now) (g.D.Disk.content c.clear.new.disk) c.in_err-clear.ensures.kept
     (λ file file' told keeps. counted_seen c.args.stage.now file' (counted_still c.args.stage.now file file' (c.requires.empty file told).0 keeps)))
+
+pub returns-in_err-clear-clause-doubt : goal.returns-in_err-clear-clause-doubt
+returns-in_err-clear-clause-doubt g c =
+    empty_undoubted c.args.stage.now (g.D.Disk.content c.args.disk.now) (g.D.Disk.content c.clear.new.disk) KeepsBlank c.in_err-clear.ensures.kept
+    (λ file told. (c.requires.empty file told).0)
 
 pub returns-in_err-clear-clause-any_moment : goal.returns-in_err-clear-clause-any_moment
 returns-in_err-clear-clause-any_moment g c = λ file told. c.clear.ensures.any_moment file told (c.requires.empty file told).1 (c.requires.durable file told)

@@ -1,13 +1,15 @@
-use Rattle.std.proofs.Common.{◌≡◌, ℕ, ◌+◌, true, false, List, [], ◌∷◌, length, Some, inl, refl, sym, ap, subst, ◌∙◌}
+use Rattle.std.proofs.Common.{◌≡◌, ℕ, ◌+◌, true, false, List, [], ◌∷◌, length, Some, None, inl, inr, refl, sym, ap, subst, ◌∙◌}
 use Rattle.std.specs.Option.{option_map}
+use Rattle.std.proofs.lemmas.Result.{err_from_is_err_and}
 use Rattle.journal_keeper.specs.declared.stage.Stage.TheVariants.{Open}
-use Rattle.journal_keeper.specs.Disk.{overwritten, Torn, AfterStep}
-use Rattle.journal_keeper.specs.Record.{effect}
-use Rattle.journal_keeper.specs.Stage.{seen_by, StandsOrGrew}
+use Rattle.journal_keeper.specs.Disk.{overwritten, Torn, WhereTold, AfterStep}
+use Rattle.journal_keeper.specs.Record.{effect, ◌>>=◌}
+use Rattle.journal_keeper.specs.Stage.{seen_by, doubted, doubted_by, is_open, StandsOrGrew}
 use Rattle.journal_keeper.specs.Sound.{IsSound}
 use Rattle.journal_keeper.proofs.Moments.{and_then, widened}
 use Rattle.journal_keeper.proofs.Told.{came_from, mapped, told_by, map_map, Both, both, at_err}
-use Rattle.journal_keeper.proofs.Gates.{gate_within, still_shut, seen_shut, shut_step, staged, staged_within, staged_step, now_doubted, seen_doubted, now_open, seen_grown}
+use Rattle.journal_keeper.proofs.Gates.{gate_within, still_shut, seen_shut, shut_step, staged, staged_within, staged_step, now_doubted, seen_doubted, doubt_own, now_open, seen_grown}
+use Rattle.journal_keeper.proofs.Doubts.{none_or, doubts_none, doubts_failed, failed_again}
 use Rattle.journal_keeper.proofs.journal.append.Goals as goal
 
 pub write_through-requires : goal.write_through-requires
@@ -49,6 +51,14 @@ returns-in_err-write_through-clause-any_moment g c =
     λ entry made file told. widened g.D.Disk.moment g.D.Disk.left_since c.args.disk.now c.write_through.new.disk (StandsOrGrew entry c.args.stage.now file)
     (AfterStep (Torn (c.args.gate + 1) n) leaves) c.write_through.ensures.any_moment
     (λ image from. subst (λ s. StandsOrGrew entry s file image) (sym c.requires.at) (inl (shut_step c.args.gate n file leaves (sound file told) image from)))
+
+pub returns-in_err-write_through-clause-doubt : goal.returns-in_err-write_through-clause-doubt
+returns-in_err-write_through-clause-doubt g c = λ entry made.
+    let content' = g.D.Disk.content c.write_through.new.disk in
+    doubts_none c.from_residual.result entry None _ (ap (λ s. doubted s content') c.requires.at)
+
+pub returns-in_err-write_through-clause-stays_open : goal.returns-in_err-write_through-clause-stays_open
+returns-in_err-write_through-clause-stays_open g c = ap is_open c.requires.at
 
 -- ---- the record is on the disk
 
@@ -117,6 +127,27 @@ returns-in_err-write_through-2-clause-any_moment g c =
     (λ image from. subst (λ s. StandsOrGrew entry s file image) (sym c.requires.at) (inl (shut_step c.args.gate n file leaves (sound file told) image from))) in
     and_then g.D.Disk.moment g.D.Disk.left_since c.args.disk.now c.write_through.new.disk c.write_through-2.new.disk P (AfterStep (Torn c.args.gate 1) leaves') first c.write_through-2.ensures.any_moment
     (λ image from. subst (λ s. StandsOrGrew entry s file image) (sym c.requires.at) (staged_step c.args.gate entry bytes file (overwritten (c.args.gate + 1) bytes file) leaves' s image from))
+
+pub returns-in_err-write_through-2-clause-doubt : goal.returns-in_err-write_through-2-clause-doubt
+returns-in_err-write_through-2-clause-doubt g c =
+    let bytes = c.args.bytes.now in
+    let leaves = g.D.Disk.may_leave c.args.disk.now in
+    let content = g.D.Disk.content c.args.disk.now in
+    let leaves' = g.D.Disk.may_leave c.write_through.new.disk in
+    let content' = g.D.Disk.content c.write_through.new.disk in
+    let content'' = g.D.Disk.content c.write_through-2.new.disk in
+    let sound = subst (λ s. IsSound s content leaves) c.requires.at c.requires.sound in
+    λ entry made.
+    let own : WhereTold content'' (λ file''. doubted_by (Open c.args.gate true) file'' ≡ Some entry) = λ file'' told.
+    let torn = came_from (Torn c.args.gate 1) content' content'' file'' c.in_err-write_through-2.ensures.torn told in
+    let from = came_from (λ file file'. file' ≡ overwritten (c.args.gate + 1) bytes file) content content' torn.0 (mapped (overwritten (c.args.gate + 1) bytes) content content' c.in_ok-write_through.ensures.written) torn.1 in
+    let s = staged c.args.gate entry bytes from.0 torn.0 leaves leaves' (sound from.0 from.1) made from.2 (c.in_ok-write_through.ensures.durable torn.0 torn.1) in
+    doubt_own c.args.gate entry bytes from.0 torn.0 leaves' s file'' torn.2 in
+    let given = err_from_is_err_and c.from_residual-in_err-write_through-2.result c.from_residual-in_err-write_through-2.ensures.1 in
+    let failed = failed_again c.from_residual-in_err-write_through-2.result c.write_through-2.result given.0 c.in_err-write_through-2.field-0.0 given.1 given.2
+    c.in_err-write_through-2.was c.write_through-2.ensures.no_memory in
+    doubts_failed c.from_residual-in_err-write_through-2.result entry None (content'' >>= doubted_by (Open c.args.gate true)) failed
+    (elim (none_or content'' (doubted_by (Open c.args.gate true)) entry own) [ | inl none ↦ inl none | inr some ↦ inr (inr some) ])
 
 -- ---- the gate is open
 

@@ -2,12 +2,13 @@ use Rattle.std.proofs.Common.{◌≡◌, true, false, [], ◌∷◌, sym, ap, su
 use Rattle.std.specs.Option.{option_map}
 use Rattle.journal_keeper.specs.declared.stage.Stage.TheVariants.{Open}
 use Rattle.journal_keeper.specs.Disk.{overwritten, Torn, AfterStep}
-use Rattle.journal_keeper.specs.Stage.{seen_by, StillStands}
+use Rattle.journal_keeper.specs.Stage.{seen_by, doubted, doubted_by, StillStands}
 use Rattle.journal_keeper.specs.Sound.{IsSound}
 use Rattle.journal_keeper.proofs.Moments.{started, widened}
-use Rattle.journal_keeper.proofs.Told.{came_from, mapped, told_by}
+use Rattle.journal_keeper.proofs.Told.{came_from, mapped, told_by, at_err}
 use Rattle.journal_keeper.proofs.Stages.{sound_stands}
-use Rattle.journal_keeper.proofs.Gates.{gate_within, still_doubted, shut_again, seen_still, seen_again, doubted_step}
+use Rattle.journal_keeper.proofs.Gates.{gate_within, still_doubted, shut_again, seen_still, seen_again, doubt_still, doubted_step}
+use Rattle.journal_keeper.proofs.Doubts.{bound_by}
 use Rattle.journal_keeper.proofs.journal.settle.Goals as goal
 
 pub write_through-requires : goal.write_through-requires
@@ -38,6 +39,17 @@ returns-in_err-write_through-clause-told g c =
     subst (λ s. option_map (seen_by s) content' ≡ option_map (seen_by s) content) (sym stage_is)
     (told_by (Torn c.in-Open.gate 1) (seen_by (Open c.in-Open.gate true)) (seen_by (Open c.in-Open.gate true)) content content' c.in_err-write_through.ensures.torn
     (λ file file' told torn. seen_still c.in-Open.gate file leaves (sound file told) file' torn))
+
+pub returns-in_err-write_through-clause-doubt : goal.returns-in_err-write_through-clause-doubt
+returns-in_err-write_through-clause-doubt g c =
+    let stage_is : c.args.stage.now ≡ Open c.in-Open.gate true = cc in
+    let leaves = g.D.Disk.may_leave c.args.disk.now in
+    let content = g.D.Disk.content c.args.disk.now in
+    let content' = g.D.Disk.content c.write_through.new.disk in
+    let sound = subst (λ s. IsSound s content leaves) stage_is c.requires in
+    at_err c.from_residual.result (subst (λ s. doubted s content' ≡ doubted s content) (sym stage_is)
+    (bound_by (Torn c.in-Open.gate 1) (doubted_by (Open c.in-Open.gate true)) (doubted_by (Open c.in-Open.gate true)) content content' c.in_err-write_through.ensures.torn
+    (λ file file' told torn. doubt_still c.in-Open.gate file leaves (sound file told) file' torn)))
 
 pub returns-in_err-write_through-clause-any_moment : goal.returns-in_err-write_through-clause-any_moment
 returns-in_err-write_through-clause-any_moment g c =

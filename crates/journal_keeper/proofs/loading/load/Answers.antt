@@ -1,12 +1,13 @@
-use Rattle.std.proofs.Common.{◌≡◌, sym, ap, subst, ◌∙◌}
+use Rattle.std.proofs.Common.{◌≡◌, inl, sym, ap, subst, ◌∙◌}
 use Rattle.std.specs.Prelude.{IfSome}
 use Rattle.std.specs.Option.{option_map}
 use Rattle.std.proofs.lemmas.Result.{IfOk-weaker}
 use Rattle.keeper.specs.Rows.{Kept, kept_of}
-use Rattle.journal_keeper.specs.Stage.{seen_by, settled, StillStands}
+use Rattle.journal_keeper.specs.Stage.{seen_by, settled, doubted, is_open, StillStands}
 use Rattle.journal_keeper.specs.Sound.{IsSound}
 use Rattle.journal_keeper.proofs.Moments.{and_then}
 use Rattle.journal_keeper.proofs.Stages.{sound_stands}
+use Rattle.journal_keeper.proofs.Doubts.{settled_undoubted, settled_open_still}
 use Rattle.journal_keeper.proofs.Answered.{sound_stays, loaded, if_told, told_file, stands_back}
 use Rattle.journal_keeper.proofs.loading.load.Goals as goal
 
@@ -41,3 +42,11 @@ returns-clause-rows g c =
     (if_told c.settle.new.stage content' (λ kept. kept_of rows ≡ kept)
     (λ file told. read file told ∙ loaded c.args.stage.now content' leaves' c.in_default.not-Late sound file told ∙ ap (λ s. seen_by s file) (sym sure))))
     c.read_rows.ensures.rows
+
+pub returns-clause-doubt : goal.returns-clause-doubt
+returns-clause-doubt g c =
+    let content = g.D.Disk.content c.read_rows.new.disk in
+    inl (ap (λ s. doubted s content) c.in_ok-settle.ensures.sure ∙ settled_undoubted c.args.stage.now content)
+
+pub returns-clause-stays_open : goal.returns-clause-stays_open
+returns-clause-stays_open g c = ap is_open c.in_ok-settle.ensures.sure ∙ settled_open_still c.args.stage.now

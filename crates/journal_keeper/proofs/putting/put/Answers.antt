@@ -1,15 +1,16 @@
 use Rattle.std.proofs.Common.{◌≡◌, true, false, inl, inr, refl, sym, ap, subst, ◌∙◌, rules}
 use Rattle.std.specs.Option.{option_map}
-use Rattle.std.proofs.lemmas.Result.{on_ok_weaker, on_err_weaker}
+use Rattle.std.proofs.lemmas.Result.{on_ok_weaker, on_err_weaker, err_from_is_err_and}
 use Rattle.pb_outside.specs.declared.error.OutError.TheVariants.{Failed}
 use Rattle.keeper.specs.Causes.{HasCause}
 use Rattle.journal_keeper.specs.declared.stage.Stage.TheVariants.{Open}
 use Rattle.journal_keeper.specs.Disk.{CountsFaults}
 use Rattle.journal_keeper.specs.Record.{effect}
-use Rattle.journal_keeper.specs.Stage.{seen_by, is_refused, StillStands, StandsOrGrew}
+use Rattle.journal_keeper.specs.Stage.{seen_by, doubted, is_open, is_refused, StillStands, StandsOrGrew}
 use Rattle.journal_keeper.specs.Counts.{count_of, Refuses}
 use Rattle.journal_keeper.proofs.Moments.{and_then, widened}
 use Rattle.journal_keeper.proofs.Told.{at_err}
+use Rattle.journal_keeper.proofs.Doubts.{settled_undoubted, settled_open_still, doubts_none, doubts_failed, doubts_wider, failed_again}
 use Rattle.journal_keeper.proofs.Answered.{counts_disk, counts_refusal, not_ok, refused_shut, refused_settled, settled_open, told_file, stands_settled}
 use Rattle.journal_keeper.proofs.putting.put.Goals as goal
 
@@ -33,6 +34,16 @@ returns-in_err-settle-clause-count g c =
     let counts : CountsFaults c.from_residual.result (g.D.Disk.failures c.args.disk.now) (g.D.Disk.failures c.settle.new.disk) = search rules in
     counts_disk c.from_residual.result (g.D.Disk.failures c.args.disk.now) (g.D.Disk.failures c.settle.new.disk) c.args.refusals.now counts
 
+pub returns-in_err-settle-clause-doubt : goal.returns-in_err-settle-clause-doubt
+returns-in_err-settle-clause-doubt g c =
+    let given = err_from_is_err_and c.from_residual.result c.from_residual.ensures.1 in
+    let failed = failed_again c.from_residual.result c.settle.result given.0 c.in_err-settle.field-0.0 given.1 given.2 c.in_err-settle.was c.settle.ensures.no_memory in
+    doubts_failed c.from_residual.result (g.R.Recorded.entry c.args.row.now) (doubted c.args.stage.now (g.D.Disk.content c.args.disk.now))
+    (doubted c.settle.new.stage (g.D.Disk.content c.settle.new.disk)) failed (inr (inl c.in_err-settle.ensures.doubt))
+
+pub returns-in_err-settle-clause-stays_open : goal.returns-in_err-settle-clause-stays_open
+returns-in_err-settle-clause-stays_open g c = ap is_open c.in_err-settle.ensures.kept
+
 -- ---- no journal
 
 pub returns-in_default : goal.returns-in_default
@@ -47,6 +58,9 @@ returns-in_default g c =
       any_moment = λ file told.
           widened g.D.Disk.moment g.D.Disk.left_since c.args.disk.now c.settle.new.disk (StandsOrGrew entry c.args.stage.now file)
           (StillStands c.args.stage.now file) (c.settle.ensures.any_moment file told) (λ image stands. inl stands);
+      doubt = doubts_none c.refuse.result entry (doubted c.args.stage.now (g.D.Disk.content c.args.disk.now)) (doubted c.settle.new.stage (g.D.Disk.content c.settle.new.disk))
+          (ap (λ s. doubted s (g.D.Disk.content c.settle.new.disk)) c.in_ok-settle.ensures.sure ∙ settled_undoubted c.args.stage.now (g.D.Disk.content c.settle.new.disk));
+      stays_open = ap is_open c.in_ok-settle.ensures.sure ∙ settled_open_still c.args.stage.now;
       refuses = record {
         cause = λ failed. inr refused;
         made = not_ok _ c.refuse.result Failed c.refuse.ensures.failed;
@@ -81,6 +95,16 @@ returns-clause-any_moment g c = λ file told.
     and_then g.D.Disk.moment g.D.Disk.left_since c.args.disk.now c.settle.new.disk c.put_behind.new.disk P (StandsOrGrew entry c.settle.new.stage mid.0) first
     (c.put_behind.ensures.any_moment mid.0 mid.1)
     (λ image stands. stands_settled entry c.args.stage.now c.in-Open.gate mid.0 file image same (subst (λ s. StandsOrGrew entry s mid.0 image) at stands))
+
+pub returns-clause-doubt : goal.returns-clause-doubt
+returns-clause-doubt g c =
+    doubts_wider c.put_behind.result (g.R.Recorded.entry c.args.row.now) (doubted c.args.stage.now (g.D.Disk.content c.args.disk.now))
+    (doubted c.put_behind.new.stage (g.D.Disk.content c.put_behind.new.disk)) c.put_behind.ensures.doubt
+
+pub returns-clause-stays_open : goal.returns-clause-stays_open
+returns-clause-stays_open g c =
+    let at = settled_open c.args.stage.now c.settle.new.stage c.in-Open.gate _ c.in_ok-settle.ensures.sure c.in-Open.is in
+    c.put_behind.ensures.stays_open ∙ sym (ap is_open at) ∙ ap is_open c.in_ok-settle.ensures.sure ∙ settled_open_still c.args.stage.now
 
 pub returns-clause-refuses : goal.returns-clause-refuses
 returns-clause-refuses g c =

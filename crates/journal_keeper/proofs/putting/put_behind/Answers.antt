@@ -110,6 +110,17 @@ returns-clause-any_moment g c =
     } in
     c.append.ensures.any_moment entry made
 
+pub returns-clause-doubt : goal.returns-clause-doubt
+returns-clause-doubt g c =
+    let entry = g.R.Recorded.entry c.args.row.now in
+    let room = room_for c.args.gate false entry c.payload_len-len.result c.payload_len-len.ensures.len (sym c.has_room.ensures ∙ c.if-not-has_room.false) in
+    let made : IsMade c.deref.result.now entry = record {
+      front = record_of entry;
+      bytes_are = c.deref.ensures.value ∙ c.in_ok-line.ensures;
+      is_record = is_record entry c.payload_len-len.ensures.fits (omega (arith, room.1, room.2));
+    } in
+    c.append.ensures.doubt entry made
+
 pub returns-clause-refuses : goal.returns-clause-refuses
 returns-clause-refuses g c =
     let entry = g.R.Recorded.entry c.args.row.now in
