@@ -26,10 +26,7 @@ pub fn session<L: Link, T: Turns, G: Gate>(
     turns: &mut T,
     gate: &G,
 ) -> SessionEnd
-    ensures serves { let before = told (L.input link.old) (L.output link.old) in
-        let after = told (L.input link.new) (L.output link.new) in
-        IsSession result (T.hand turns.old) before after (T.hand turns.new) }
-    // In the words of the trade.
+    // Each exchange is one in the words of the trade.
     ensures dealt { let before = told (L.input link.old) (L.output link.old) in
         let after = told (L.input link.new) (L.output link.new) in
         HasDealt result (T.hand turns.old) before after (T.hand turns.new) }

@@ -20,7 +20,7 @@ returns-in-Ok-Some-clause-goes_on g c =
     let found = rw c.in-Ok-Some.field-0-is at c.in-Ok-Some.ensures.found in
     let left = rw c.in-Ok-Some.field-0-is at c.in-Ok-Some.ensures.left in
     let is = c.done.ensures.ended ∙ ap (λ (q : PortTold). ends link' q) found in
-    subst (λ (q : PortTold). WorksOn h p log mid q log') (sym is) (goes_on c.session-end.result h mid link link' p log log' left c.session-end.ensures.serves c.keep.ensures)
+    subst (λ (q : PortTold). WorksOn h p log mid q log') (sym is) (goes_on c.session-end.result h mid link link' p log log' left c.session-end.ensures.dealt.session c.keep.ensures)
 
 pub returns-in-Ok-None-clause-ended : goal.returns-in-Ok-None-clause-ended
 returns-in-Ok-None-clause-ended g c =
