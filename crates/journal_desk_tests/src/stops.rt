@@ -104,7 +104,7 @@ fn a_stop_in_any_call_leaves_what_was_answered_or_one_more(rt: HostRuntime) -> R
     for stop in 0..START + 4 * PUT {
         let (answered, kept) = stopped(&rt, alloc, Some(stop))?;
         assert!(rt;
-            answered <= kept && kept <= answered + 1,
+            answered <= kept && kept.saturating_sub(answered) <= 1,
             "{stop}: {answered} {kept}"
         );
     }
