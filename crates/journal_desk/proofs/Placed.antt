@@ -1,5 +1,5 @@
 -- An order that was answered as placed is there, and stays.
-use Rattle.std.proofs.Common.{◌≡◌, inl, inr, ℕ, Bool, true, false, List, [], ◌∷◌, Option, None, Some, refl, sym, ap, subst, ◌∙◌}
+use Rattle.std.proofs.Common.{◌≡◌, inl, inr, ℕ, Bool, true, false, List, [], ◌∷◌, Option, None, Some, sym, ap, subst, ◌∙◌}
 use Rattle.std.specs.Prelude.{Result, Ok, Err, if◌then◌else◌}
 use Rattle.desk_words.specs.declared.order_words.OrderWords.{OrderWords}
 use Rattle.desk_words.specs.declared.reply.Reply.{Reply}
@@ -9,7 +9,7 @@ use Rattle.order_desk.specs.declared.answer.Answer.TheVariants as answer
 use Rattle.order_desk.specs.declared.event.Event.TheVariants as event
 use Rattle.order_desk.specs.declared.kept_book.KeptBook.{KeptBook}
 use Rattle.order_desk.specs.declared.order_key.OrderKey.{OrderKey}
-use Rattle.order_desk.specs.Effect.{Effect, says, shows, keeps, go_on, effect, book_of, shows_kept, same_order, unless_kept, to_place, place}
+use Rattle.order_desk.specs.Effect.{Effect, says, shows, keeps, go_on, book_of, shows_kept, same_order, unless_kept, to_place, place}
 use Rattle.order_desk.specs.Step.{Follows, Step}
 use Rattle.order_desk.specs.Tables.{Tables, State, key_of, order_at, with_order}
 use Rattle.order_desk.proofs.Entries.{lookup-same}
@@ -80,8 +80,8 @@ pub placed_last : (s : Standing) (es : History) (caller : List ℕ) (number : �
 placed_last s [] caller number order run placed = absurd placed
 placed_last s (e ∷ es) caller number order run placed = elim placed [
   | inl now ↦
-  let step : Step s.desk (event.Place caller number order) e.reply e.after.desk = subst (λ c. Step s.desk c e.reply e.after.desk) now.0 run.1.step in
-  orders_last e.after es (key_of caller number) order run.2
-  (follows_placed (key_of caller number) order (place s.desk.tables caller number order) s.desk e.reply e.after.desk (place_places s.desk.tables caller number order) step now.1)
+      let step : Step s.desk (event.Place caller number order) e.reply e.after.desk = subst (λ c. Step s.desk c e.reply e.after.desk) now.0 run.1.step in
+      orders_last e.after es (key_of caller number) order run.2
+      (follows_placed (key_of caller number) order (place s.desk.tables caller number order) s.desk e.reply e.after.desk (place_places s.desk.tables caller number order) step now.1)
   | inr later ↦ placed_last e.after es caller number order run.2 later
 ]

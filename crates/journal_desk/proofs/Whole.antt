@@ -1,5 +1,5 @@
 -- What a start finds after a stop at any moment of a run.
-use Rattle.std.proofs.Common.{◌≡◌, ◌⊎◌, inl, inr, ℕ, Bool, true, false, List, [], ◌∷◌, ◌++◌, Option, None, Some, refl, sym, ap, subst, ◌∙◌, arith}
+use Rattle.std.proofs.Common.{◌≡◌, ◌⊎◌, inl, inr, ℕ, true, false, List, [], ◌∷◌, ◌++◌, Option, None, Some, refl, sym, ap, subst, ◌∙◌, arith}
 use Rattle.std.specs.Prelude.{IfSome, if◌then◌else◌}
 use Rattle.desk_words.specs.declared.order_words.OrderWords.{OrderWords}
 use Rattle.journal_keeper.specs.declared.stage.Stage.{Stage}
@@ -8,7 +8,7 @@ use Rattle.journal_keeper.specs.Journal.{kept_in, is_empty_store, journal_in, ro
 use Rattle.journal_keeper.specs.Journal as journal
 use Rattle.journal_keeper.specs.Record.{Entry}
 use Rattle.journal_keeper.specs.Record as put
-use Rattle.journal_keeper.specs.Stage.{seen_by, doubted_by, is_open, StillStands, StandsOrGrew, IsBegun, IsFound}
+use Rattle.journal_keeper.specs.Stage.{seen_by, doubted_by, is_open, StillStands, IsBegun, IsFound}
 use Rattle.keeper.specs.Rows.{Kept, bare, begun, migrated}
 use Rattle.order_desk.specs.declared.answer.Answer.{Answer}
 use Rattle.order_desk.specs.declared.event.Event.{Event}
@@ -47,10 +47,10 @@ step_known P old e known fits moves may = record {
     | inl none ↦ absurd (no_late (late_of e.after) entry none is)
     | inr still ↦ elim still.1 [
       | inl same ↦
-      let was = known.late entry (sym same ∙ is) in
-      (was.0, was.1, subst (λ t. Fits t was.0) (sym still.0) was.2, ap (λ t. put_of t was.0) still.0 ∙ was.3)
+          let was = known.late entry (sym same ∙ is) in
+          (was.0, was.1, subst (λ t. Fits t was.0) (sym still.0) was.2, ap (λ t. put_of t was.0) still.0 ∙ was.3)
       | inr own ↦
-      (e.call, may own.0, subst (λ t. Fits t e.call) (sym still.0) fits, ap (λ t. put_of t e.call) still.0 ∙ sym own.1 ∙ is)
+          (e.call, may own.0, subst (λ t. Fits t e.call) (sym still.0) fits, ap (λ t. put_of t e.call) still.0 ∙ sym own.1 ∙ is)
     ]
   ];
 }
@@ -120,10 +120,10 @@ found_known P s going image found known may fits left started =
       | inl same ↦ inl (found_is s.desk.tables found image known.valid (same ∙ told) started)
       | inr more ↦ elim more [
         | inl late ↦
-        let was = known.late late.0 late.1 in
-        one_more P s.desk.tables found was.0 late.0 image known.valid was.1 was.2 was.3 (late.2 ∙ ap (put.effect late.0) told) started
+            let was = known.late late.0 late.1 in
+            one_more P s.desk.tables found was.0 late.0 image known.valid was.1 was.2 was.3 (late.2 ∙ ap (put.effect late.0) told) started
         | inr grew ↦
-        going_more P s.desk.tables found going grew.0 image known.valid may fits grew.1 (grew.2 ∙ ap (put.effect grew.0) told) started
+            going_more P s.desk.tables found going grew.0 image known.valid may fits grew.1 (grew.2 ∙ ap (put.effect grew.0) told) started
       ]
     ]
 
@@ -140,7 +140,7 @@ still_in : (t found : Tables) (P : Event → Type 0) (caller : List ℕ) (number
 still_in t found P caller number order either there = elim either [
   | inl same ↦ ap (λ (u : Tables). order_at u.orders (key_of caller number)) same ∙ there
   | inr more ↦
-  ap (λ (u : Tables). order_at u.orders (key_of caller number)) more.5 ∙ orders_stay t more.0 more.1 more.2 more.4 (key_of caller number) order there
+      ap (λ (u : Tables). order_at u.orders (key_of caller number)) more.5 ∙ orders_stay t more.0 more.1 more.2 more.4 (key_of caller number) order there
 ]
 
 pub placed_found : (start : Standing) (history : History) (going : Option Event) (found : Tables) (caller : List ℕ) (number : ℕ) (order : OrderWords) → IsRun start history

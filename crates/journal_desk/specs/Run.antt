@@ -5,7 +5,7 @@
 --     IsStartedOn          the tables of a desk that is started on a file
 --     WasCutOff            the events of which one more may be there
 --     IsThatOrOneMore      these tables, or those after one more of such events
-use Rattle.std.specs.Prelude.{◌≡◌, ◌⊎◌, ℕ, true, List, [], ◌∷◌, ◌++◌, Option, None, Some, IfSome}
+use Rattle.std.specs.Prelude.{◌≡◌, ◌⊎◌, ℕ, true, List, [], ◌∷◌, Option, None, Some}
 use Rattle.desk_words.specs.declared.order_words.OrderWords.{OrderWords}
 use Rattle.desk_words.specs.declared.reply.Reply.TheVariants as reply
 use Rattle.journal_keeper.specs.declared.stage.Stage.{Stage}

@@ -1,5 +1,5 @@
 -- Which gate is in doubt after a call.
-use Rattle.std.proofs.Common.{◌≡◌, inl, inr, ◌⊎◌, ℕ, ◌+◌, Bool, true, false, List, Option, Some, None, Result, Ok, Err, refl, sym, ap, subst, ◌∙◌}
+use Rattle.std.proofs.Common.{◌≡◌, inl, inr, ◌⊎◌, ℕ, true, false, List, Option, Some, None, Result, Ok, Err, refl, sym, ap, subst, ◌∙◌}
 use Rattle.pb_outside.specs.declared.error.OutError.{OutError}
 use Rattle.pb_outside.specs.declared.error.OutError.TheVariants.{Failed, Memory}
 use Rattle.journal_keeper.specs.declared.stage.Stage.{Stage}

@@ -147,7 +147,7 @@ returns-in_err-write_through-2-clause-doubt g c =
     let failed = failed_again c.from_residual-in_err-write_through-2.result c.write_through-2.result given.0 c.in_err-write_through-2.field-0.0 given.1 given.2
     c.in_err-write_through-2.was c.write_through-2.ensures.no_memory in
     doubts_failed c.from_residual-in_err-write_through-2.result entry None (content'' >>= doubted_by (Open c.args.gate true)) failed
-    (elim (none_or content'' (doubted_by (Open c.args.gate true)) entry own) [ | inl none ↦ inl none | inr some ↦ inr (inr some) ])
+    (elim (none_or content'' (doubted_by (Open c.args.gate true)) entry own) [ inl none ↦ inl none | inr some ↦ inr (inr some) ])
 
 -- ---- the gate is open
 
