@@ -107,7 +107,11 @@ impl Moves {
         let mut now: usize = 0;
         for record in there {
             if record.before {
-                let to = if record.now { run_at(layouts.now, now) } else { None };
+                let to = if record.now {
+                    run_at(layouts.now, now)
+                } else {
+                    None
+                };
                 self.add_run(run_at(layouts.before, before), to)?;
                 before = before.wrapping_add(1);
             }
@@ -191,7 +195,11 @@ impl Moves {
         if !there.before {
             return Ok(());
         }
-        let to = if there.now { self.moved_gate(layouts, var) } else { None };
+        let to = if there.now {
+            self.moved_gate(layouts, var)
+        } else {
+            None
+        };
         match to {
             Some(gate) => {
                 self.vars.push(Some(var))?;
@@ -203,7 +211,10 @@ impl Moves {
 
     // The gate of a variable now, if it is that of the next variable before, moved.
     fn moved_gate(&self, layouts: Layouts<'_>, var: u32) -> Option<Gate> {
-        let before = layouts.before.gates.gate(u32::try_from(self.vars.len()).ok()?)?;
+        let before = layouts
+            .before
+            .gates
+            .gate(u32::try_from(self.vars.len()).ok()?)?;
         let now = layouts.now.gates.gate(var)?;
         let is_moved = now.joint == before.joint
             && self.literal(before.left) == Some(now.left)
@@ -285,6 +296,9 @@ fn records_of(alloc: Global, book: &Book, days: Days) -> Result<Vec<There>, Memo
 // What the record made whose start has this place.
 fn run_at(layout: &Layout, place: usize) -> Option<Run> {
     let start = *layout.starts.get(place)?;
-    let end = *layout.starts.get(place.wrapping_add(1)).unwrap_or(&layout.goals);
+    let end = *layout
+        .starts
+        .get(place.wrapping_add(1))
+        .unwrap_or(&layout.goals);
     Some(Run { start, end })
 }

@@ -73,7 +73,10 @@ fn spans_of(
 // The variables of the record whose start has this place.
 fn span_of(layout: &Layout, place: usize) -> Option<Span> {
     let start = layout.starts.get(place)?;
-    let end = layout.starts.get(place.saturating_add(1)).unwrap_or(&layout.goals);
+    let end = layout
+        .starts
+        .get(place.saturating_add(1))
+        .unwrap_or(&layout.goals);
     Some(Span {
         from: start.var,
         until: end.var,
