@@ -29,7 +29,7 @@ pub(crate) fn answer(
     asked: &Asked,
     solver: &mut Solver,
     sets: &mut Sets,
-    known: &mut Known,
+    known: &mut Known<'_>,
 ) -> Result<Outcome, Memory>
     requires task { IsTask book.now task }
     requires asked { IsAsked book.now task.slice asked.now }
@@ -60,7 +60,7 @@ fn answer_by_search(
     asked: &Asked,
     solver: &mut Solver,
     sets: &mut Sets,
-    known: &mut Known,
+    known: &mut Known<'_>,
 ) -> Result<Outcome, Memory>
     requires task { IsTask book.now task }
     requires asked { IsAsked book.now task.slice asked.now }
@@ -116,7 +116,7 @@ fn answer_before(
     task: SliceTask,
     asked: &Asked,
     solver: &Solver,
-    known: &Known,
+    known: &Known<'_>,
 ) -> Option<Outcome>
     requires facts { SliceFacts book.now task.slice }
     requires asked { IsAsked book.now task.slice asked.now }

@@ -6,7 +6,7 @@ ghost use Rattle.solver.specs.Solver.{Onwards};
 use crate::refuting::Refuting;
 use book_model::Book;
 use clause_pool::{Kernel, Lit};
-use clausify::{Asked, Question};
+use clausify::{Asked, Layout, Question};
 use pb_base::{Day, Memory};
 use slice_hints::{Sets, Units, Usages, guide};
 use solver::Solver;
@@ -14,40 +14,45 @@ use std::alloc::Global;
 
 /// Hints for the questions of a slice.
 #[derive(Drop)]
-pub(crate) struct Known {
-    pub(crate) refuting: Refuting,
-    /// What short clauses say of the goals.
+pub(crate) struct Known<'a> {
+    pub(crate) refuting: Refuting<'a>,
+    /// Clauses that refute goals.
     pub(crate) units: Units,
+    /// Where the clauses of the slice stand.
+    pub(crate) layout: &'a Layout,
     usages: Usages,
     hints: Vec<Lit>,
 }
 
-impl Known {
+impl<'a> Known<'a> {
     /// What is known of these questions, once the solver's kernel has what makes chains short.
     pub(crate) fn of(
         alloc: Global,
         book: &Book,
         questions: &[Asked],
+        layout: &'a Layout,
         solver: &mut Solver,
-    ) -> Result<Known, Memory>
+    ) -> Result<Known<'a>, Memory>
         ensures { Onwards solver.old solver.new }
     {
-        let refuting = Refuting::of(alloc, solver, book.codes().len())?;
-        Known::with(alloc, book, questions, solver.kernel(), refuting)
+        let refuting = Refuting::of(alloc, solver, &layout.gates, book.codes().len())?;
+        Known::with(alloc, book, questions, layout, solver.kernel(), refuting)
     }
 
     fn with(
         alloc: Global,
         book: &Book,
         questions: &[Asked],
+        layout: &'a Layout,
         kernel: &Kernel,
-        refuting: Refuting,
-    ) -> Result<Known, Memory> {
-        let usages = Usages::of(alloc, book, questions)?;
+        refuting: Refuting<'a>,
+    ) -> Result<Known<'a>, Memory> {
+        let usages = Usages::of(alloc, book, questions, layout)?;
         let units = Units::of(alloc, kernel, questions)?;
         Ok(Known {
             refuting,
             units,
+            layout,
             usages,
             hints: Vec::new(alloc),
         })

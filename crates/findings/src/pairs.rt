@@ -12,7 +12,7 @@ use crate::task::{Effort, SliceTask};
 use book_model::Book;
 use clausify::Asked;
 use pb_base::Memory;
-use slice_hints::{Sets, by_second, is_pair, may_be_met, pairs_at};
+use slice_hints::{Sets, by_second, implied, is_pair, may_be_met, pairs_at};
 use solver::Solver;
 use std::alloc::Global;
 
@@ -28,7 +28,7 @@ pub(crate) fn answer_pairs(
     asked: &[Asked],
     solver: &mut Solver,
     sets: &mut Sets,
-    known: &mut Known,
+    known: &mut Known<'_>,
 ) -> Result<(), Memory>
     requires task { IsTask book.now task }
     requires asked { All (IsAsked book.now task.slice) asked.now }
@@ -71,7 +71,7 @@ fn refute_pairs(
     alloc: Global,
     solver: &mut Solver,
     sets: &Sets,
-    known: &mut Known,
+    known: &mut Known<'_>,
     asked: &[Asked],
     place: usize,
 ) -> Result<(), Memory>
@@ -89,7 +89,7 @@ fn refute_alone(
     alloc: Global,
     solver: &mut Solver,
     sets: &Sets,
-    known: &mut Known,
+    known: &mut Known<'_>,
     pairs: &[Asked],
 ) -> Result<(), Memory>
     ensures { Onwards solver.old solver.new }
@@ -104,7 +104,7 @@ fn refute_alone(
 fn refute_each(
     solver: &mut Solver,
     sets: &Sets,
-    known: &mut Known,
+    known: &mut Known<'_>,
     pairs: &[Asked],
     way: Way,
 ) -> Result<(), Memory>
@@ -129,7 +129,7 @@ enum Way {
 fn refute_pair(
     solver: &mut Solver,
     sets: &Sets,
-    known: &mut Known,
+    known: &mut Known<'_>,
     pair: &Asked,
     way: Way,
 ) -> Result<(), Memory>
@@ -138,15 +138,15 @@ fn refute_pair(
     if !known.units.is_open(pair.goal) || may_be_met(sets, pair) {
         return Ok(());
     }
-    let Some(implied) = known.units.implied(solver.kernel().pool(), pair.goal) else {
+    let Some(two) = implied(&known.layout.gates, pair.goal) else {
         return Ok(());
     };
     let found = match way {
-        Way::First => known.refuting.refute(solver, pair.goal, &implied[0])?,
-        Way::Second => known.refuting.refute(solver, pair.goal, &implied[1])?,
+        Way::First => known.refuting.refute(solver, pair.goal, &two.first)?,
+        Way::Second => known.refuting.refute(solver, pair.goal, &two.second)?,
         Way::Both => known
             .refuting
-            .refute_both(solver, pair.goal, &implied[0], &implied[1])?,
+            .refute_both(solver, pair.goal, &two.first, &two.second)?,
     };
     if let Some(at) = found {
         known.units.put(pair.goal, at);

@@ -4,6 +4,7 @@ ghost use Rattle.chains.specs.Growth.{Grows};
 ghost use Rattle.solver.specs.Solver.{Onwards};
 
 use clause_pool::{Kernel, Lit, Ref};
+use clausify::Gates;
 use pb_base::Memory;
 use preparing::{Implied, Refuter};
 use propagate::Engine;
@@ -23,18 +24,19 @@ enum Derived {
 
 /// A refuter of the goals of a solver. What it answers is a hint: a clause is looked at before it counts.
 #[derive(Drop)]
-pub(crate) struct Refuting {
+pub(crate) struct Refuting<'a> {
     alloc: Global,
+    gates: &'a Gates,
     refuter: Refuter,
     next: Derived,
     found: Option<Ref>,
 }
 
-impl Deriver for Refuting {
+impl<'a> Deriver for Refuting<'a> {
     fn derive(&mut self, kernel: &mut Kernel, engine: &Engine) -> Result<(), Memory> {
         let next = self.next;
         match next {
-            Derived::Shared(vars) => self.refuter.share(self.alloc, kernel, vars),
+            Derived::Shared(vars) => self.refuter.share(self.alloc, kernel, self.gates, vars),
             Derived::False(goal, implied) => {
                 self.found = self.refuter.close_false(kernel, engine, goal, &[implied])?;
                 Ok(())
@@ -50,13 +52,19 @@ impl Deriver for Refuting {
     }
 }
 
-impl Refuting {
-    /// A refuter for a solver, once what its clauses say of disjunctions is derived.
-    pub(crate) fn of(alloc: Global, solver: &mut Solver, codes: u32) -> Result<Refuting, Memory>
+impl<'a> Refuting<'a> {
+    /// A refuter for a solver, once what its clauses, which have these gates, say of disjunctions is derived.
+    pub(crate) fn of(
+        alloc: Global,
+        solver: &mut Solver,
+        gates: &'a Gates,
+        codes: u32,
+    ) -> Result<Refuting<'a>, Memory>
         ensures { Onwards solver.old solver.new }
     {
         let mut refuting = Refuting {
             alloc,
+            gates,
             refuter: Refuter::new(alloc, codes),
             next: Derived::Shared(solver.vars()),
             found: None,

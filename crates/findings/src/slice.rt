@@ -25,7 +25,7 @@ use crate::report::{Note, is_fault, is_left};
 use crate::task::{SliceTask, is_asked};
 use book_model::{Book, Slice};
 use clause_pool::{Kernel, Lit, Pool, Ref};
-use clausify::{Asked, Coded, Question, coded_slice};
+use clausify::{Asked, Coded, LaidSlice, Layout, Question, laid_slice};
 use derivation::{Closing, SliceProof};
 use pb_base::{CodeSet, Day, Memory};
 use slice_hints::{Found, Sets, found_with};
@@ -71,12 +71,14 @@ pub(crate) fn check_slice(
     ensures notes { IfOk result (λ c. SliceNotes (inquiry book.now task.effort) task.slice c.notes.items) }
     ensures proof { IfOk result (λ c. ShowsUnlessStopped book.now task.slice c.notes.items c.proof) }
 {
-    let coded = coded_slice(alloc, book, &task.slice)?;
+    let laid = laid_slice(alloc, book, &task.slice)?;
+    let LaidSlice { coded, layout } = laid;
     let Coded {
         pool,
         vars,
         questions,
     } = coded;
+    earlier.chains.go_on(layout);
     check_coded(alloc, book, task, pool, vars, &questions, earlier)
 }
 
@@ -354,7 +356,8 @@ fn ask_later(
         solver.new.kernel.clauses) }
 {
     let mut sets = first_sets(alloc, book, &task.slice, set, &mut earlier.sets)?;
-    let told = ask_with(alloc, book, task, later, solver, &mut sets)?;
+    let layout = earlier.chains.layout();
+    let told = ask_with(alloc, book, task, later, layout, solver, &mut sets)?;
     sets.hand_on(&mut earlier.sets)?;
     Ok(told)
 }
@@ -434,6 +437,7 @@ fn ask_with(
     book: &Book,
     task: SliceTask,
     later: &[Asked],
+    layout: &Layout,
     solver: &mut Solver,
     sets: &mut Sets,
 ) -> Result<Told, Memory>
@@ -447,7 +451,7 @@ fn ask_with(
     ensures told { IfOk result (λ told. AreTold (inquiry book.now task.effort) task.slice later.now told
         solver.new.kernel.clauses) }
 {
-    let mut known = Known::of(alloc, book, later, solver)?;
+    let mut known = Known::of(alloc, book, later, layout, solver)?;
     answer_pairs(alloc, book, task, later, solver, sets, &mut known)?;
     ask_each(alloc, book, task, later, solver, sets, &mut known)
 }
@@ -461,7 +465,7 @@ fn ask_each(
     later: &[Asked],
     solver: &mut Solver,
     sets: &mut Sets,
-    known: &mut Known,
+    known: &mut Known<'_>,
 ) -> Result<Told, Memory>
     requires task { IsTask book.now task }
     requires asked { All (IsAsked book.now task.slice) later.now }

@@ -3,9 +3,10 @@
 //! speaks of it.
 ghost use Rattle.chains.specs.Growth.{Grows};
 
-use crate::gates::{Gates, Part};
+use crate::gates::{Part, parts, place};
 use chains::derive;
 use clause_pool::{Kernel, Lit, Pair, Pool, Ref};
+use clausify::Gates;
 use pb_base::Memory;
 use std::alloc::Global;
 
@@ -75,7 +76,7 @@ fn exclusion_at(pool: &Pool, at: Ref, gates: &Gates, codes: u32) -> Option<Exclu
     if code.var() >= codes {
         return None;
     }
-    gates.place(disjunction)?;
+    place(gates, disjunction)?;
     Some(Exclusion {
         code,
         disjunction,
@@ -124,7 +125,7 @@ fn exclude_leaves(
 ) -> Result<(), Memory>
     ensures { Grows kernel.old kernel.new }
 {
-    take_apart(kernel.pool(), gates, exclusion.disjunction, pieces)?;
+    take_apart(gates, exclusion.disjunction, pieces)?;
     if pieces.len() < FEWEST_PIECES || pieces.len() > MOST_PIECES {
         return Ok(());
     }
@@ -136,34 +137,28 @@ fn exclude_leaves(
 }
 
 // Leaves the parts of a disjunction, the outer ones first, and those of its parts.
-fn take_apart(
-    pool: &Pool,
-    gates: &Gates,
-    disjunction: Lit,
-    pieces: &mut Vec<Piece>,
-) -> Result<(), Memory> {
+fn take_apart(gates: &Gates, disjunction: Lit, pieces: &mut Vec<Piece>) -> Result<(), Memory> {
     pieces.clear();
-    put_parts(pool, gates, disjunction, None, pieces)?;
+    put_parts(gates, disjunction, None, pieces)?;
     for n in 0..MOST_PIECES {
         let Some(piece) = pieces.get(n).copied() else {
             return Ok(());
         };
-        put_parts(pool, gates, piece.part.lit, Some(n), pieces)?;
+        put_parts(gates, piece.part.lit, Some(n), pieces)?;
     }
     Ok(())
 }
 
 fn put_parts(
-    pool: &Pool,
     gates: &Gates,
     lit: Lit,
     within: Option<usize>,
     pieces: &mut Vec<Piece>,
 ) -> Result<(), Memory> {
-    let Some(parts) = gates.parts(pool, lit) else {
+    let Some(two) = parts(gates, lit) else {
         return Ok(());
     };
-    for part in parts {
+    for part in two {
         pieces.push(Piece {
             part,
             within,

@@ -6,6 +6,7 @@ use crate::refute::{Implied, Walk, close_conflict, close_false};
 use crate::share::share_disjunctions;
 use crate::shortcut::Shortcuts;
 use clause_pool::{Kernel, Lit, Ref};
+use clausify::Gates;
 use pb_base::Memory;
 use propagate::Engine;
 use std::alloc::Global;
@@ -34,11 +35,18 @@ impl Refuter {
         self.shortcuts.forget();
     }
 
-    /// Derives what the given clauses, over so many variables, say of codes that exclude each other and of disjunctions.
-    pub fn share(&mut self, alloc: Global, kernel: &mut Kernel, vars: u32) -> Result<(), Memory>
+    /// Derives what the given clauses, over so many variables with these gates, say of codes that exclude each other and of
+    /// disjunctions.
+    pub fn share(
+        &mut self,
+        alloc: Global,
+        kernel: &mut Kernel,
+        gates: &Gates,
+        vars: u32,
+    ) -> Result<(), Memory>
         ensures { Grows kernel.old kernel.new }
     {
-        let sharing = share_disjunctions(alloc, kernel, self.codes, vars)?;
+        let sharing = share_disjunctions(alloc, kernel, gates, self.codes, vars)?;
         self.shortcuts.lead_to(sharing);
         Ok(())
     }

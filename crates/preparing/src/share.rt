@@ -4,9 +4,10 @@ ghost use Rattle.std.specs.Prelude.{◌≤◌, length};
 ghost use Rattle.chains.specs.Growth.{Grows};
 
 use crate::exclude::exclude_codes;
-use crate::gates::Gates;
+use crate::gates::{parts, place};
 use chains::derive;
-use clause_pool::{Kernel, Lit, Pair, Pool, Ref};
+use clause_pool::{Kernel, Lit, Pair, Ref};
+use clausify::Gates;
 use pb_base::Memory;
 use std::alloc::Global;
 
@@ -70,24 +71,29 @@ fn put(firsts: &mut [u32], var: u32, first: u32) {
 pub(crate) fn share_disjunctions(
     alloc: Global,
     kernel: &mut Kernel,
+    gates: &Gates,
     codes: u32,
     vars: u32,
 ) -> Result<Sharing, Memory>
     ensures { Grows kernel.old kernel.new }
 {
-    let gates = Gates::of(alloc, kernel.pool(), kernel.given(), codes, vars)?;
-    exclude_codes(alloc, kernel, &gates, codes)?;
-    share_all(alloc, kernel, &gates)
+    exclude_codes(alloc, kernel, gates, codes)?;
+    share_all(alloc, kernel, gates, vars)
 }
 
 // Derives what disjunctions of the same literals say of each other.
 #[tactic(auto, using(chains::proofs::GrowthLaws::grows_same))]
-fn share_all(alloc: Global, kernel: &mut Kernel, gates: &Gates) -> Result<Sharing, Memory>
+fn share_all(
+    alloc: Global,
+    kernel: &mut Kernel,
+    gates: &Gates,
+    vars: u32,
+) -> Result<Sharing, Memory>
     ensures { Grows kernel.old kernel.new }
 {
-    let all = disjunctions(alloc, kernel.pool(), gates)?;
+    let all = disjunctions(alloc, gates, vars)?;
     let known = Known::of(alloc, kernel)?;
-    let mut sharing = Sharing::none(alloc, gates.vars())?;
+    let mut sharing = Sharing::none(alloc, vars)?;
     let mut pairs = Vec::new(alloc);
     let mut next: usize = 0;
     for at in 0..all.len() {
@@ -182,15 +188,15 @@ fn same_in_front(first: &Disjunction, others: &[Disjunction]) -> usize
 }
 
 // All that are no parts of others, those of the same literals side by side.
-fn disjunctions(alloc: Global, pool: &Pool, gates: &Gates) -> Result<Vec<Disjunction>, Memory> {
-    let is_part = parts_of(alloc, pool, gates)?;
+fn disjunctions(alloc: Global, gates: &Gates, vars: u32) -> Result<Vec<Disjunction>, Memory> {
+    let is_part = parts_among(alloc, gates, vars)?;
     let mut all = Vec::new(alloc);
-    for var in 0..gates.vars() {
+    for var in 0..vars {
         let lit = Lit::new(var, true);
-        if gates.place(lit).is_none() || is_part.get(var as usize) == Some(&true) {
+        if place(gates, lit).is_none() || is_part.get(var as usize) == Some(&true) {
             continue;
         }
-        let leaves = leaves_of(alloc, pool, gates, lit)?;
+        let leaves = leaves_of(alloc, gates, lit)?;
         all.push(Disjunction { var, leaves })?;
     }
     all.sort_unstable_by(|one, other| {
@@ -200,13 +206,13 @@ fn disjunctions(alloc: Global, pool: &Pool, gates: &Gates) -> Result<Vec<Disjunc
 }
 
 // By variable, whether it is a part of a disjunction.
-fn parts_of(alloc: Global, pool: &Pool, gates: &Gates) -> Result<Vec<bool>, Memory> {
-    let mut is_part = vec![in alloc; false; gates.vars() as usize]?;
-    for var in 0..gates.vars() {
-        let Some(parts) = gates.parts(pool, Lit::new(var, true)) else {
+fn parts_among(alloc: Global, gates: &Gates, vars: u32) -> Result<Vec<bool>, Memory> {
+    let mut is_part = vec![in alloc; false; vars as usize]?;
+    for var in 0..vars {
+        let Some(two) = parts(gates, Lit::new(var, true)) else {
             continue;
         };
-        for part in parts {
+        for part in two {
             if part.lit.positive() {
                 mark(&mut is_part, part.lit.var());
             }
@@ -216,17 +222,17 @@ fn parts_of(alloc: Global, pool: &Pool, gates: &Gates) -> Result<Vec<bool>, Memo
 }
 
 // What a disjunction is of, in order, where parts that are disjunctions are taken apart too.
-fn leaves_of(alloc: Global, pool: &Pool, gates: &Gates, lit: Lit) -> Result<Vec<Lit>, Memory> {
+fn leaves_of(alloc: Global, gates: &Gates, lit: Lit) -> Result<Vec<Lit>, Memory> {
     let mut leaves = Vec::new(alloc);
     let mut open = Vec::new(alloc);
     open.push(lit)?;
-    for _ in 0..pool.len() {
+    for _ in 0..most_parts(gates) {
         let Some(lit) = open.pop() else {
             break;
         };
-        match gates.parts(pool, lit) {
-            Some(parts) => {
-                for part in parts {
+        match parts(gates, lit) {
+            Some(two) => {
+                for part in two {
                     open.push(part.lit)?;
                 }
             }
@@ -235,6 +241,11 @@ fn leaves_of(alloc: Global, pool: &Pool, gates: &Gates, lit: Lit) -> Result<Vec<
     }
     leaves.sort_unstable();
     Ok(leaves)
+}
+
+// No disjunction has more parts, with those of its parts and itself: each that is taken apart has two.
+fn most_parts(gates: &Gates) -> usize {
+    gates.list.len().saturating_mul(2).saturating_add(1)
 }
 
 impl Known {
@@ -283,14 +294,14 @@ fn take_apart(
     ensures { Grows kernel.old kernel.new }
 {
     let lit = Lit::new(one.var, true);
-    let Some(start) = gates.place(lit) else {
+    let Some(start) = place(gates, lit) else {
         return Ok(None);
     };
     if known.has(one.var, one.var) {
         return Ok(None);
     }
     pairs.clear();
-    put_apart(kernel.pool(), gates, lit, pairs)?;
+    put_apart(gates, lit, pairs)?;
     derive(kernel, start, pairs)
 }
 
@@ -312,43 +323,38 @@ fn imply(
         return Ok(());
     }
     let lit = Lit::new(one.var, true);
-    let Some(start) = whole.or(gates.place(lit)) else {
+    let Some(start) = whole.or(place(gates, lit)) else {
         return Ok(());
     };
     pairs.clear();
     if whole.is_none() {
-        put_apart(kernel.pool(), gates, lit, pairs)?;
+        put_apart(gates, lit, pairs)?;
     }
-    put_together(kernel.pool(), gates, Lit::new(other.var, true), pairs)?;
+    put_together(gates, Lit::new(other.var, true), pairs)?;
     derive(kernel, start, pairs)?;
     Ok(())
 }
 
 // Puts down the pairs that take a disjunction apart, the outer ones first.
-fn put_apart(pool: &Pool, gates: &Gates, lit: Lit, pairs: &mut Vec<Pair>) -> Result<(), Memory> {
+fn put_apart(gates: &Gates, lit: Lit, pairs: &mut Vec<Pair>) -> Result<(), Memory> {
     let mut next = pairs.len();
-    put_parts_apart(pool, gates, lit, pairs)?;
-    for _ in 0..pool.len() {
+    put_parts_apart(gates, lit, pairs)?;
+    for _ in 0..most_parts(gates) {
         let Some(pair) = pairs.get(next).copied() else {
             return Ok(());
         };
-        put_parts_apart(pool, gates, pair.lit, pairs)?;
+        put_parts_apart(gates, pair.lit, pairs)?;
         next += 1;
     }
     Ok(())
 }
 
-fn put_parts_apart(
-    pool: &Pool,
-    gates: &Gates,
-    lit: Lit,
-    pairs: &mut Vec<Pair>,
-) -> Result<(), Memory> {
-    let Some(parts) = gates.parts(pool, lit) else {
+fn put_parts_apart(gates: &Gates, lit: Lit, pairs: &mut Vec<Pair>) -> Result<(), Memory> {
+    let Some(two) = parts(gates, lit) else {
         return Ok(());
     };
-    for part in parts {
-        if let Some(with) = gates.place(part.lit) {
+    for part in two {
+        if let Some(with) = place(gates, part.lit) {
             pairs.push(Pair {
                 lit: part.lit,
                 with,
@@ -359,15 +365,15 @@ fn put_parts_apart(
 }
 
 // Puts down the pairs that put a disjunction together from its literals, the inner ones first.
-fn put_together(pool: &Pool, gates: &Gates, lit: Lit, pairs: &mut Vec<Pair>) -> Result<(), Memory> {
+fn put_together(gates: &Gates, lit: Lit, pairs: &mut Vec<Pair>) -> Result<(), Memory> {
     let first = pairs.len();
     let mut next = first;
-    put_parts_together(pool, gates, lit, pairs)?;
-    for _ in 0..pool.len() {
+    put_parts_together(gates, lit, pairs)?;
+    for _ in 0..most_parts(gates) {
         let Some(pair) = pairs.get(next).copied() else {
             break;
         };
-        put_parts_together(pool, gates, pair.lit, pairs)?;
+        put_parts_together(gates, pair.lit, pairs)?;
         next += 1;
     }
     if first < pairs.len() {
@@ -376,16 +382,11 @@ fn put_together(pool: &Pool, gates: &Gates, lit: Lit, pairs: &mut Vec<Pair>) -> 
     Ok(())
 }
 
-fn put_parts_together(
-    pool: &Pool,
-    gates: &Gates,
-    lit: Lit,
-    pairs: &mut Vec<Pair>,
-) -> Result<(), Memory> {
-    let Some(parts) = gates.parts(pool, lit) else {
+fn put_parts_together(gates: &Gates, lit: Lit, pairs: &mut Vec<Pair>) -> Result<(), Memory> {
+    let Some(two) = parts(gates, lit) else {
         return Ok(());
     };
-    for part in parts {
+    for part in two {
         pairs.push(Pair {
             lit: part.lit,
             with: part.by,

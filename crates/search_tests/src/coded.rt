@@ -23,8 +23,8 @@ position,P1,MOT,mandatory,,\n\
 variant,V1,P1,A100,1,M1,,\n\
 variant,V2,P1,A200,1,M2,,";
 
-// The book of a text that says one.
-fn book_of(alloc: Global, text: &[u8]) -> Result<Book, Fail> {
+/// The book of a text that says one.
+pub(crate) fn book_of(alloc: Global, text: &[u8]) -> Result<Book, Fail> {
     let Ok(book) = read_book(alloc, text) else {
         return Err(Fail::from("no book"));
     };

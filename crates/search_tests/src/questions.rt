@@ -4,6 +4,7 @@ ghost use Rattle.clause_pool.specs.Clause.{AreBelow, IsBelow};
 ghost use Rattle.pb_base.specs.declared.limits.TheConstants.{MOST_BUDGET};
 
 use clause_pool::{Kernel, Lit, Pool, Ref};
+use clausify::{Gate, Gates, Joint};
 use pb_base::Memory;
 use preparing::{Implied, Refuter};
 use propagate::Engine;
@@ -102,23 +103,40 @@ fn implied() -> [Implied; 2] {
     [first, second]
 }
 
+// The first variable of a disjunction.
+const FIRST: u32 = 6;
+
+// A disjunction whose clauses begin at a place.
+fn either(left: u32, right: u32, clause: Ref) -> Gate {
+    Gate {
+        joint: Joint::Any,
+        left: Lit::new(left, true),
+        right: Lit::new(right, true),
+        clause,
+    }
+}
+
 // Shares disjunctions, and once a clause is false refutes the goal 9 by it.
 #[derive(Drop)]
 struct Preparing {
     alloc: Global,
+    gates: Gates,
     refuter: Refuter,
     conflict: Option<Ref>,
     found: Option<Ref>,
 }
 
 impl Preparing {
-    fn new(alloc: Global) -> Preparing {
-        Preparing {
+    fn new(alloc: Global, gates: &[Gate]) -> Result<Preparing, Memory> {
+        let mut list = Vec::new(alloc);
+        list.extend_from_slice(gates)?;
+        Ok(Preparing {
             alloc,
+            gates: Gates { first: FIRST, list },
             refuter: Refuter::new(alloc, 5),
             conflict: None,
             found: None,
-        }
+        })
     }
 }
 
@@ -132,7 +150,7 @@ impl Deriver for Preparing {
                     .close_conflict(kernel, engine, goal, &implied(), at)?;
                 Ok(())
             }
-            None => self.refuter.share(self.alloc, kernel, 36),
+            None => self.refuter.share(self.alloc, kernel, &self.gates, 36),
         }
     }
 }
@@ -158,7 +176,7 @@ fn is_shared_and_refuted(solver: &mut Solver, preparing: &mut Preparing) -> Resu
 #[test]
 fn a_question_of_two_literals(rt: HostRuntime) -> Result<(), Fail> {
     let mut solver = solver_of(rt.alloc(), SHARED)?;
-    let mut preparing = Preparing::new(rt.alloc());
+    let mut preparing = Preparing::new(rt.alloc(), &[either(0, 1, 0), either(0, 1, 3)])?;
     let refuted = is_shared_and_refuted(&mut solver, &mut preparing);
     assert!(rt; matches!(refuted, Ok(true)));
     Ok(())
@@ -194,7 +212,8 @@ fn are_excluded(solver: &mut Solver, preparing: &mut Preparing) -> Result<bool, 
 #[test]
 fn a_code_that_excludes_four(rt: HostRuntime) -> Result<(), Fail> {
     let mut solver = solver_of(rt.alloc(), EXCLUDING)?;
-    let mut preparing = Preparing::new(rt.alloc());
+    let gates = [either(1, 2, 0), either(6, 3, 3), either(7, 4, 6)];
+    let mut preparing = Preparing::new(rt.alloc(), &gates)?;
     let excluded = are_excluded(&mut solver, &mut preparing);
     assert!(rt; matches!(excluded, Ok(true)));
     Ok(())

@@ -1,18 +1,22 @@
 //! What the kernel of a slice derived, handed on to the next one. No answer hangs on it.
 ghost use Rattle.chains.specs.Growth.{Grows};
 
-use crate::moves::{Days, Moves};
+use crate::moves::{Days, Layouts, Moves};
 use book_model::{Book, Slice};
 use chains::{Trace, derive_again};
 use clause_pool::Kernel;
+use clausify::{Gates, Layout, Start};
 use pb_base::{Day, Memory};
 use std::alloc::Global;
 use std::mem::replace;
 
-/// The chains of the latest slice, and its first day.
+/// The chains of the latest slice, its first day and its layout.
 #[derive(Drop)]
 pub struct EarlierChains {
     day: Day,
+    before: Layout,
+    // That of the slice that is asked now.
+    now: Layout,
     trace: Trace,
 }
 
@@ -21,8 +25,20 @@ impl EarlierChains {
     pub fn none(alloc: Global) -> EarlierChains {
         EarlierChains {
             day: 0,
+            before: no_layout(alloc),
+            now: no_layout(alloc),
             trace: Trace::none(alloc),
         }
+    }
+
+    /// Goes on to a slice of this layout.
+    pub fn go_on(&mut self, layout: Layout) {
+        self.before = replace(&mut self.now, layout);
+    }
+
+    /// The layout of the slice that is asked now.
+    pub fn layout(&self) -> &Layout {
+        &self.now
     }
 
     /// Hands on what the kernel of a slice derived, unless it is the last one of the book.
@@ -46,6 +62,7 @@ impl EarlierChains {
         ensures { Grows kernel.old kernel.new }
     {
         let trace = replace(&mut self.trace, Trace::none(alloc));
+        let before = replace(&mut self.before, no_layout(alloc));
         if trace.len() == 0 {
             return Ok(());
         }
@@ -53,7 +70,11 @@ impl EarlierChains {
             before: self.day,
             now: slice.first,
         };
-        derive_moved(alloc, book, days, kernel, &trace)
+        let layouts = Layouts {
+            before: &before,
+            now: &self.now,
+        };
+        derive_moved(alloc, book, days, layouts, kernel, &trace)
     }
 }
 
@@ -63,11 +84,26 @@ fn derive_moved(
     alloc: Global,
     book: &Book,
     days: Days,
+    layouts: Layouts<'_>,
     kernel: &mut Kernel,
     trace: &Trace,
 ) -> Result<(), Memory>
     ensures { Grows kernel.old kernel.new }
 {
-    let mut moves = Moves::of(alloc, book, days)?;
+    let mut moves = Moves::of(alloc, book, days, layouts)?;
     derive_again(alloc, kernel, trace, &mut moves)
+}
+
+// The layout of no clauses. It takes no memory.
+fn no_layout(alloc: Global) -> Layout {
+    let gates = Gates {
+        first: 0,
+        list: Vec::new(alloc),
+    };
+    let goals = Start { var: 0, clause: 0 };
+    Layout {
+        gates,
+        starts: Vec::new(alloc),
+        goals,
+    }
 }

@@ -1,1 +1,2 @@
+pub mod ImpliedLaws
 pub mod UsageLaws

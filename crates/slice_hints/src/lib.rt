@@ -4,6 +4,7 @@
 
 mod found;
 mod guiding;
+mod implying;
 mod pairs;
 mod sets;
 mod units;
@@ -11,6 +12,7 @@ mod usages;
 
 pub use found::{Found, found_with};
 pub use guiding::guide;
+pub use implying::{BothImplied, implied};
 pub use pairs::{by_second, is_pair, may_be_met, pairs_at};
 pub use sets::Sets;
 pub use units::Units;

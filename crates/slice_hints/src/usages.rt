@@ -1,6 +1,6 @@
 //! The questions of single variants, and which variables their formulas have.
 use book_model::Book;
-use clausify::{Asked, Question};
+use clausify::{Asked, Layout, Question};
 use pb_base::Memory;
 use std::alloc::Global;
 
@@ -21,34 +21,21 @@ pub struct Usages {
 }
 
 impl Usages {
-    /// Those among the questions of a slice.
-    pub fn of(alloc: Global, book: &Book, questions: &[Asked]) -> Result<Usages, Memory> {
-        let mut usages = Usages {
-            asked: Vec::new(alloc),
-            spans: vec![in alloc; None; book.positions().len()]?,
-        };
-        let mut made: Option<u32> = None;
-        for asked in questions {
-            let Question::Superfluous(variant) = asked.question else {
-                continue;
-            };
-            usages.asked.push(*asked)?;
-            let var = asked.goal.var();
-            if var < book.codes().len() {
-                continue;
-            }
-            let until = var.saturating_add(1);
-            // Nothing tells where the very first formula begins, so of that its own variable is taken alone.
-            let span = Span {
-                from: made.unwrap_or(var),
-                until,
-            };
-            made = Some(until);
-            if let Some(variant) = book.variants().get(variant as usize) {
-                widen(&mut usages.spans, variant.position, span);
+    /// Those among the questions of a slice of this layout.
+    pub fn of(
+        alloc: Global,
+        book: &Book,
+        questions: &[Asked],
+        layout: &Layout,
+    ) -> Result<Usages, Memory> {
+        let mut asked = Vec::new(alloc);
+        for one in questions {
+            if let Question::Superfluous(_) = one.question {
+                asked.push(*one)?;
             }
         }
-        Ok(usages)
+        let spans = spans_of(alloc, book, &asked, layout)?;
+        Ok(Usages { asked, spans })
     }
 
     /// The variables of the formulas of a position's variants, if they have any.
@@ -58,6 +45,42 @@ impl Usages {
             None => None,
         }
     }
+}
+
+// The variables of each position's usages. These are the last records of a layout, in the order of their questions.
+fn spans_of(
+    alloc: Global,
+    book: &Book,
+    usages: &[Asked],
+    layout: &Layout,
+) -> Result<Vec<Option<Span>>, Memory> {
+    let mut spans = vec![in alloc; None; book.positions().len()]?;
+    let rules = layout.starts.len().saturating_sub(usages.len());
+    for (number, usage) in usages.iter().enumerate() {
+        let Question::Superfluous(variant) = usage.question else {
+            continue;
+        };
+        let Some(variant) = book.variants().get(variant as usize) else {
+            continue;
+        };
+        if let Some(span) = span_of(layout, rules.saturating_add(number)) {
+            widen(&mut spans, variant.position, span);
+        }
+    }
+    Ok(spans)
+}
+
+// The variables of the record whose start has this place.
+fn span_of(layout: &Layout, place: usize) -> Option<Span> {
+    let start = layout.starts.get(place)?;
+    let end = layout
+        .starts
+        .get(place.saturating_add(1))
+        .unwrap_or(&layout.goals);
+    Some(Span {
+        from: start.var,
+        until: end.var,
+    })
 }
 
 // These variables are a position's too.
