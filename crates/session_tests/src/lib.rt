@@ -1,5 +1,12 @@
-//! Tests of sessions over holders of the desk: what comes where no step is left.
+//! Tests of sessions: a holder with too few steps, the gate at the judging, and a link that gives a
+//! request only when all before it is answered.
 #![tactic(auto)]
 
 #[cfg(test)]
+mod gate;
+#[cfg(test)]
 mod holders;
+#[cfg(test)]
+mod lock_step;
+#[cfg(test)]
+mod setting;
