@@ -29,6 +29,7 @@ pub fn run_desk<S: Source, K: Sink, P: Keeper, G: Gate>(
     keeper: P,
     gate: &G,
 ) -> DeskRun<P>
+    requires { P.may_begin keeper store.now }
     ensures runs { let link = told (S.input source.old) (K.output sink.old) in
         let link' = told (S.input source.new) (K.output sink.new) in
         let before = outside link (P.told keeper) (P.failures keeper) in
@@ -57,6 +58,7 @@ fn start_and_serve<S: Source, K: Sink, P: Keeper, G: Gate>(
     keeper: P,
     gate: &G,
 ) -> DeskRun<P>
+    requires { P.may_begin keeper store.now }
     ensures { let link = told (S.input source.old) (K.output sink.old) in
         let link' = told (S.input source.new) (K.output sink.new) in
         let before = outside link (P.told keeper) (P.failures keeper) in
