@@ -161,42 +161,38 @@ parses_named : (name literal : List ℕ) (words : Words) → bytes_eq literal na
 parses_named name literal words same n tame =
     subst (λ (x : List ℕ). Parses (x ∷ words)) ((bytes_eq-Decides literal name).0 same) (named literal words n tame)
 
-parses : (name : List ℕ) (words : Words) → is_plain name ≡ true → is_tame words ≡ true → Parses (name ∷ words)
-parses name words plain tame = order (bytes_eq (codes "order") name) refl
+-- the word is this command word, or it isn't
+is_word : (literal name : List ℕ) → (bytes_eq literal name ≡ true) ⊎ (bytes_eq literal name ≡ false)
+is_word literal name = go (bytes_eq literal name) refl
   where
-    last : bytes_eq (codes "order") name ≡ false → bytes_eq (codes "check") name ≡ false → bytes_eq (codes "prove") name ≡ false
-        → bytes_eq (codes "verify") name ≡ false → bytes_eq (codes "desk") name ≡ false → bytes_eq (codes "serve") name ≡ false
-        → (t : Bool) → bytes_eq (codes "sample") name ≡ t → Parses (name ∷ words)
-    last a b c d e f true g = parses_named name (codes "sample") words g is_sample tame
-    last a b c d e f false g =
-        other name words (record { order = a; check = b; prove = c; verify = d; desk = e; serve = f; sample = g }) plain
+    go : (t : Bool) → bytes_eq literal name ≡ t → (bytes_eq literal name ≡ true) ⊎ (bytes_eq literal name ≡ false)
+    go true is = inl is
+    go false is = inr is
 
-    serve : bytes_eq (codes "order") name ≡ false → bytes_eq (codes "check") name ≡ false → bytes_eq (codes "prove") name ≡ false
-        → bytes_eq (codes "verify") name ≡ false → bytes_eq (codes "desk") name ≡ false → (t : Bool) → bytes_eq (codes "serve") name ≡ t → Parses (name ∷ words)
-    serve a b c d e true f = parses_named name (codes "serve") words f is_serve tame
-    serve a b c d e false f = last a b c d e f (bytes_eq (codes "sample") name) refl
-
-    desk : bytes_eq (codes "order") name ≡ false → bytes_eq (codes "check") name ≡ false → bytes_eq (codes "prove") name ≡ false
-        → bytes_eq (codes "verify") name ≡ false → (t : Bool) → bytes_eq (codes "desk") name ≡ t → Parses (name ∷ words)
-    desk a b c d true e = parses_named name (codes "desk") words e is_desk tame
-    desk a b c d false e = serve a b c d e (bytes_eq (codes "serve") name) refl
-
-    verify : bytes_eq (codes "order") name ≡ false → bytes_eq (codes "check") name ≡ false → bytes_eq (codes "prove") name ≡ false
-        → (t : Bool) → bytes_eq (codes "verify") name ≡ t → Parses (name ∷ words)
-    verify a b c true d = parses_named name (codes "verify") words d is_verify tame
-    verify a b c false d = desk a b c d (bytes_eq (codes "desk") name) refl
-
-    prove : bytes_eq (codes "order") name ≡ false → bytes_eq (codes "check") name ≡ false → (t : Bool) → bytes_eq (codes "prove") name ≡ t → Parses (name ∷ words)
-    prove a b true c = parses_named name (codes "prove") words c is_prove tame
-    prove a b false c = verify a b c (bytes_eq (codes "verify") name) refl
-
-    check : bytes_eq (codes "order") name ≡ false → (t : Bool) → bytes_eq (codes "check") name ≡ t → Parses (name ∷ words)
-    check a true b = parses_named name (codes "check") words b is_check tame
-    check a false b = prove a b (bytes_eq (codes "prove") name) refl
-
-    order : (t : Bool) → bytes_eq (codes "order") name ≡ t → Parses (name ∷ words)
-    order true a = parses_named name (codes "order") words a is_order tame
-    order false a = check a (bytes_eq (codes "check") name) refl
+parses : (name : List ℕ) (words : Words) → is_plain name ≡ true → is_tame words ≡ true → Parses (name ∷ words)
+parses name words plain tame =
+    elim (is_word (codes "order") name) [
+      | inl is ↦ parses_named name (codes "order") words is is_order tame
+      | inr order ↦ elim (is_word (codes "check") name) [
+        | inl is ↦ parses_named name (codes "check") words is is_check tame
+        | inr check ↦ elim (is_word (codes "prove") name) [
+          | inl is ↦ parses_named name (codes "prove") words is is_prove tame
+          | inr prove ↦ elim (is_word (codes "verify") name) [
+            | inl is ↦ parses_named name (codes "verify") words is is_verify tame
+            | inr verify ↦ elim (is_word (codes "desk") name) [
+              | inl is ↦ parses_named name (codes "desk") words is is_desk tame
+              | inr desk ↦ elim (is_word (codes "serve") name) [
+                | inl is ↦ parses_named name (codes "serve") words is is_serve tame
+                | inr serve ↦ elim (is_word (codes "sample") name) [
+                  | inl is ↦ parses_named name (codes "sample") words is is_sample tame
+                  | inr sample ↦ other name words (record { order = order; check = check; prove = prove; verify = verify; desk = desk; serve = serve; sample = sample }) plain
+                ]
+              ]
+            ]
+          ]
+        ]
+      ]
+    ]
 
 prepared_parses : (words : Words) → is_prepared words ≡ true → Parses words
 prepared_parses [] e = let clash : false ≡ true = e in cc
