@@ -3,7 +3,7 @@ ghost use Rattle.std.specs.Prelude.{◌≡◌, ◌≤◌, IfOk, IfSome, option_m
 ghost use Rattle.command_words.specs.Prepared.{lent, lent_option};
 ghost use Rattle.command_words.specs.Meaning.{number_in, codes_of, order_of, budget_of, check_of, only_one, file_of};
 ghost use Rattle.command_words.specs.Meaning.{door_of, serve_of, codes_number, sample_of, asked};
-ghost use Rattle.command_words.specs.declared.command.Command.TheVariants.{Check, Prove, Verify, Desk};
+ghost use Rattle.command_words.specs.declared.command.Command.TheVariants.{Check, Prove, Verify, Desk, Supplements};
 
 use crate::command::Command;
 use crate::file_name::FileName;
@@ -35,6 +35,8 @@ pub fn asked(
         serve_of(alloc, budget, operands)
     } else if name == "sample" {
         Ok(sample_of(budget, operands))
+    } else if name == "supplements" {
+        Ok(supplements_of(budget, operands))
     } else {
         Ok(None)
     }
@@ -94,6 +96,16 @@ fn prove_of(budget: Option<&str>, operands: &[&str]) -> Option<Command>
     }
     let budget = budget_of(budget)?;
     Some(Command::Prove { budget })
+}
+
+fn supplements_of(budget: Option<&str>, operands: &[&str]) -> Option<Command>
+    ensures { result ≡ check_of Supplements (lent_option budget.entry) (lent operands.now) }
+{
+    if !operands.is_empty() {
+        return None;
+    }
+    let budget = budget_of(budget)?;
+    Some(Command::Supplements { budget })
 }
 
 // The most work for one question, which is 10,000 where the words say none.

@@ -41,6 +41,10 @@ pub enum Command {
         codes: u32,
         orders: u32,
     },
+    /// Whether the supplementing rules of a book do what their authors meant. The budget is the most work for one question.
+    Supplements {
+        budget: u32,
+    },
 }
 
 /// The words ask for no command.

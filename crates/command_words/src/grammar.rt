@@ -14,7 +14,14 @@ pub fn grammar<'a>(alloc: Global) -> Result<Command<'a>, Memory>
     ensures { IfOk result (λ command. app_of command ≡ grammar) }
 {
     let names = [
-        "order", "check", "prove", "verify", "desk", "serve", "sample",
+        "order",
+        "check",
+        "prove",
+        "verify",
+        "desk",
+        "serve",
+        "sample",
+        "supplements",
     ];
     with_forms(alloc, top(alloc), &names)
 }

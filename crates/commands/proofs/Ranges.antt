@@ -9,7 +9,7 @@ use Rattle.book_sample.specs.Law.{MaySample}
 use Rattle.command_words.specs.Meaning.{IsForm, asked, number_in, codes_of, order_of, budget_of, check_of, only_one, file_of, door_of, serve_of, codes_number, sample_of}
 use Rattle.command_words.specs.Parts.{Words}
 use Rattle.command_words.specs.declared.command.Command.{Command}
-use Rattle.command_words.specs.declared.command.Command.TheVariants.{Order, Check, Prove, Verify, Desk, Serve, Sample}
+use Rattle.command_words.specs.declared.command.Command.TheVariants.{Order, Check, Prove, Verify, Desk, Serve, Sample, Supplements}
 use Rattle.commands.specs.Words.{InRange, IsBudget}
 use Rattle.pb_base.specs.declared.limits.TheConstants.{MOST_BUDGET}
 
@@ -106,7 +106,8 @@ asked_fits name budget operands =
     (either (same_name name (codes "verify")) _ _ (file_fits Verify (λ file. tt) budget operands)
     (either (same_name name (codes "desk")) _ _ (file_fits Desk (λ file. tt) budget operands)
     (either (same_name name (codes "serve")) _ _ (serve_fits budget operands)
-    (either (same_name name (codes "sample")) _ _ (sample_fits budget operands) tt))))))
+    (either (same_name name (codes "sample")) _ _ (sample_fits budget operands)
+    (either (same_name name (codes "supplements")) _ _ (check_fits Supplements (λ n h. h) budget operands) tt)))))))
 
 pub form_in_range : (words : Words) (command : Command) → IsForm words command → InRange command
 form_in_range words command f = subst AllInRange f.asks (asked_fits f.name f.budget f.operands)

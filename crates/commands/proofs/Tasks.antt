@@ -22,6 +22,7 @@ task_of (commands.Verify file) = Some (Book (Verify file))
 task_of (commands.Desk store) = Some (Desk store)
 task_of (commands.Serve store port workers links) = None
 task_of (commands.Sample start codes orders) = Some (Sample (record { start = start; codes = codes; orders = orders }))
+task_of (commands.Supplements budget) = None
 
 task_back : (task : Task) → task_of (form_of task) ≡ Some task
 task_back (Book (Order day ordered)) = refl
@@ -43,6 +44,9 @@ no_task command none task e = let clash : None ≡ Some task = sym none ∙ ap t
 
 not_serve : (store : List ℕ) (port workers links : ℕ) → IsTaskOf (commands.Serve store port workers links) None
 not_serve store port workers links = no_task (commands.Serve store port workers links) refl
+
+not_supplements : (budget : ℕ) → IsTaskOf (commands.Supplements budget) None
+not_supplements budget = no_task (commands.Supplements budget) refl
 
 -- what a command's task is, words of the command ask for
 pub means_task : (words : Words) (command : Command) (found : Option Task) → IsForm words command → IsTaskOf command found → Means words found
@@ -66,6 +70,8 @@ by_form words (commands.Serve store port workers links) f =
     inr (means_task words (commands.Serve store port workers links) None f (not_serve store port workers links))
 by_form words (commands.Sample start codes orders) f =
     inl (record { task = Sample (record { start = start; codes = codes; orders = orders }); asks = f })
+by_form words (commands.Supplements budget) f =
+    inr (means_task words (commands.Supplements budget) None f (not_supplements budget))
 
 by_list : (words list : Words) (found : Option Command) → prepared words ≡ Some list → parsed list ≡ found → IsAsked words ⊎ AsksNothing words
 by_list words list None is e = inr (means_nothing words (unread words list is e))

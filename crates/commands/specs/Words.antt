@@ -56,3 +56,4 @@ InRange (commands.Verify file) = Unit {0}
 InRange (commands.Desk store) = Unit {0}
 InRange (commands.Serve store port workers links) = Unit {0}
 InRange (commands.Sample start codes orders) = MaySample codes
+InRange (commands.Supplements budget) = IsBudget budget

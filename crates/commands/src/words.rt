@@ -41,5 +41,6 @@ fn task_of(command: Command) -> Option<Task>
             orders,
         } => Some(Task::Sample(SampleSize::of(start, codes, orders))),
         Command::Serve { .. } => None,
+        Command::Supplements { .. } => None,
     }
 }
