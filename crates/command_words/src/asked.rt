@@ -1,7 +1,7 @@
 //! What a command word asks with a budget and operands.
 ghost use Rattle.std.specs.Prelude.{◌≡◌, ◌≤◌, IfOk, IfSome, option_map};
 ghost use Rattle.command_words.specs.Prepared.{lent, lent_option};
-ghost use Rattle.command_words.specs.Meaning.{number_in, codes_of, order_of, budget_of, check_of, only_one, file_of};
+ghost use Rattle.command_words.specs.Meaning.{number_in, codes_of, order_of, budget_of, check_of, only_one, file_of, compare_of};
 ghost use Rattle.command_words.specs.Meaning.{door_of, serve_of, codes_number, sample_of, asked};
 ghost use Rattle.command_words.specs.declared.command.Command.TheVariants.{Check, Prove, Verify, Desk, Supplements};
 
@@ -37,6 +37,8 @@ pub fn asked(
         Ok(sample_of(budget, operands))
     } else if name == "supplements" {
         Ok(supplements_of(budget, operands))
+    } else if name == "compare" {
+        compare_of(alloc, budget, operands)
     } else {
         Ok(None)
     }
@@ -223,6 +225,26 @@ fn sample_of(budget: Option<&str>, operands: &[&str]) -> Option<Command>
         codes,
         orders,
     })
+}
+
+fn compare_of(
+    alloc: Global,
+    budget: Option<&str>,
+    operands: &[&str],
+) -> Result<Option<Command>, Memory>
+    ensures { IfOk result (λ command. command
+        ≡ compare_of (lent_option budget.entry) (lent operands.now)) }
+{
+    let [day, file] = operands else {
+        return Ok(None);
+    };
+    match (short_number(day.as_bytes()), budget_of(budget)) {
+        (Some(day), Some(budget)) => {
+            let file = FileName::of(alloc, file)?;
+            Ok(Some(Command::Compare { day, file, budget }))
+        }
+        _ => Ok(None),
+    }
 }
 
 fn codes_number(text: &str) -> Option<u32>

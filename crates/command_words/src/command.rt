@@ -45,6 +45,12 @@ pub enum Command {
     Supplements {
         budget: u32,
     },
+    /// What changes on this day with the book in this file. The budget is the most work for one question.
+    Compare {
+        day: Day,
+        file: FileName,
+        budget: u32,
+    },
 }
 
 /// The words ask for no command.

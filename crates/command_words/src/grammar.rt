@@ -22,6 +22,7 @@ pub fn grammar<'a>(alloc: Global) -> Result<Command<'a>, Memory>
         "serve",
         "sample",
         "supplements",
+        "compare",
     ];
     with_forms(alloc, top(alloc), &names)
 }
