@@ -42,7 +42,7 @@ abbrev pub with_forms : App → Words → App
 with_forms = fold with_form
 
 abbrev pub command_words : Words
-command_words = codes "order" ∷ codes "check" ∷ codes "prove" ∷ codes "verify" ∷ codes "desk" ∷ codes "serve" ∷ codes "sample" ∷ codes "supplements" ∷ codes "compare" ∷ []
+command_words = codes "order" ∷ codes "check" ∷ codes "prove" ∷ codes "verify" ∷ codes "desk" ∷ codes "serve" ∷ codes "sample" ∷ codes "supplements" ∷ codes "compare" ∷ codes "rejudge" ∷ []
 
 abbrev pub grammar : App
 grammar = with_forms top command_words

@@ -1,7 +1,7 @@
 //! What a command word asks with a budget and operands.
 ghost use Rattle.std.specs.Prelude.{◌≡◌, ◌≤◌, IfOk, IfSome, option_map};
 ghost use Rattle.command_words.specs.Prepared.{lent, lent_option};
-ghost use Rattle.command_words.specs.Meaning.{number_in, codes_of, order_of, budget_of, check_of, only_one, file_of, compare_of};
+ghost use Rattle.command_words.specs.Meaning.{number_in, codes_of, order_of, budget_of, check_of, only_one, file_of, compare_of, rejudge_of};
 ghost use Rattle.command_words.specs.Meaning.{door_of, serve_of, codes_number, sample_of, asked};
 ghost use Rattle.command_words.specs.declared.command.Command.TheVariants.{Check, Prove, Verify, Desk, Supplements};
 
@@ -39,6 +39,8 @@ pub fn asked(
         Ok(supplements_of(budget, operands))
     } else if name == "compare" {
         compare_of(alloc, budget, operands)
+    } else if name == "rejudge" {
+        rejudge_of(alloc, budget, operands)
     } else {
         Ok(None)
     }
@@ -242,6 +244,33 @@ fn compare_of(
         (Some(day), Some(budget)) => {
             let file = FileName::of(alloc, file)?;
             Ok(Some(Command::Compare { day, file, budget }))
+        }
+        _ => Ok(None),
+    }
+}
+
+fn rejudge_of(
+    alloc: Global,
+    budget: Option<&str>,
+    operands: &[&str],
+) -> Result<Option<Command>, Memory>
+    ensures { IfOk result (λ command. command
+        ≡ rejudge_of (lent_option budget.entry) (lent operands.now)) }
+{
+    if budget.is_some() {
+        return Ok(None);
+    }
+    let [store, book, workers] = operands else {
+        return Ok(None);
+    };
+    match (number_in(book, 1, u32::MAX), number_in(workers, 1, 16)) {
+        (Some(book), Some(workers)) => {
+            let store = FileName::of(alloc, store)?;
+            Ok(Some(Command::Rejudge {
+                store,
+                book,
+                workers,
+            }))
         }
         _ => Ok(None),
     }

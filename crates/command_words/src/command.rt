@@ -51,6 +51,12 @@ pub enum Command {
         file: FileName,
         budget: u32,
     },
+    /// What the orders that this store keeps come to by this book, judged by so many workers.
+    Rejudge {
+        store: FileName,
+        book: u32,
+        workers: u32,
+    },
 }
 
 /// The words ask for no command.

@@ -23,6 +23,7 @@ pub fn grammar<'a>(alloc: Global) -> Result<Command<'a>, Memory>
         "sample",
         "supplements",
         "compare",
+        "rejudge",
     ];
     with_forms(alloc, top(alloc), &names)
 }

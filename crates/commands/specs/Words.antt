@@ -58,3 +58,4 @@ InRange (commands.Serve store port workers links) = Unit {0}
 InRange (commands.Sample start codes orders) = MaySample codes
 InRange (commands.Supplements budget) = IsBudget budget
 InRange (commands.Compare day file budget) = IsBudget budget
+InRange (commands.Rejudge store book workers) = Unit {0}
