@@ -4,9 +4,11 @@
 mod store;
 mod store_name;
 
-ghost use Rattle.std.specs.Prelude.{◌≡◌};
+ghost use Rattle.std.specs.Prelude.{◌≡◌, ℕ, List, IfOk};
 ghost use Rattle.std.specs.Process.{exit_status};
 ghost use Rattle.book_commands.specs.Numbers.{status_number};
+ghost use Rattle.command_words.specs.Prepared.{texts_of};
+ghost use Rattle.commands.specs.Words.{NamesStore};
 
 use crate::store::Store;
 use crate::store_name::store_of;
@@ -64,7 +66,9 @@ fn run_over(rt: HostRuntime, words: io::Result<Vec<String>>, journal: Option<&st
 // The keeper of the store of the system.
 type SystemStore<'a> = Store<FileKeeper, JournalKeeper<FileDisk<'a>>>;
 
-fn keeper_of<'a>(rt: HostRuntime, journal: Option<&'a str>) -> SystemStore<'a> {
+fn keeper_of<'a>(rt: HostRuntime, journal: Option<&'a str>) -> SystemStore<'a>
+    ensures { (name : List ℕ) → ⟦<SystemStore<'a> as Keeper>⟧.may_begin result name }
+{
     match journal {
         Some(path) => Store::Journal(JournalKeeper::new(rt.alloc(), FileDisk::new(rt, path))),
         None => Store::Sql(SqlKeeper::new(rt)),
@@ -82,7 +86,10 @@ fn close(store: SystemStore<'_>) {
 }
 
 // Runs between the streams and over the files of the system.
-fn run_with<P: Keeper>(rt: HostRuntime, words: io::Result<Vec<String>>, keeper: P) -> RunEnd<P> {
+fn run_with<P: Keeper>(rt: HostRuntime, words: io::Result<Vec<String>>, keeper: P) -> RunEnd<P>
+    requires { IfOk words (λ words. (store : List ℕ) → NamesStore (texts_of words.items) store
+        → P.may_begin keeper store) }
+{
     let alloc = rt.alloc();
     let mut source = StreamSource::new(rt.reader());
     let mut sink = StreamSink::new(io::writer(&rt));

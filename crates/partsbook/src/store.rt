@@ -11,11 +11,13 @@ pub(crate) enum Store<S, J> {
 }
 
 impl<S: Keeper, J: Keeper> Keeper for Store<S, J> {
-    ghost use Rattle.partsbook.specs.Store.{of_either};
+    ghost use Rattle.partsbook.specs.Store.{may_begin_either, of_either};
 
     ghost told = { of_either S.told J.told };
 
     ghost failures = { of_either S.failures J.failures };
+
+    ghost may_begin = { may_begin_either S.may_begin J.may_begin };
 
     fn begin(&mut self, name: &str) -> Result<(), OutError> {
         match self {
