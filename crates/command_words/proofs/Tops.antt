@@ -109,6 +109,18 @@ is_sample : IsNamed (codes "sample")
 unfolding clap_on_literals
 is_sample = record { stops = refl; passes = refl; form = refl }
 
+is_supplements : IsNamed (codes "supplements")
+unfolding clap_on_literals
+is_supplements = record { stops = refl; passes = refl; form = refl }
+
+is_compare : IsNamed (codes "compare")
+unfolding clap_on_literals
+is_compare = record { stops = refl; passes = refl; form = refl }
+
+is_rejudge : IsNamed (codes "rejudge")
+unfolding clap_on_literals
+is_rejudge = record { stops = refl; passes = refl; form = refl }
+
 -- a word that is no command word
 record IsOther (name : List ℕ) : Type 0 where
   order : bytes_eq (codes "order") name ≡ false
@@ -118,6 +130,9 @@ record IsOther (name : List ℕ) : Type 0 where
   desk : bytes_eq (codes "desk") name ≡ false
   serve : bytes_eq (codes "serve") name ≡ false
   sample : bytes_eq (codes "sample") name ≡ false
+  supplements : bytes_eq (codes "supplements") name ≡ false
+  compare : bytes_eq (codes "compare") name ≡ false
+  rejudge : bytes_eq (codes "rejudge") name ≡ false
 
 turned : (a b : List ℕ) → bytes_eq a b ≡ false → bytes_eq b a ≡ false
 turned a b e = go (bytes_eq b a) refl
@@ -130,8 +145,7 @@ turned a b e = go (bytes_eq b a) refl
 
 asks_nothing : (name : List ℕ) → IsOther name → (budget : Option (List ℕ)) (operands : Words) → asked name budget operands ≡ None
 asks_nothing name o budget operands =
-    rw (turned (codes "order") name o.order) (rw (turned (codes "check") name o.check) (rw (turned (codes "prove") name o.prove)
-    (rw (turned (codes "verify") name o.verify) (rw (turned (codes "desk") name o.desk) (rw (turned (codes "serve") name o.serve) (rw (turned (codes "sample") name o.sample) refl))))))
+    rw (turned (codes "order") name o.order) (rw (turned (codes "check") name o.check) (rw (turned (codes "prove") name o.prove) (rw (turned (codes "verify") name o.verify) (rw (turned (codes "desk") name o.desk) (rw (turned (codes "serve") name o.serve) (rw (turned (codes "sample") name o.sample) (rw (turned (codes "supplements") name o.supplements) (rw (turned (codes "compare") name o.compare) (rw (turned (codes "rejudge") name o.rejudge) (refl))))))))))
 
 parses_none : (name : List ℕ) → IsOther name → (found : Option (Option (List ℕ) × Words)) → option_and_then (λ p. asked name p.0 p.1) found ≡ None
 parses_none name o None = refl
@@ -142,7 +156,7 @@ stray : (name : List ℕ) → IsOther name → is_plain name ≡ true
 unfolding clap_on_literals
 stray name o plain =
     let p = plain_word_of name plain in
-    rw o.order (rw o.check (rw o.prove (rw o.verify (rw o.desk (rw o.serve (rw o.sample (rw p.no_end (rw p.no_long (rw p.no_short refl)))))))))
+    rw o.order (rw o.check (rw o.prove (rw o.verify (rw o.desk (rw o.serve (rw o.sample (rw o.supplements (rw o.compare (rw o.rejudge (rw p.no_end (rw p.no_long (rw p.no_short refl))))))))))))
 
 stray_walk : (name : List ℕ) (words : Words) → IsOther name → is_plain name ≡ true
     → walk_fault whole.top names (walk_from nothing_held) (name ∷ words) ≡ kind.UnknownArgument ∷ kind.InvalidSubcommand ∷ []
@@ -161,42 +175,47 @@ parses_named : (name literal : List ℕ) (words : Words) → bytes_eq literal na
 parses_named name literal words same n tame =
     subst (λ (x : List ℕ). Parses (x ∷ words)) ((bytes_eq-Decides literal name).0 same) (named literal words n tame)
 
-parses : (name : List ℕ) (words : Words) → is_plain name ≡ true → is_tame words ≡ true → Parses (name ∷ words)
-parses name words plain tame = order (bytes_eq (codes "order") name) refl
+-- the word is this command word, or it isn't
+is_word : (literal name : List ℕ) → (bytes_eq literal name ≡ true) ⊎ (bytes_eq literal name ≡ false)
+is_word literal name = go (bytes_eq literal name) refl
   where
-    last : bytes_eq (codes "order") name ≡ false → bytes_eq (codes "check") name ≡ false → bytes_eq (codes "prove") name ≡ false
-        → bytes_eq (codes "verify") name ≡ false → bytes_eq (codes "desk") name ≡ false → bytes_eq (codes "serve") name ≡ false
-        → (t : Bool) → bytes_eq (codes "sample") name ≡ t → Parses (name ∷ words)
-    last a b c d e f true g = parses_named name (codes "sample") words g is_sample tame
-    last a b c d e f false g =
-        other name words (record { order = a; check = b; prove = c; verify = d; desk = e; serve = f; sample = g }) plain
+    go : (t : Bool) → bytes_eq literal name ≡ t → (bytes_eq literal name ≡ true) ⊎ (bytes_eq literal name ≡ false)
+    go true is = inl is
+    go false is = inr is
 
-    serve : bytes_eq (codes "order") name ≡ false → bytes_eq (codes "check") name ≡ false → bytes_eq (codes "prove") name ≡ false
-        → bytes_eq (codes "verify") name ≡ false → bytes_eq (codes "desk") name ≡ false → (t : Bool) → bytes_eq (codes "serve") name ≡ t → Parses (name ∷ words)
-    serve a b c d e true f = parses_named name (codes "serve") words f is_serve tame
-    serve a b c d e false f = last a b c d e f (bytes_eq (codes "sample") name) refl
-
-    desk : bytes_eq (codes "order") name ≡ false → bytes_eq (codes "check") name ≡ false → bytes_eq (codes "prove") name ≡ false
-        → bytes_eq (codes "verify") name ≡ false → (t : Bool) → bytes_eq (codes "desk") name ≡ t → Parses (name ∷ words)
-    desk a b c d true e = parses_named name (codes "desk") words e is_desk tame
-    desk a b c d false e = serve a b c d e (bytes_eq (codes "serve") name) refl
-
-    verify : bytes_eq (codes "order") name ≡ false → bytes_eq (codes "check") name ≡ false → bytes_eq (codes "prove") name ≡ false
-        → (t : Bool) → bytes_eq (codes "verify") name ≡ t → Parses (name ∷ words)
-    verify a b c true d = parses_named name (codes "verify") words d is_verify tame
-    verify a b c false d = desk a b c d (bytes_eq (codes "desk") name) refl
-
-    prove : bytes_eq (codes "order") name ≡ false → bytes_eq (codes "check") name ≡ false → (t : Bool) → bytes_eq (codes "prove") name ≡ t → Parses (name ∷ words)
-    prove a b true c = parses_named name (codes "prove") words c is_prove tame
-    prove a b false c = verify a b c (bytes_eq (codes "verify") name) refl
-
-    check : bytes_eq (codes "order") name ≡ false → (t : Bool) → bytes_eq (codes "check") name ≡ t → Parses (name ∷ words)
-    check a true b = parses_named name (codes "check") words b is_check tame
-    check a false b = prove a b (bytes_eq (codes "prove") name) refl
-
-    order : (t : Bool) → bytes_eq (codes "order") name ≡ t → Parses (name ∷ words)
-    order true a = parses_named name (codes "order") words a is_order tame
-    order false a = check a (bytes_eq (codes "check") name) refl
+parses : (name : List ℕ) (words : Words) → is_plain name ≡ true → is_tame words ≡ true → Parses (name ∷ words)
+parses name words plain tame =
+    elim (is_word (codes "order") name) [
+      | inl is ↦ parses_named name (codes "order") words is is_order tame
+      | inr order ↦ elim (is_word (codes "check") name) [
+        | inl is ↦ parses_named name (codes "check") words is is_check tame
+        | inr check ↦ elim (is_word (codes "prove") name) [
+          | inl is ↦ parses_named name (codes "prove") words is is_prove tame
+          | inr prove ↦ elim (is_word (codes "verify") name) [
+            | inl is ↦ parses_named name (codes "verify") words is is_verify tame
+            | inr verify ↦ elim (is_word (codes "desk") name) [
+              | inl is ↦ parses_named name (codes "desk") words is is_desk tame
+              | inr desk ↦ elim (is_word (codes "serve") name) [
+                | inl is ↦ parses_named name (codes "serve") words is is_serve tame
+                | inr serve ↦ elim (is_word (codes "sample") name) [
+                  | inl is ↦ parses_named name (codes "sample") words is is_sample tame
+                  | inr sample ↦ elim (is_word (codes "supplements") name) [
+                    | inl is ↦ parses_named name (codes "supplements") words is is_supplements tame
+                    | inr supplements ↦ elim (is_word (codes "compare") name) [
+                      | inl is ↦ parses_named name (codes "compare") words is is_compare tame
+                      | inr compare ↦ elim (is_word (codes "rejudge") name) [
+                        | inl is ↦ parses_named name (codes "rejudge") words is is_rejudge tame
+                        | inr rejudge ↦ other name words (record { order = order; check = check; prove = prove; verify = verify; desk = desk; serve = serve; sample = sample; supplements = supplements; compare = compare; rejudge = rejudge }) plain
+                      ]
+                    ]
+                  ]
+                ]
+              ]
+            ]
+          ]
+        ]
+      ]
+    ]
 
 prepared_parses : (words : Words) → is_prepared words ≡ true → Parses words
 prepared_parses [] e = let clash : false ≡ true = e in cc

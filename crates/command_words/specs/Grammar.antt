@@ -3,7 +3,7 @@
 --     taken words       the budget and the operands among such words behind the command word
 use Rattle.std.specs.Prelude.{◌++◌, ◌&&◌, ℕ, Bool, true, false, not, List, [], ◌∷◌, Option, None, Some, codes, if◌then◌else◌}
 use Rattle.std.specs.Option.{option_map, option_and_then, unwrap_or}
-use Rattle.std.specs.List.{list_all}
+use Rattle.std.specs.List.{fold, list_all}
 use Rattle.std.specs.Str.{bytes_eq}
 use Rattle.clap.specs.Lexer.{long_of}
 use Rattle.clap.specs.Words.{App, Row, Rule, all_of, first_of, new_app, new_rule, with_rule, with_subcommand}
@@ -38,11 +38,14 @@ top = record {
 abbrev pub with_form : App → List ℕ → App
 with_form app name = with_subcommand app (form name).top
 
-abbrev pub book_forms : App
-book_forms = with_form (with_form (with_form (with_form top (codes "order")) (codes "check")) (codes "prove")) (codes "verify")
+abbrev pub with_forms : App → Words → App
+with_forms = fold with_form
+
+abbrev pub command_words : Words
+command_words = codes "order" ∷ codes "check" ∷ codes "prove" ∷ codes "verify" ∷ codes "desk" ∷ codes "serve" ∷ codes "sample" ∷ codes "supplements" ∷ codes "compare" ∷ codes "rejudge" ∷ []
 
 abbrev pub grammar : App
-grammar = with_form (with_form (with_form book_forms (codes "desk")) (codes "serve")) (codes "sample")
+grammar = with_forms top command_words
 
 abbrev pub is_tame_option : Words → Bool
 is_tame_option [] = true

@@ -6,6 +6,9 @@
 --     desk STORE                    the order desk over this store
 --     serve STORE PORT WORKERS LINKS    the order desk over this store, at this port, for so many links
 --     sample START CODES ORDERS     the generated book with this many codes, and this many orders
+--     supplements [--budget N]      what completion does with sets that break no rule, each question within the budget
+--     compare DAY FILE [--budget N]    what changes on this day with the book in this file, each question within the budget
+--     rejudge STORE BOOK WORKERS    what the orders that this store keeps come to by this book
 use Rattle.std.specs.Prelude.{◌≡◌, ◌==◌, ◌&&◌, ℕ, ◌%◌, List, [], ◌∷◌, Option, None, Some, codes, nat_le, if◌then◌else◌}
 use Rattle.std.specs.Option.{option_map, option_and_then}
 use Rattle.std.specs.List.{list_all}
@@ -13,7 +16,7 @@ use Rattle.pb_base.specs.Names.{same_name, is_code_name}
 use Rattle.pb_base.specs.Digits.{number_within, short_number}
 use Rattle.command_words.specs.Parts.{Words, HasParts}
 use Rattle.command_words.specs.declared.command.Command.{Command}
-use Rattle.command_words.specs.declared.command.Command.TheVariants.{Order, Check, Prove, Verify, Desk, Serve, Sample}
+use Rattle.command_words.specs.declared.command.Command.TheVariants.{Order, Check, Prove, Verify, Desk, Serve, Sample, Supplements, Compare, Rejudge}
 use Rattle.pb_base.specs.declared.limits.TheConstants.{MOST_BUDGET, DEFAULT_BUDGET}
 
 -- the number of 1 to 10 digits, where it lies in the range
@@ -65,6 +68,16 @@ sample_of None (start ∷ size ∷ orders ∷ []) =
     (number_in 0 4294967295 start)
 sample_of budget operands = None
 
+-- a day is 1 to 5 digits
+abbrev pub compare_of : Option (List ℕ) → Words → Option Command
+compare_of budget (day ∷ file ∷ []) = option_and_then (λ on. option_map (Compare on file) (budget_of budget)) (short_number day)
+compare_of budget operands = None
+
+abbrev pub rejudge_of : Option (List ℕ) → Words → Option Command
+rejudge_of None (store ∷ book ∷ workers ∷ []) =
+    option_and_then (λ b. option_map (Rejudge store b) (number_in 1 16 workers)) (number_in 1 4294967295 book)
+rejudge_of budget operands = None
+
 -- what a command word asks with a budget and operands
 abbrev pub asked : List ℕ → Option (List ℕ) → Words → Option Command
 asked name budget operands =
@@ -75,7 +88,10 @@ asked name budget operands =
     else (if same_name name (codes "desk") then file_of Desk budget operands
     else (if same_name name (codes "serve") then serve_of budget operands
     else (if same_name name (codes "sample") then sample_of budget operands
-    else None))))))
+    else (if same_name name (codes "supplements") then check_of Supplements budget operands
+    else (if same_name name (codes "compare") then compare_of budget operands
+    else (if same_name name (codes "rejudge") then rejudge_of budget operands
+    else None)))))))))
 
 -- the words ask for the command
 pub record IsForm (words : Words) (command : Command) : Type 0 where

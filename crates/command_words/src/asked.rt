@@ -1,9 +1,9 @@
 //! What a command word asks with a budget and operands.
 ghost use Rattle.std.specs.Prelude.{◌≡◌, ◌≤◌, IfOk, IfSome, option_map};
 ghost use Rattle.command_words.specs.Prepared.{lent, lent_option};
-ghost use Rattle.command_words.specs.Meaning.{number_in, codes_of, order_of, budget_of, check_of, only_one, file_of};
+ghost use Rattle.command_words.specs.Meaning.{number_in, codes_of, order_of, budget_of, check_of, only_one, file_of, compare_of, rejudge_of};
 ghost use Rattle.command_words.specs.Meaning.{door_of, serve_of, codes_number, sample_of, asked};
-ghost use Rattle.command_words.specs.declared.command.Command.TheVariants.{Check, Prove, Verify, Desk};
+ghost use Rattle.command_words.specs.declared.command.Command.TheVariants.{Check, Prove, Verify, Desk, Supplements};
 
 use crate::command::Command;
 use crate::file_name::FileName;
@@ -35,6 +35,12 @@ pub fn asked(
         serve_of(alloc, budget, operands)
     } else if name == "sample" {
         Ok(sample_of(budget, operands))
+    } else if name == "supplements" {
+        Ok(supplements_of(budget, operands))
+    } else if name == "compare" {
+        compare_of(alloc, budget, operands)
+    } else if name == "rejudge" {
+        rejudge_of(alloc, budget, operands)
     } else {
         Ok(None)
     }
@@ -94,6 +100,16 @@ fn prove_of(budget: Option<&str>, operands: &[&str]) -> Option<Command>
     }
     let budget = budget_of(budget)?;
     Some(Command::Prove { budget })
+}
+
+fn supplements_of(budget: Option<&str>, operands: &[&str]) -> Option<Command>
+    ensures { result ≡ check_of Supplements (lent_option budget.entry) (lent operands.now) }
+{
+    if !operands.is_empty() {
+        return None;
+    }
+    let budget = budget_of(budget)?;
+    Some(Command::Supplements { budget })
 }
 
 // The most work for one question, which is 10,000 where the words say none.
@@ -211,6 +227,53 @@ fn sample_of(budget: Option<&str>, operands: &[&str]) -> Option<Command>
         codes,
         orders,
     })
+}
+
+fn compare_of(
+    alloc: Global,
+    budget: Option<&str>,
+    operands: &[&str],
+) -> Result<Option<Command>, Memory>
+    ensures { IfOk result (λ command. command
+        ≡ compare_of (lent_option budget.entry) (lent operands.now)) }
+{
+    let [day, file] = operands else {
+        return Ok(None);
+    };
+    match (short_number(day.as_bytes()), budget_of(budget)) {
+        (Some(day), Some(budget)) => {
+            let file = FileName::of(alloc, file)?;
+            Ok(Some(Command::Compare { day, file, budget }))
+        }
+        _ => Ok(None),
+    }
+}
+
+fn rejudge_of(
+    alloc: Global,
+    budget: Option<&str>,
+    operands: &[&str],
+) -> Result<Option<Command>, Memory>
+    ensures { IfOk result (λ command. command
+        ≡ rejudge_of (lent_option budget.entry) (lent operands.now)) }
+{
+    if budget.is_some() {
+        return Ok(None);
+    }
+    let [store, book, workers] = operands else {
+        return Ok(None);
+    };
+    match (number_in(book, 1, u32::MAX), number_in(workers, 1, 16)) {
+        (Some(book), Some(workers)) => {
+            let store = FileName::of(alloc, store)?;
+            Ok(Some(Command::Rejudge {
+                store,
+                book,
+                workers,
+            }))
+        }
+        _ => Ok(None),
+    }
 }
 
 fn codes_number(text: &str) -> Option<u32>

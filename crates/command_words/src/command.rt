@@ -41,6 +41,22 @@ pub enum Command {
         codes: u32,
         orders: u32,
     },
+    /// Whether the supplementing rules of a book do what their authors meant. The budget is the most work for one question.
+    Supplements {
+        budget: u32,
+    },
+    /// What changes on this day with the book in this file. The budget is the most work for one question.
+    Compare {
+        day: Day,
+        file: FileName,
+        budget: u32,
+    },
+    /// What the orders that this store keeps come to by this book, judged by so many workers.
+    Rejudge {
+        store: FileName,
+        book: u32,
+        workers: u32,
+    },
 }
 
 /// The words ask for no command.

@@ -2,7 +2,8 @@
 ghost use Rattle.std.specs.Prelude.{◌≡◌, IfOk, false};
 ghost use Rattle.clap.specs.Words.{AddsSubcommand, app_of, rule_of};
 ghost use Rattle.clap.specs.declared.builder.command.Command.TheViews.{out-Command};
-ghost use Rattle.command_words.specs.Grammar.{form, with_form, book_forms, budget_rule, grammar, operands_rule, top};
+ghost use Rattle.command_words.specs.Grammar.{form, with_form, with_forms, budget_rule, grammar, operands_rule, top};
+ghost use Rattle.command_words.specs.Prepared.{lent};
 
 use clap::{Arg, ArgAction, Command};
 use pb_base::Memory;
@@ -12,18 +13,34 @@ use std::alloc::{AllocError, Global};
 pub fn grammar<'a>(alloc: Global) -> Result<Command<'a>, Memory>
     ensures { IfOk result (λ command. app_of command ≡ grammar) }
 {
-    let command = with_form(alloc, book_forms(alloc)?, "desk")?;
-    let command = with_form(alloc, command, "serve")?;
-    with_form(alloc, command, "sample")
+    let names = [
+        "order",
+        "check",
+        "prove",
+        "verify",
+        "desk",
+        "serve",
+        "sample",
+        "supplements",
+        "compare",
+        "rejudge",
+    ];
+    with_forms(alloc, top(alloc), &names)
 }
 
-fn book_forms<'a>(alloc: Global) -> Result<Command<'a>, Memory>
-    ensures app { IfOk result (λ command. app_of command ≡ book_forms) }
+// The command with a form for each of these words.
+fn with_forms<'a>(
+    alloc: Global,
+    command: Command<'a>,
+    names: &[&'a str],
+) -> Result<Command<'a>, Memory>
+    ensures { IfOk result (λ r. app_of r ≡ with_forms (app_of command.entry) (lent names.now)) }
 {
-    let command = with_form(alloc, top(alloc), "order")?;
-    let command = with_form(alloc, command, "check")?;
-    let command = with_form(alloc, command, "prove")?;
-    with_form(alloc, command, "verify")
+    let mut command = command;
+    for name in names {
+        command = with_form(alloc, command, name)?;
+    }
+    Ok(command)
 }
 
 fn top<'a>(alloc: Global) -> Command<'a>

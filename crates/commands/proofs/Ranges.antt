@@ -6,10 +6,10 @@ use Rattle.std.proofs.lemmas.Bool.{leb-true, eqb-true}
 use Rattle.pb_base.specs.Names.{same_name}
 use Rattle.pb_base.specs.Digits.{number_within, short_number}
 use Rattle.book_sample.specs.Law.{MaySample}
-use Rattle.command_words.specs.Meaning.{IsForm, asked, number_in, codes_of, order_of, budget_of, check_of, only_one, file_of, door_of, serve_of, codes_number, sample_of}
+use Rattle.command_words.specs.Meaning.{IsForm, asked, number_in, codes_of, order_of, budget_of, check_of, only_one, file_of, door_of, serve_of, codes_number, sample_of, compare_of, rejudge_of}
 use Rattle.command_words.specs.Parts.{Words}
 use Rattle.command_words.specs.declared.command.Command.{Command}
-use Rattle.command_words.specs.declared.command.Command.TheVariants.{Order, Check, Prove, Verify, Desk, Serve, Sample}
+use Rattle.command_words.specs.declared.command.Command.TheVariants.{Order, Check, Prove, Verify, Desk, Serve, Sample, Supplements, Compare, Rejudge}
 use Rattle.commands.specs.Words.{InRange, IsBudget}
 use Rattle.pb_base.specs.declared.limits.TheConstants.{MOST_BUDGET}
 
@@ -98,6 +98,30 @@ sample_fits None (start ∷ size ∷ orders ∷ []) =
 sample_fits None (start ∷ size ∷ orders ∷ word ∷ words) = tt
 sample_fits (Some text) operands = tt
 
+compared_fits : (day budget : Option ℕ) (file : List ℕ) → IfSome budget IsBudget → AllInRange (option_and_then (λ on. option_map (Compare on file) budget) day)
+compared_fits None budget file h = tt
+compared_fits (Some on) None file h = tt
+compared_fits (Some on) (Some n) file h = h
+
+compare_fits : (budget : Option (List ℕ)) (operands : Words) → AllInRange (compare_of budget operands)
+compare_fits budget [] = tt
+compare_fits budget (day ∷ []) = tt
+compare_fits budget (day ∷ file ∷ []) = compared_fits (short_number day) (budget_of budget) file (budget_fits budget)
+compare_fits budget (day ∷ file ∷ word ∷ words) = tt
+
+rejudged_fits : (store : List ℕ) (book workers : Option ℕ) → AllInRange (option_and_then (λ b. option_map (Rejudge store b) workers) book)
+rejudged_fits store None workers = tt
+rejudged_fits store (Some b) None = tt
+rejudged_fits store (Some b) (Some w) = tt
+
+rejudge_fits : (budget : Option (List ℕ)) (operands : Words) → AllInRange (rejudge_of budget operands)
+rejudge_fits None [] = tt
+rejudge_fits None (store ∷ []) = tt
+rejudge_fits None (store ∷ book ∷ []) = tt
+rejudge_fits None (store ∷ book ∷ workers ∷ []) = rejudged_fits store (number_in 1 4294967295 book) (number_in 1 16 workers)
+rejudge_fits None (store ∷ book ∷ workers ∷ word ∷ words) = tt
+rejudge_fits (Some text) operands = tt
+
 asked_fits : (name : List ℕ) (budget : Option (List ℕ)) (operands : Words) → AllInRange (asked name budget operands)
 asked_fits name budget operands =
     either (same_name name (codes "order")) _ _ (order_fits budget operands)
@@ -106,7 +130,10 @@ asked_fits name budget operands =
     (either (same_name name (codes "verify")) _ _ (file_fits Verify (λ file. tt) budget operands)
     (either (same_name name (codes "desk")) _ _ (file_fits Desk (λ file. tt) budget operands)
     (either (same_name name (codes "serve")) _ _ (serve_fits budget operands)
-    (either (same_name name (codes "sample")) _ _ (sample_fits budget operands) tt))))))
+    (either (same_name name (codes "sample")) _ _ (sample_fits budget operands)
+    (either (same_name name (codes "supplements")) _ _ (check_fits Supplements (λ n h. h) budget operands)
+    (either (same_name name (codes "compare")) _ _ (compare_fits budget operands)
+    (either (same_name name (codes "rejudge")) _ _ (rejudge_fits budget operands) tt)))))))))
 
 pub form_in_range : (words : Words) (command : Command) → IsForm words command → InRange command
 form_in_range words command f = subst AllInRange f.asks (asked_fits f.name f.budget f.operands)

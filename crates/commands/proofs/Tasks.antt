@@ -22,6 +22,9 @@ task_of (commands.Verify file) = Some (Book (Verify file))
 task_of (commands.Desk store) = Some (Desk store)
 task_of (commands.Serve store port workers links) = None
 task_of (commands.Sample start codes orders) = Some (Sample (record { start = start; codes = codes; orders = orders }))
+task_of (commands.Supplements budget) = None
+task_of (commands.Compare day file budget) = None
+task_of (commands.Rejudge store book workers) = None
 
 task_back : (task : Task) → task_of (form_of task) ≡ Some task
 task_back (Book (Order day ordered)) = refl
@@ -43,6 +46,15 @@ no_task command none task e = let clash : None ≡ Some task = sym none ∙ ap t
 
 not_serve : (store : List ℕ) (port workers links : ℕ) → IsTaskOf (commands.Serve store port workers links) None
 not_serve store port workers links = no_task (commands.Serve store port workers links) refl
+
+not_supplements : (budget : ℕ) → IsTaskOf (commands.Supplements budget) None
+not_supplements budget = no_task (commands.Supplements budget) refl
+
+not_compare : (day : ℕ) (file : List ℕ) (budget : ℕ) → IsTaskOf (commands.Compare day file budget) None
+not_compare day file budget = no_task (commands.Compare day file budget) refl
+
+not_rejudge : (store : List ℕ) (book : ℕ) (workers : ℕ) → IsTaskOf (commands.Rejudge store book workers) None
+not_rejudge store book workers = no_task (commands.Rejudge store book workers) refl
 
 -- what a command's task is, words of the command ask for
 pub means_task : (words : Words) (command : Command) (found : Option Task) → IsForm words command → IsTaskOf command found → Means words found
@@ -66,6 +78,12 @@ by_form words (commands.Serve store port workers links) f =
     inr (means_task words (commands.Serve store port workers links) None f (not_serve store port workers links))
 by_form words (commands.Sample start codes orders) f =
     inl (record { task = Sample (record { start = start; codes = codes; orders = orders }); asks = f })
+by_form words (commands.Supplements budget) f =
+    inr (means_task words (commands.Supplements budget) None f (not_supplements budget))
+by_form words (commands.Compare day file budget) f =
+    inr (means_task words (commands.Compare day file budget) None f (not_compare day file budget))
+by_form words (commands.Rejudge store book workers) f =
+    inr (means_task words (commands.Rejudge store book workers) None f (not_rejudge store book workers))
 
 by_list : (words list : Words) (found : Option Command) → prepared words ≡ Some list → parsed list ≡ found → IsAsked words ⊎ AsksNothing words
 by_list words list None is e = inr (means_nothing words (unread words list is e))

@@ -6,7 +6,7 @@
 --     desk STORE                    the order desk over the rows that this store keeps
 --     sample START CODES ORDERS     the release of the generated book of this size, and what its orders come to
 -- The words of these forms, and of those that the program doesn't have, are those of command_words.
-use Rattle.std.specs.Prelude.{◌≡◌, ◌<◌, ◌≤◌, ℕ, Option, None, Some}
+use Rattle.std.specs.Prelude.{◌≡◌, ◌<◌, ◌≤◌, ℕ, List, Option, None, Some}
 use Rattle.book_sample.specs.Law.{MaySample}
 use Rattle.command_words.specs.Meaning.{IsForm}
 use Rattle.command_words.specs.Parts.{Words}
@@ -29,6 +29,10 @@ form_of (Sample size) = commands.Sample size.start size.codes size.orders
 -- the words ask for the task
 abbrev pub Asks : Words → Task → Type 0
 Asks words task = IsForm words (form_of task)
+
+-- the words name this store, whose rows a desk takes up
+abbrev pub NamesStore : Words → List ℕ → Type 0
+NamesStore words store = Asks words (Desk store)
 
 -- the words are of no form of this program
 abbrev pub AsksNothing : Words → Type 0
@@ -56,3 +60,6 @@ InRange (commands.Verify file) = Unit {0}
 InRange (commands.Desk store) = Unit {0}
 InRange (commands.Serve store port workers links) = Unit {0}
 InRange (commands.Sample start codes orders) = MaySample codes
+InRange (commands.Supplements budget) = IsBudget budget
+InRange (commands.Compare day file budget) = IsBudget budget
+InRange (commands.Rejudge store book workers) = Unit {0}

@@ -30,6 +30,7 @@ pub fn run_store<S: Source, K: Sink, P: Keeper, G: Gate>(
     gate: &G,
     log: &mut RunLog,
 ) -> RunEnd<P>
+    requires named { P.may_begin keeper store.now }
     ensures { (files : FilesTold) →
         let kept = keeps (P.told keeper) (P.failures keeper) in
         let kept' = keeps (P.told result.keeper) (P.failures result.keeper) in

@@ -1,5 +1,5 @@
 //! A run with the words that the system gives.
-ghost use Rattle.std.specs.Prelude.{◌≡◌, ◌≢◌, IfOk, IfErr};
+ghost use Rattle.std.specs.Prelude.{◌≡◌, ◌≢◌, ℕ, List, IfOk, IfErr};
 ghost use Rattle.std.specs.IoError.{error_kind};
 ghost use Rattle.command_words.specs.Prepared.{texts_of};
 ghost use Rattle.book_commands.specs.RunReply.{usage_reply, memory_reply};
@@ -7,6 +7,7 @@ ghost use Rattle.book_commands.specs.Tells.{outputs, Tells};
 ghost use Rattle.commands.specs.Outside.{keeps, outside};
 ghost use Rattle.commands.specs.Does.{AnswersUsage, AnswersMemory};
 ghost use Rattle.commands.specs.Run.{IsRun};
+ghost use Rattle.commands.specs.Words.{NamesStore};
 
 use crate::run_end::RunEnd;
 use crate::top_call::run;
@@ -30,6 +31,8 @@ pub fn run_given<S: Source, K: Sink, F: Files, P: Keeper, G: Gate>(
     gate: &G,
     log: &mut RunLog,
 ) -> RunEnd<P>
+    requires named { IfOk given (λ words. (store : List ℕ) → NamesStore (texts_of words.items) store
+        → P.may_begin keeper store) }
     ensures text { let kept = keeps (P.told keeper) (P.failures keeper) in
         let kept' = keeps (P.told result.keeper) (P.failures result.keeper) in
         let before = outside (S.input source.old) (F.told files.old) (K.output sink.old) log.old kept in

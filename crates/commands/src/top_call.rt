@@ -1,9 +1,12 @@
 //! The top call: words, an input and files in, a text and a status out.
+ghost use Rattle.std.specs.Prelude.{◌≡◌, ℕ, List};
 ghost use Rattle.command_words.specs.Prepared.{texts_of};
 ghost use Rattle.book_commands.specs.Tells.{outputs};
 ghost use Rattle.commands.specs.Outside.{KeeperTold, keeps, outside};
 ghost use Rattle.commands.specs.Does.{AnswersBook, TellsSample, DoesTask, Does};
 ghost use Rattle.commands.specs.Run.{IsRun};
+ghost use Rattle.commands.specs.Words.{NamesStore};
+ghost use Rattle.commands.specs.declared.task.Task.TheVariants.{Desk};
 
 use crate::desk::run_store;
 use crate::run_end::RunEnd;
@@ -20,7 +23,7 @@ use pb_outside::{Files, Sink, Source};
 use std::alloc::Global;
 
 /// Does what the words ask, and gives the status with which the program ends, and the keeper. `words` are those after the
-/// program's name; the log starts empty.
+/// program's name; the log starts empty. The keeper may begin by the store's name in the words, and need not by another.
 pub fn run<S: Source, K: Sink, F: Files, P: Keeper, G: Gate>(
     alloc: Global,
     words: &[String],
@@ -31,6 +34,7 @@ pub fn run<S: Source, K: Sink, F: Files, P: Keeper, G: Gate>(
     gate: &G,
     log: &mut RunLog,
 ) -> RunEnd<P>
+    requires named { (store : List ℕ) → NamesStore (texts_of words.now) store → P.may_begin keeper store }
     ensures { let kept = keeps (P.told keeper) (P.failures keeper) in
         let kept' = keeps (P.told result.keeper) (P.failures result.keeper) in
         let before = outside (S.input source.old) (F.told files.old) (K.output sink.old) log.old kept in
@@ -50,6 +54,7 @@ fn do_words<S: Source, K: Sink, F: Files, P: Keeper, G: Gate>(
     gate: &G,
     log: &mut RunLog,
 ) -> RunEnd<P>
+    requires named { (store : List ℕ) → NamesStore (texts_of words.now) store → P.may_begin keeper store }
     ensures { let kept = keeps (P.told keeper) (P.failures keeper) in
         let kept' = keeps (P.told result.keeper) (P.failures result.keeper) in
         let before = outside (S.input source.old) (F.told files.old) (K.output sink.old) log.old kept in
@@ -79,6 +84,7 @@ fn do_task<S: Source, K: Sink, F: Files, P: Keeper, G: Gate>(
     gate: &G,
     log: &mut RunLog,
 ) -> RunEnd<P>
+    requires named { (store : List ℕ) → task.now ≡ Desk store → P.may_begin keeper store }
     ensures { let kept = keeps (P.told keeper) (P.failures keeper) in
         let kept' = keeps (P.told result.keeper) (P.failures result.keeper) in
         let before = outside (S.input source.old) (F.told files.old) (K.output sink.old) log.old kept in

@@ -41,5 +41,8 @@ fn task_of(command: Command) -> Option<Task>
             orders,
         } => Some(Task::Sample(SampleSize::of(start, codes, orders))),
         Command::Serve { .. } => None,
+        Command::Rejudge { .. } => None,
+        Command::Compare { .. } => None,
+        Command::Supplements { .. } => None,
     }
 }

@@ -1,4 +1,4 @@
-//! Words of commands that no run shows: those of `serve`, the largest sample, and the budget where no word names one.
+//! Words of commands that no run shows: those of `serve`, `compare` and `rejudge` at the limits of their numbers, the largest sample, and the budget where no word names one.
 
 use command_words::{Command, Usage, command_of};
 use pb_base::{Fail as Refusal, Memory, Text};
@@ -17,7 +17,20 @@ serve s.db 8080 1~usage
 serve s.db 8080 1 1 1~usage
 sample 4294967295 2000 10000~sample 4294967295 2000 10000
 check~check 10000
-prove~prove 10000";
+prove~prove 10000
+supplements~supplements 10000
+supplements --budget 50000~supplements 50000
+supplements --budget 50001~usage
+supplements T~usage
+compare 99999 F --budget=1~compare F 99999 1
+compare 1 F~compare F 1 10000
+compare 000001 F~usage
+compare 1~usage
+rejudge s.db 4294967295 16~rejudge s.db 4294967295 16
+rejudge s.db 4294967296 1~usage
+rejudge s.db 0 1~usage
+rejudge s.db 1 17~usage
+rejudge s.db 1 1 --budget 5~usage";
 
 fn words_of(alloc: Global, line: &str) -> Result<Vec<String>, Memory> {
     let mut words = Vec::new(alloc);
@@ -40,9 +53,11 @@ fn put_numbers(text: &mut Text, word: &str, numbers: &[u32]) -> Result<(), Memor
     Ok(())
 }
 
-fn put_serve(text: &mut Text, store: &str, numbers: &[u32]) -> Result<(), Memory> {
-    text.put(b"serve ")?;
-    put_numbers(text, store, numbers)
+// Puts a word, the name of a file or a store, and numbers.
+fn put_named(text: &mut Text, word: &str, name: &str, numbers: &[u32]) -> Result<(), Memory> {
+    text.put(word.as_bytes())?;
+    text.put(b" ")?;
+    put_numbers(text, name, numbers)
 }
 
 fn put_command(text: &mut Text, command: &Command) -> Result<(), Memory> {
@@ -59,7 +74,21 @@ fn put_command(text: &mut Text, command: &Command) -> Result<(), Memory> {
             port,
             workers,
             links,
-        } => put_serve(text, store.as_str(), &[u32::from(*port), *workers, *links]),
+        } => put_named(
+            text,
+            "serve",
+            store.as_str(),
+            &[u32::from(*port), *workers, *links],
+        ),
+        Command::Supplements { budget } => put_numbers(text, "supplements", &[*budget]),
+        Command::Compare { day, file, budget } => {
+            put_named(text, "compare", file.as_str(), &[*day, *budget])
+        }
+        Command::Rejudge {
+            store,
+            book,
+            workers,
+        } => put_named(text, "rejudge", store.as_str(), &[*book, *workers]),
         _ => text.put(b"another"),
     }
 }

@@ -1,1 +1,2 @@
+pub mod StoreName
 pub mod Store

@@ -1,22 +1,14 @@
--- Which word of a command line names a store.
-use Rattle.std.specs.Prelude.{ℕ, Bool, ◌||◌, List, [], ◌∷◌, Option, None, Some, codes, if◌then◌else◌}
-use Rattle.pb_base.specs.Names.{same_name}
-use Rattle.command_words.specs.Parts.{Words}
+-- What is told of the keeper of a store of either kind.
+use Rattle.std.specs.Prelude.{ℕ, List}
+use Rattle.partsbook.specs.declared.store.Store.{Store}
+use Rattle.partsbook.specs.declared.store.Store.TheVariants.{Sql, Journal}
 
--- the commands whose first word is a store
-abbrev pub takes_store : List ℕ → Bool
-takes_store command =
-    same_name command (codes "desk") || same_name command (codes "serve") || same_name command (codes "rejudge")
+-- what is told of the keeper that is there
+abbrev pub of_either : {S J T : Type 0} → (S → T) → (J → T) → Store S J → T
+of_either of_sql of_journal (Sql keeper) = of_sql keeper
+of_either of_sql of_journal (Journal keeper) = of_journal keeper
 
-abbrev pub first_word : Words → Option (List ℕ)
-first_word [] = None
-first_word (word ∷ words) = Some word
-
--- the first of the words, or the one behind it where that is `--`
-abbrev pub first_behind_mark : Words → Option (List ℕ)
-first_behind_mark [] = None
-first_behind_mark (word ∷ words) = if same_name word (codes "--") then first_word words else Some word
-
-abbrev pub store_word : Words → Option (List ℕ)
-store_word [] = None
-store_word (command ∷ words) = if takes_store command then first_behind_mark words else None
+-- it may begin by the names by which the keeper that is there may
+abbrev pub may_begin_either : {S J : Type 0} → (S → List ℕ → Type 0) → (J → List ℕ → Type 0) → Store S J → List ℕ → Type 0
+may_begin_either sql journal (Sql keeper) name = sql keeper name
+may_begin_either sql journal (Journal keeper) name = journal keeper name
