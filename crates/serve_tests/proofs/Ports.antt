@@ -18,5 +18,4 @@ pub two_back : (how : ServeEnd) (end : WorkEnd) (old new : State) (share links :
 two_back how end old new share links faults before after is run =
     let worked : IsServeRun (Worked end) old new share links 2 faults before (told_by after) =
     subst (λ (h : ServeEnd). IsServeRun h old new share links 2 faults before (told_by after)) is run in
-    let numbers = map (λ (p : PortTold). p.number) (map port_told_by after.back) in
-    omega (arith, ap length worked.numbers, length-map (λ (p : PortTold). p.number) (map port_told_by after.back), length-map port_told_by after.back)
+    omega (arith, ap length worked.numbers, length-map (map port_told_by after.back) (λ (p : PortTold). p.number), length-map after.back port_told_by)

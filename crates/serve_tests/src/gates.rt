@@ -8,6 +8,7 @@ use std::thread;
 const MOST_TURNS: u32 = 1_000_000;
 
 /// Each of two judgings waits until the other has begun too.
+#[derive(Drop)]
 pub(crate) struct Meeting {
     // How many are at the gate.
     inside: AtomicU64,
@@ -46,6 +47,7 @@ impl Gate for Meeting {
 }
 
 /// The first work for ANNA waits until a judging of an order has begun, and that one until the second work for ANNA has.
+#[derive(Drop)]
 pub(crate) struct Holding {
     orders: AtomicU64,
     drafts: AtomicU64,
@@ -80,7 +82,7 @@ impl Holding {
 
 impl Gate for Holding {
     fn judging(&self, caller: &Id) {
-        if caller.bytes() == b"ANNA" {
+        if caller.bytes() == b"ANNA".as_slice() {
             self.drafts.fetch_add(1, Ordering::SeqCst);
             self.wait_for(&self.orders, 1);
         } else {

@@ -11,7 +11,7 @@ use order_desk::{Desk, NotStarted};
 use pb_door::MemoryDoor;
 use pb_gate::{Gate, NoGate};
 use pb_outside::{MemoryLink, MemorySink, MemorySource};
-use serve_run::{ServeEnd, serve};
+use serve_run::{ServeEnd, Served, serve};
 use serve_work::WorkEnd;
 use session::session;
 use std::alloc::Global;
@@ -77,10 +77,14 @@ fn orders_kept<R: Abort + Threads + Wait + Sync, G: Gate + Sync>(
 ) -> u32
     ensures { length door.new.back ≡ 2 }
 {
-    let run = serve(rt, alloc, desk, 1_000, door, 0, 2, 2, gate);
-    let orders = run.desk.counts().orders;
-    let _keeper = run.desk.finish();
-    match run.how {
+    let Served {
+        how,
+        desk,
+        faults: _,
+    } = serve(rt, alloc, desk, 1_000, door, 0, 2, 2, gate);
+    let orders = desk.counts().orders;
+    let _keeper = desk.finish();
+    match how {
         ServeEnd::Worked(WorkEnd::Over) => orders,
         ServeEnd::Worked(WorkEnd::Fault) => panic!(rt; "no port fails"),
         ServeEnd::Worked(WorkEnd::Memory) => panic!(rt; "there is memory"),

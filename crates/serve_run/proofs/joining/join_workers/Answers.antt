@@ -49,7 +49,7 @@ loop-worker-init g c =
     let faults = c.args.faults.items in
     record {
       joined =
-          joined_none book share (length rest) pass (map told ports) (map (λ f. f.items) faults) c.requires.pass (map_none ports told c.requires.none.0) (map_none faults (λ f. f.items) c.requires.none.1)
+          joined_none book share (pass.left + share * length c.args.workers.items) (length rest) pass (map told ports) (map (λ f. f.items) faults) c.requires.pass (map_none ports told c.requires.none.0) (map_none faults (λ f. f.items) c.requires.none.1)
           (ap (λ (ws : List WorkerTold). pass.left + share * length ws) is);
       done = subst (All (IsDone book share)) (sym is) c.requires.done;
       ports = ap (λ (l : List PortTold). l ++ map (λ (w : WorkerTold). w.port) rest) (map_none ports told c.requires.none.0) ∙ ap (λ (ws : List WorkerTold). map (λ w. w.port) ws) is;
@@ -59,7 +59,7 @@ loop-worker-init g c =
     }
 
 pub with_worker-joined-requires-clause-done : goal.with_worker-joined-requires-clause-done
-with_worker-joined-requires-clause-done g c =
+with_worker-joined-requires-clause-done g c κs within =
     let book = c.args.book.now in
     let share = c.args.share in
     let worker = c.in-Some.worker in

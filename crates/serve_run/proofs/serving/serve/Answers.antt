@@ -6,12 +6,12 @@ use Rattle.serve_run.proofs.Fresh.{new_are_unused}
 use Rattle.serve_run.proofs.serving.serve.Goals as goal
 
 pub run_ports-how-requires-clause-share : goal.run_ports-how-requires-clause-share
-run_ports-how-requires-clause-share g c =
+run_ports-how-requires-clause-share g c κs within =
     subst (λ (n : ℕ). n * length c.in-Ok.ports.items ≤ c.args.steps) (sym c.steps_of_each-share.ensures)
     (share_fits g.D.Port.DoorPort.told c.in-Ok.ports.items c.args.steps c.args.links c.args.workers c.requires.workers c.in-Ok.ensures.ports)
 
 pub run_ports-how-requires-clause-unused : goal.run_ports-how-requires-clause-unused
-run_ports-how-requires-clause-unused g c = new_are_unused g.D.Port.DoorPort.told c.args.links c.args.workers c.in-Ok.ports.items c.in-Ok.ensures.ports
+run_ports-how-requires-clause-unused g c κs within = new_are_unused g.D.Port.DoorPort.told c.args.links c.args.workers c.in-Ok.ports.items c.in-Ok.ensures.ports
 
 pub back-requires : goal.back-requires
 back-requires g c =
