@@ -1,0 +1,2 @@
+pub mod ServeRun
+pub mod Workers

@@ -1,0 +1,9 @@
+//! Tests of the run of many workers, of what no contract says: that the work outside the turn overlaps.
+#![tactic(auto)]
+
+#[cfg(test)]
+mod gates;
+#[cfg(test)]
+mod messages;
+#[cfg(test)]
+mod runs;
