@@ -1,9 +1,9 @@
 -- Where the position of an id stands.
 use Rattle.std.proofs.Common.{◌≡◌, ℕ, zero, suc, ◌+◌, Bool, true, false, cond, List, [], ◌∷◌, Option, Some, None, map, refl, sym, ap, subst, ◌∙◌, inl, inr, arith}
-use Rattle.std.specs.List.{slice_get, position_from, IsDistinct, AllByRecursion}
+use Rattle.std.specs.List.{slice_get, position_from, list_any, IsDistinct, AllByRecursion}
 use Rattle.std.specs.Option.{option_map_or}
 use Rattle.std.specs.Cmp.Lexicographic.{bytes_decides}
-use Rattle.std.proofs.lemmas.Bool.{cases_Bool, cond-true, cond-false, false≢true}
+use Rattle.std.proofs.lemmas.Bool.{cases_Bool, cond-true, cond-false, false≢true, or_from}
 use Rattle.std.proofs.lemmas.Map.Keys.{IsDistinct-head, IsDistinct-tail}
 use Rattle.pb_base.specs.Names.{same_name}
 use Rattle.book_model.specs.Book.{IsBook}
@@ -22,14 +22,22 @@ pub record IsFound {X : Type 0} (test : X → Bool) (i k : ℕ) (xs : List X) : 
 pub found_there : {X : Type 0} (test : X → Bool) (i k : ℕ) (xs : List X) → position_from test i xs ≡ Some k → IsFound test i k xs
 found_there test i k [] h = cc
 found_there {X} test i k (x ∷ xs) h = elim (cases_Bool (test x)) [
-    | inl e ↦
-        let here : Some i ≡ Some k = sym (cond-true (test x) (Some i) (position_from test (i + 1) xs) e) ∙ h in
-        let same : i ≡ k = cc in
-        record { behind = 0; item = x; place = omega (arith, same); there = refl; passes = e }
-    | inr e ↦
-        let later : IsFound test (i + 1) k xs = found_there test (i + 1) k xs (sym (cond-false (test x) (Some i) (position_from test (i + 1) xs) e) ∙ h) in
-        record { behind = suc later.behind; item = later.item; place = omega (arith, later.place); there = later.there; passes = later.passes }
-  ]
+  | inl e ↦
+      let here : Some i ≡ Some k = sym (cond-true (test x) (Some i) (position_from test (i + 1) xs) e) ∙ h in
+      let same : i ≡ k = cc in
+      record { behind = 0; item = x; place = omega (arith, same); there = refl; passes = e }
+  | inr e ↦
+      let later : IsFound test (i + 1) k xs = found_there test (i + 1) k xs (sym (cond-false (test x) (Some i) (position_from test (i + 1) xs) e) ∙ h) in
+      record { behind = suc later.behind; item = later.item; place = omega (arith, later.place); there = later.there; passes = later.passes }
+]
+
+-- where none is found, none passes
+pub none_found : {X : Type 0} (test : X → Bool) (i : ℕ) (xs : List X) → position_from test i xs ≡ None → list_any test xs ≡ false
+none_found test i [] h = refl
+none_found {X} test i (x ∷ xs) h = elim (cases_Bool (test x)) [
+  | inl e ↦ let found : Some i ≡ None = sym (cond-true (test x) (Some i) (position_from test (i + 1) xs) e) ∙ h in cc
+  | inr e ↦ or_from (test x) (list_any test xs) e (none_found test (i + 1) xs (sym (cond-false (test x) (Some i) (position_from test (i + 1) xs) e) ∙ h))
+]
 
 other_at : (name other : List ℕ) (names : List (List ℕ)) (k : ℕ) → AllByRecursion (λ n. same_name name n ≡ false) names → slice_get names k ≡ Some other → same_name name other ≡ false
 other_at name other [] k apart is = cc

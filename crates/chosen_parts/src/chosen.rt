@@ -4,8 +4,8 @@ ghost use Rattle.std.specs.Option.{option_map, option_to_list};
 ghost use Rattle.book_model.specs.Parts.{selected_of};
 ghost use Rattle.chosen_parts.specs.Chosen.{use_of, part_use, selected_at, chosen_at, chosen, AreFew};
 
-use crate::place::place_of_position;
 use crate::part_use::is_selected;
+use crate::place::place_of_position;
 use book_model::{Book, Variant, active};
 use pb_base::{CodeSet, Day, Id};
 

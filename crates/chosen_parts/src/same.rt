@@ -4,8 +4,8 @@ ghost use Rattle.std.specs.Option.{option_map};
 ghost use Rattle.chosen_parts.specs.Chosen.{use_of, position_place, chosen, AreFew, HaveSameParts, HaveOtherParts, AreSameAt, IsAdded, HaveNoneAdded};
 
 use crate::chosen::chosen_variant;
-use crate::place::place_of_position;
 use crate::part_use::same_use;
+use crate::place::place_of_position;
 use book_model::{Book, Variant};
 use pb_base::{CodeSet, Day, Id};
 
