@@ -1,0 +1,3 @@
+pub mod AcceptedLaws
+pub mod GatheredLaws
+pub mod AloneLaws

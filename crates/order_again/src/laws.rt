@@ -1,0 +1,12 @@
+//! What determines an answer.
+ghost use Rattle.std.specs.Prelude.{◌≡◌, ℕ, List};
+ghost use Rattle.book_model.specs.Contents.{Contents};
+ghost use Rattle.order_again.specs.Again.{IsAgain};
+ghost use Rattle.order_again.specs.declared.outcome.Again.{Again};
+
+/// An order, the book that accepted it and the other book have one answer; so who gives it, and how many others give theirs beside
+/// it, makes no difference. The call does nothing.
+pub fn again_laws()
+    ensures { (own to : Contents) (day : ℕ) (names : List (List ℕ)) (a b : Again)
+        → IsAgain own to day names a → IsAgain own to day names b → a ≡ b }
+{}

@@ -1,0 +1,15 @@
+//! Orders that were accepted, judged again by another book.
+#![tactic(auto)]
+
+mod judging;
+mod kept;
+mod laws;
+mod outcome;
+mod text;
+mod workers;
+
+pub use kept::Stock;
+pub use laws::again_laws;
+pub use outcome::Again;
+pub use text::stock_text;
+pub use workers::rejudge;
