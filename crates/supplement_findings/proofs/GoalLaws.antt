@@ -1,0 +1,383 @@
+-- The clauses of questions: a constructible set that shows what one of them asks for begins an assignment that satisfies the
+-- clauses with the variable of its goal true, and what satisfies them so begins with such a set.
+use Rattle.std.proofs.Common.{inl, inr, ◌≡◌, ℕ, zero, suc, ◌+◌, ◌≤◌, ◌<◌, Bool, true, false, not, ◌&&◌, ◌||◌, eqb, List, [], ◌∷◌, ◌++◌, Some, length, map, drop, get_or, set, refl, sym, ap, subst, ◌∙◌, arith}
+use Rattle.std.specs.List.{filter, flat_map, list_any, slice_get, AllByRecursion}
+use Rattle.std.proofs.lemmas.Bool.{and_parts, and_from, or_left, cases_Bool, not-true, true≢false, false≢true}
+use Rattle.std.proofs.lemmas.Option.{none-some, same_Some}
+use Rattle.std.proofs.lemmas.List.{map-append}
+use Rattle.pb_base.specs.Leaves.{with_present}
+use Rattle.pb_base.specs.Rule.{Rule, always, never, holds}
+use Rattle.pb_base.specs.Sets.{has}
+use Rattle.pb_base.proofs.LeafLaws.{holds-with_present}
+use Rattle.book_model.specs.Activity.{is_within}
+use Rattle.book_model.specs.Book.{IsBook}
+use Rattle.book_model.specs.Contents.{Contents}
+use Rattle.book_model.specs.Good.{breaks, fires, is_constructible}
+use Rattle.book_model.specs.declared.record.Construct.{Construct}
+use Rattle.book_model.specs.declared.record.Supplement.{Supplement}
+use Rattle.clause_pool.specs.Literal.{literal, complement, is_true}
+use Rattle.clause_pool.specs.Clause.{clause_of, clause_true, Sat}
+use Rattle.clause_pool.proofs.ClauseLaws.{clause_true-clause_of}
+use Rattle.clause_pool.proofs.LiteralLaws.{is_true-complement}
+use Rattle.clausify.specs.Coded.{construct_variables}
+use Rattle.clausify.specs.Formulas.{connectives, formula_literal, literals_from}
+use Rattle.clausify.specs.Items.{Item, construct_items, free_item, encoded_items, variables_of}
+use Rattle.clausify.proofs.FormulaLaws.{Names, Begins, names_first, names_last}
+use Rattle.clausify.proofs.ItemLaws.{AllFit, AllMeet, AllBelow, items_named, items_named-append, length-items_named, literals_true, free_items_fit, free_items_met, construct_items_fit, constructible_from_meets, meets_from_constructible}
+use Rattle.clausify.proofs.LiftLaws.{lifted, IsLiftedOver, lift_items, IsOver, items_over}
+use Rattle.clausify.proofs.ListLaws.{all-append, all_first, all_last, all_weaker}
+use Rattle.clausify.proofs.Truth.{true_negative, true_positive}
+use Rattle.supplement_findings.specs.Answering.{IsPosed}
+use Rattle.supplement_findings.specs.Clauses.{breaks_own, swaps_own, own, own_variables, breaks_lits, swaps_lits, question_lits, goal_clauses, all_own, all_lits, all_goal_clauses, asked_items, goals_start, questions_clauses}
+use Rattle.supplement_findings.specs.Ends.{with_code, breaks_with, swaps_with}
+use Rattle.supplement_findings.specs.Questions.{rule_at, is_put, is_asked, meets, QuestionFits}
+use Rattle.supplement_findings.specs.Touching.{touches, after, touched, afters}
+use Rattle.supplement_findings.specs.declared.lits.QuestionLits.{QuestionLits}
+use Rattle.supplement_findings.specs.declared.lits.QuestionLits.TheVariants.{BreaksLits, SwapsLits}
+use Rattle.supplement_findings.specs.declared.question.SupplementQuestion.{SupplementQuestion}
+use Rattle.supplement_findings.specs.declared.question.SupplementQuestion.TheVariants.{Breaks, Swaps}
+use Rattle.supplement_findings.proofs.FitLaws.{supplement_fits, constructs_fit, own_below, all_own_below}
+use Rattle.supplement_findings.proofs.QuestionLaws.{breaks_over, swaps_over}
+use Rattle.supplement_findings.proofs.TouchLaws.{broken_after}
+
+-- the rest of each clause of a goal is true
+abbrev pub goal_met : (ℕ → Bool) → QuestionLits → Bool
+goal_met a (BreaksLits rule added afterwards) = is_true a rule && (is_true a (literal added false) && list_any (is_true a) (map complement afterwards))
+goal_met a (SwapsLits first first_added second second_added second_afterwards first_afterwards) =
+    is_true a first && (is_true a (literal first_added false) && (is_true a second && (is_true a (literal second_added false)
+    && (is_true a (complement second_afterwards) || (is_true a (complement first_afterwards) || false)))))
+
+clause_where : (a : ℕ → Bool) (w : ℕ) (ls : List ℕ) → clause_true a (clause_of (literal w false ∷ ls)) ≡ (not (a w) || list_any (is_true a) ls)
+clause_where a w ls = clause_true-clause_of a (literal w false ∷ ls) ∙ ap (λ t. t || list_any (is_true a) ls) (true_negative a w)
+
+implied : (t u : Bool) → (t ≡ true → u ≡ true) → (not t || u) ≡ true
+implied true u h = h refl
+implied false u h = refl
+
+implied_back : (t u : Bool) → (not t || u) ≡ true → t ≡ true → u ≡ true
+implied_back true u h e = h
+implied_back false u h e = absurd (false≢true e)
+
+alone : (t : Bool) → (t || false) ≡ true → t ≡ true
+alone true h = refl
+alone false h = h
+
+-- a clause of the goal, and what it says
+where_true : (a : ℕ → Bool) (w : ℕ) (ls : List ℕ) → (a w ≡ true → list_any (is_true a) ls ≡ true) → clause_true a (clause_of (literal w false ∷ ls)) ≡ true
+where_true a w ls h = clause_where a w ls ∙ implied (a w) (list_any (is_true a) ls) h
+
+then_true : (a : ℕ → Bool) (w : ℕ) (ls : List ℕ) → clause_true a (clause_of (literal w false ∷ ls)) ≡ true → a w ≡ true → list_any (is_true a) ls ≡ true
+then_true a w ls h e = implied_back (a w) (list_any (is_true a) ls) (sym (clause_where a w ls) ∙ h) e
+
+-- the parts of what a goal asks for
+record BreaksMet (a : ℕ → Bool) (rule added : ℕ) (afterwards : List ℕ) : Type 0 where
+  fired : is_true a rule ≡ true
+  absent : is_true a (literal added false) ≡ true
+  unmet : list_any (is_true a) (map complement afterwards) ≡ true
+
+breaks_met : (a : ℕ → Bool) (rule added : ℕ) (afterwards : List ℕ) → goal_met a (BreaksLits rule added afterwards) ≡ true → BreaksMet a rule added afterwards
+breaks_met a rule added afterwards h =
+    let p = and_parts (is_true a rule) (is_true a (literal added false) && list_any (is_true a) (map complement afterwards)) h in
+    let q = and_parts (is_true a (literal added false)) (list_any (is_true a) (map complement afterwards)) p.1 in
+    record { fired = p.0; absent = q.0; unmet = q.1 }
+
+record SwapsMet (a : ℕ → Bool) (first first_added second second_added second_afterwards first_afterwards : ℕ) : Type 0 where
+  fired_first : is_true a first ≡ true
+  absent_first : is_true a (literal first_added false) ≡ true
+  fired_second : is_true a second ≡ true
+  absent_second : is_true a (literal second_added false) ≡ true
+  lost : (is_true a (complement second_afterwards) || (is_true a (complement first_afterwards) || false)) ≡ true
+
+swaps_met : (a : ℕ → Bool) (first first_added second second_added second_afterwards first_afterwards : ℕ)
+    → goal_met a (SwapsLits first first_added second second_added second_afterwards first_afterwards) ≡ true
+    → SwapsMet a first first_added second second_added second_afterwards first_afterwards
+swaps_met a first first_added second second_added second_afterwards first_afterwards h =
+    let one : Bool = is_true a (complement second_afterwards) || (is_true a (complement first_afterwards) || false) in
+    let p = and_parts (is_true a first) (is_true a (literal first_added false) && (is_true a second && (is_true a (literal second_added false) && one))) h in
+    let q = and_parts (is_true a (literal first_added false)) (is_true a second && (is_true a (literal second_added false) && one)) p.1 in
+    let r = and_parts (is_true a second) (is_true a (literal second_added false) && one) q.1 in
+    let s = and_parts (is_true a (literal second_added false)) one r.1 in
+    record { fired_first = p.0; absent_first = q.0; fired_second = r.0; absent_second = s.0; lost = s.1 }
+
+-- the clauses of a goal hold where its variable says that it is met, or is false
+pub sat_goal : (a : ℕ → Bool) (w : ℕ) (lits : QuestionLits) → (a w ≡ true → goal_met a lits ≡ true) → Sat (goal_clauses w lits) a
+sat_goal a w (BreaksLits rule added afterwards) h = (
+  where_true a w (rule ∷ []) (λ e. or_left _ _ (breaks_met a rule added afterwards (h e)).fired),
+  (
+    where_true a w (literal added false ∷ []) (λ e. or_left _ _ (breaks_met a rule added afterwards (h e)).absent),
+    (where_true a w (map complement afterwards) (λ e. (breaks_met a rule added afterwards (h e)).unmet), tt),
+  ),
+)
+sat_goal a w (SwapsLits first first_added second second_added second_afterwards first_afterwards) h =
+    let met : a w ≡ true → SwapsMet a first first_added second second_added second_afterwards first_afterwards =
+    λ e. swaps_met a first first_added second second_added second_afterwards first_afterwards (h e) in (
+      where_true a w (first ∷ []) (λ e. or_left _ _ (met e).fired_first),
+      (
+        where_true a w (literal first_added false ∷ []) (λ e. or_left _ _ (met e).absent_first),
+        (
+          where_true a w (second ∷ []) (λ e. or_left _ _ (met e).fired_second),
+          (
+            where_true a w (literal second_added false ∷ []) (λ e. or_left _ _ (met e).absent_second),
+            (where_true a w (complement second_afterwards ∷ complement first_afterwards ∷ []) (λ e. (met e).lost), tt),
+          ),
+        ),
+      ),
+    )
+
+pub goal_from_sat : (a : ℕ → Bool) (w : ℕ) (lits : QuestionLits) → Sat (goal_clauses w lits) a → a w ≡ true → goal_met a lits ≡ true
+goal_from_sat a w (BreaksLits rule added afterwards) h e =
+    and_from _ _ (alone _ (then_true a w (rule ∷ []) h.0 e))
+    (and_from _ _ (alone _ (then_true a w (literal added false ∷ []) h.1.0 e)) (then_true a w (map complement afterwards) h.1.1.0 e))
+goal_from_sat a w (SwapsLits first first_added second second_added second_afterwards first_afterwards) h e =
+    and_from _ _ (alone _ (then_true a w (first ∷ []) h.0 e))
+    (and_from _ _ (alone _ (then_true a w (literal first_added false ∷ []) h.1.0 e))
+    (and_from _ _ (alone _ (then_true a w (second ∷ []) h.1.1.0 e))
+    (and_from _ _ (alone _ (then_true a w (literal second_added false ∷ []) h.1.1.1.0 e))
+    (then_true a w (complement second_afterwards ∷ complement first_afterwards ∷ []) h.1.1.1.1.0 e))))
+
+-- what a goal asks for, of a constructible set
+abbrev pub shown : Contents → ℕ → SupplementQuestion → List Bool → Bool
+shown b day (Breaks place) x =
+    let s : Supplement = rule_at b place in
+    holds s.rule x && (not (has x s.code) && list_any (λ r. not (holds (after s.code r.demand) x)) (touched b day s.code))
+shown b day (Swaps first second) x =
+    let s : Supplement = rule_at b first in
+    let t : Supplement = rule_at b second in
+    holds s.rule x && (not (has x s.code) && (holds t.rule x && (not (has x t.code)
+    && (not (holds (with_present s.code t.rule) x) || (not (holds (with_present t.code s.rule) x) || false)))))
+
+any_complement : (a : ℕ → Bool) (ls : List ℕ) → list_any (is_true a) (map complement ls) ≡ list_any not (map (is_true a) ls)
+any_complement a [] = refl
+any_complement a (l ∷ ls) =
+    ap (λ t. t || list_any (is_true a) (map complement ls)) (is_true-complement a l) ∙ ap (λ t. not (is_true a l) || t) (any_complement a ls)
+
+any_unmet : (c : ℕ) (x : List Bool) (rs : List Construct)
+    → list_any not (map (λ f. holds f x) (map (λ r. after c r.demand) rs)) ≡ list_any (λ r. not (holds (after c r.demand) x)) rs
+any_unmet c x [] = refl
+any_unmet c x (r ∷ rs) = ap (λ t. not (holds (after c r.demand) x) || t) (any_unmet c x rs)
+
+-- the literal that a code is absent
+absent_true : (b : Contents) (x : List Bool) (a : ℕ → Bool) → Begins (length b.codes) (length b.codes) x a → (c : ℕ) → c < length b.codes → is_true a (literal c false) ≡ not (has x c)
+absent_true b x a begins c within = true_negative a c ∙ ap not (begins.codes c within)
+
+goal_breaks : (b : Contents) (day : ℕ) (s : Supplement) (x : List Bool) (a : ℕ → Bool) (v : ℕ) → Begins (length b.codes) (length b.codes) x a → s.code < length b.codes
+    → map (is_true a) (literals_from (length b.codes) v (breaks_own b day s)) ≡ map (λ f. holds f x) (breaks_own b day s)
+    → goal_met a (breaks_lits b day v s) ≡ (holds s.rule x && (not (has x s.code) && list_any (λ r. not (holds (after s.code r.demand) x)) (touched b day s.code)))
+goal_breaks b day s x a v begins within all =
+    let n : ℕ = length b.codes in
+    let ls : List ℕ = literals_from n (v + connectives s.rule) (afters b day s.code) in
+    let first : is_true a (formula_literal n v s.rule) ≡ holds s.rule x = ap (λ (ts : List Bool). get_or ts 0 false) all in
+    let rest : map (is_true a) ls ≡ map (λ f. holds f x) (afters b day s.code) = ap (λ (ts : List Bool). drop 1 ts) all in
+    let unmet : list_any (is_true a) (map complement ls) ≡ list_any (λ r. not (holds (after s.code r.demand) x)) (touched b day s.code) =
+    any_complement a ls ∙ ap (list_any not) rest ∙ any_unmet s.code x (touched b day s.code) in
+    ap (λ t. t && (is_true a (literal s.code false) && list_any (is_true a) (map complement ls))) first
+    ∙ ap (λ t. holds s.rule x && (t && list_any (is_true a) (map complement ls))) (absent_true b x a begins s.code within)
+    ∙ ap (λ t. holds s.rule x && (not (has x s.code) && t)) unmet
+
+goal_swaps : (b : Contents) (s t : Supplement) (x : List Bool) (a : ℕ → Bool) (v : ℕ) → Begins (length b.codes) (length b.codes) x a → s.code < length b.codes → t.code < length b.codes
+    → map (is_true a) (literals_from (length b.codes) v (swaps_own s t)) ≡ map (λ f. holds f x) (swaps_own s t)
+    → goal_met a (swaps_lits (length b.codes) v s t)
+    ≡ (holds s.rule x && (not (has x s.code) && (holds t.rule x && (not (has x t.code) && (not (holds (with_present s.code t.rule) x) || (not (holds (with_present t.code s.rule) x) || false))))))
+goal_swaps b s t x a v begins within_s within_t all =
+    let n : ℕ = length b.codes in
+    let f : ℕ = formula_literal n v s.rule in
+    let g : ℕ = formula_literal n (v + connectives s.rule) t.rule in
+    let h : ℕ = formula_literal n (v + connectives s.rule + connectives t.rule) (with_present s.code t.rule) in
+    let k : ℕ = formula_literal n (v + connectives s.rule + connectives t.rule + connectives (with_present s.code t.rule)) (with_present t.code s.rule) in
+    let at_f : is_true a f ≡ holds s.rule x = ap (λ (ts : List Bool). get_or ts 0 false) all in
+    let at_g : is_true a g ≡ holds t.rule x = ap (λ (ts : List Bool). get_or ts 1 false) all in
+    let at_h : is_true a h ≡ holds (with_present s.code t.rule) x = ap (λ (ts : List Bool). get_or ts 2 false) all in
+    let at_k : is_true a k ≡ holds (with_present t.code s.rule) x = ap (λ (ts : List Bool). get_or ts 3 false) all in
+    let lost : Bool = not (holds (with_present s.code t.rule) x) || (not (holds (with_present t.code s.rule) x) || false) in
+    ap (λ u. u && (is_true a (literal s.code false) && (is_true a g && (is_true a (literal t.code false) && (is_true a (complement h) || (is_true a (complement k) || false)))))) at_f
+    ∙ ap (λ u. holds s.rule x && (u && (is_true a g && (is_true a (literal t.code false) && (is_true a (complement h) || (is_true a (complement k) || false)))))) (absent_true b x a begins s.code within_s)
+    ∙ ap (λ u. holds s.rule x && (not (has x s.code) && (u && (is_true a (literal t.code false) && (is_true a (complement h) || (is_true a (complement k) || false)))))) at_g
+    ∙ ap (λ u. holds s.rule x && (not (has x s.code) && (holds t.rule x && (u && (is_true a (complement h) || (is_true a (complement k) || false)))))) (absent_true b x a begins t.code within_t)
+    ∙ ap (λ u. holds s.rule x && (not (has x s.code) && (holds t.rule x && (not (has x t.code) && (u || (is_true a (complement k) || false)))))) (is_true-complement a h ∙ ap not at_h)
+    ∙ ap (λ u. holds s.rule x && (not (has x s.code) && (holds t.rule x && (not (has x t.code) && (not (holds (with_present s.code t.rule) x) || (u || false)))))) (is_true-complement a k ∙ ap not at_k)
+
+pub goal_shown : (b : Contents) (day : ℕ) (q : SupplementQuestion) (x : List Bool) (a : ℕ → Bool) (v : ℕ) → IsBook b → QuestionFits b q → Begins (length b.codes) (length b.codes) x a
+    → Names a x v (items_named (map free_item (own b day q))) → goal_met a (question_lits b day v q) ≡ shown b day q x
+goal_shown b day (Breaks place) x a v book fits begins names =
+    goal_breaks b day (rule_at b place) x a v begins (supplement_fits b place book fits).code
+    (literals_true (length b.codes) x a begins v (own b day (Breaks place)) (own_below b day (Breaks place) book fits) names)
+goal_shown b day (Swaps first second) x a v book fits begins names =
+    goal_swaps b (rule_at b first) (rule_at b second) x a v begins (supplement_fits b first book fits.0).code (supplement_fits b second book fits.1).code
+    (literals_true (length b.codes) x a begins v (own b day (Swaps first second)) (own_below b day (Swaps first second) book fits) names)
+
+-- over a constructible set of the book's codes that is what the question asks for
+breaks_table : (h c u : Bool) → (true && (true && h && not c) && not (not u)) ≡ (h && (not c && u))
+breaks_table false c u = refl
+breaks_table true true u = refl
+breaks_table true false true = refl
+breaks_table true false false = refl
+
+swaps_table : (hs cs ht ct h k : Bool)
+    → (true && (true && hs && not cs) && (true && ht && not ct) && not false && not (h && k)) ≡ (hs && (not cs && (ht && (not ct && (not h || (not k || false))))))
+swaps_table false cs ht ct h k = refl
+swaps_table true true ht ct h k = refl
+swaps_table true false false ct h k = refl
+swaps_table true false true true h k = refl
+swaps_table true false true false true true = refl
+swaps_table true false true false true false = refl
+swaps_table true false true false false k = refl
+
+breaks_shown : (b : Contents) (day : ℕ) (s : Supplement) (x : List Bool) → IsBook b → s.code < length b.codes → is_within s.from s.until day ≡ true → length x ≡ length b.codes
+    → is_constructible b day x ≡ true
+    → breaks_with b day s x ≡ (holds s.rule x && (not (has x s.code) && list_any (λ r. not (holds (after s.code r.demand) x)) (touched b day s.code)))
+breaks_shown b day s x book within active len built =
+    let broken : Bool = list_any (breaks day (with_code s.code x)) b.constructs in
+    let fired : Bool = holds s.rule x && not (has x s.code) in
+    ap (λ t. t && fires day x s && not (not broken)) built
+    ∙ ap (λ t. true && (t && holds s.rule x && not (has x s.code)) && not (not broken)) active
+    ∙ ap (λ t. true && (true && holds s.rule x && not (has x s.code)) && not (not t))
+    (broken_after (length b.codes) day x s.code b.constructs (subst (λ (m : ℕ). s.code < m) (sym len) within) (constructs_fit b book) (not-true _ built))
+    ∙ breaks_table (holds s.rule x) (has x s.code) (list_any (λ r. not (holds (after s.code r.demand) x)) (touched b day s.code))
+
+swaps_shown : (b : Contents) (day : ℕ) (s t : Supplement) (x : List Bool) → s.code < length b.codes → t.code < length b.codes → is_within s.from s.until day ≡ true
+    → is_within t.from t.until day ≡ true → eqb s.code t.code ≡ false → length x ≡ length b.codes → is_constructible b day x ≡ true
+    → swaps_with b day s t x
+    ≡ (holds s.rule x && (not (has x s.code) && (holds t.rule x && (not (has x t.code) && (not (holds (with_present s.code t.rule) x) || (not (holds (with_present t.code s.rule) x) || false))))))
+swaps_shown b day s t x within_s within_t active_s active_t apart len built =
+    let stays : Bool = holds t.rule (with_code s.code x) && holds s.rule (with_code t.code x) in
+    ap (λ u. u && fires day x s && fires day x t && not (eqb s.code t.code) && not stays) built
+    ∙ ap (λ u. true && (u && holds s.rule x && not (has x s.code)) && fires day x t && not (eqb s.code t.code) && not stays) active_s
+    ∙ ap (λ u. true && (true && holds s.rule x && not (has x s.code)) && (u && holds t.rule x && not (has x t.code)) && not (eqb s.code t.code) && not stays) active_t
+    ∙ ap (λ u. true && (true && holds s.rule x && not (has x s.code)) && (true && holds t.rule x && not (has x t.code)) && not u && not stays) apart
+    ∙ ap (λ u. true && (true && holds s.rule x && not (has x s.code)) && (true && holds t.rule x && not (has x t.code)) && not false && not (u && holds s.rule (with_code t.code x)))
+    (sym (holds-with_present x s.code (subst (λ (m : ℕ). s.code < m) (sym len) within_s) t.rule))
+    ∙ ap (λ u. true && (true && holds s.rule x && not (has x s.code)) && (true && holds t.rule x && not (has x t.code)) && not false && not (holds (with_present s.code t.rule) x && u))
+    (sym (holds-with_present x t.code (subst (λ (m : ℕ). t.code < m) (sym len) within_t) s.rule))
+    ∙ swaps_table (holds s.rule x) (has x s.code) (holds t.rule x) (has x t.code) (holds (with_present s.code t.rule) x) (holds (with_present t.code s.rule) x)
+
+pub meets_shown : (b : Contents) (day : ℕ) (q : SupplementQuestion) (x : List Bool) → IsBook b → IsPosed b day q → length x ≡ length b.codes → is_constructible b day x ≡ true
+    → meets b day q x ≡ shown b day q x
+meets_shown b day (Breaks place) x book posed len built = breaks_shown b day (rule_at b place) x book (supplement_fits b place book posed.fits).code posed.put len built
+meets_shown b day (Swaps first second) x book posed len built =
+    let both = and_parts (is_within (rule_at b first).from (rule_at b first).until day) (is_within (rule_at b second).from (rule_at b second).until day) posed.put in
+    let apart = and_parts (not (eqb (rule_at b first).code (rule_at b second).code)) _ posed.fits.2 in
+    swaps_shown b day (rule_at b first) (rule_at b second) x (supplement_fits b first book posed.fits.0).code (supplement_fits b second book posed.fits.1).code both.0 both.1
+    (not-true _ apart.0) len built
+
+-- what is constructible is part of what each question asks for
+pub built_from_meets : (b : Contents) (day : ℕ) (q : SupplementQuestion) (x : List Bool) → meets b day q x ≡ true → is_constructible b day x ≡ true
+built_from_meets b day (Breaks place) x h = (breaks_over b day (rule_at b place) x h).built
+built_from_meets b day (Swaps first second) x h = (swaps_over b day (rule_at b first) (rule_at b second) x h).built
+
+-- The names of the questions' formulas, each behind the other.
+abbrev NamesEach : (ℕ → Bool) → List Bool → Contents → ℕ → ℕ → List SupplementQuestion → Type 0
+NamesEach a x b day v [] = Unit {0}
+NamesEach a x b day v (q ∷ qs) = Names a x v (items_named (map free_item (own b day q))) × NamesEach a x b day (v + own_variables b day q) qs
+
+names_each : (a : ℕ → Bool) (x : List Bool) (b : Contents) (day v : ℕ) (qs : List SupplementQuestion) → Names a x v (items_named (map free_item (all_own b day qs))) → NamesEach a x b day v qs
+names_each a x b day v [] h = tt
+names_each a x b day v (q ∷ qs) h =
+    let here : List Item = map free_item (own b day q) in
+    let later : List Item = map free_item (all_own b day qs) in
+    let split : Names a x v (items_named here ++ items_named later) =
+    subst (λ (fs : List Rule). Names a x v fs) (ap items_named (map-append free_item (own b day q) (all_own b day qs)) ∙ items_named-append here later) h in (
+      names_first a x v (items_named here) (items_named later) split,
+      names_each a x b day (v + own_variables b day q) qs
+          (subst (λ (k : ℕ). Names a x (v + k) (items_named later)) (length-items_named here) (names_last a x v (items_named here) (items_named later) split)),
+    )
+
+-- a rule that has this truth over every set
+abbrev truth_rule : Bool → Rule
+truth_rule true = always
+truth_rule false = never
+
+holds-truth_rule : (t : Bool) (x : List Bool) → holds (truth_rule t) x ≡ t
+holds-truth_rule true x = refl
+holds-truth_rule false x = refl
+
+abbrev values : Contents → ℕ → List Bool → List SupplementQuestion → List Rule
+values b day x qs = map (λ q. truth_rule (meets b day q x)) qs
+
+module _ (b : Contents) (day : ℕ) (book : IsBook b) (x : List Bool) (len : length x ≡ length b.codes) (built : is_constructible b day x ≡ true)
+    (a : ℕ → Bool) (begins : Begins (length b.codes) (length b.codes) x a) where
+  goal_meets : (q : SupplementQuestion) (v : ℕ) → IsPosed b day q → Names a x v (items_named (map free_item (own b day q))) → goal_met a (question_lits b day v q) ≡ meets b day q x
+  goal_meets q v posed names = goal_shown b day q x a v book posed.fits begins names ∙ sym (meets_shown b day q x book posed len built)
+
+  sat_goals : (v w : ℕ) (qs : List SupplementQuestion) → AllByRecursion (IsPosed b day) qs → NamesEach a x b day v qs → Names a x w (values b day x qs)
+      → Sat (all_goal_clauses w (all_lits b day v qs)) a
+  sat_goals v w [] posed names values_ = tt
+  sat_goals v w (q ∷ qs) posed names values_ =
+      all-append _ (goal_clauses w (question_lits b day v q)) _
+      (sat_goal a w (question_lits b day v q) (λ e. goal_meets q v posed.0 names.0 ∙ sym (holds-truth_rule (meets b day q x) x) ∙ sym values_.0 ∙ e))
+      (sat_goals (v + own_variables b day q) (w + 1) qs posed.1 names.1 values_.1)
+
+  -- the goal's variable is true only where the question is met
+  goal_at : (v w : ℕ) (qs : List SupplementQuestion) → AllByRecursion (IsPosed b day) qs → NamesEach a x b day v qs → Sat (all_goal_clauses w (all_lits b day v qs)) a
+      → (k : ℕ) (q : SupplementQuestion) → slice_get qs k ≡ Some q → a (w + k) ≡ true → meets b day q x ≡ true
+  goal_at v w [] posed names sat k q there on = absurd (none-some q there)
+  goal_at v w (p ∷ qs) posed names sat zero q there on =
+      let own_sat : Sat (goal_clauses w (question_lits b day v p)) a = all_first _ (goal_clauses w (question_lits b day v p)) _ sat in
+      let here : a w ≡ true = ap a (let e : w ≡ w + zero = omega arith in e) ∙ on in
+      subst (λ (r : SupplementQuestion). meets b day r x ≡ true) (same_Some p q there)
+      (sym (goal_meets p v posed.0 names.0) ∙ goal_from_sat a w (question_lits b day v p) own_sat here)
+  goal_at v w (p ∷ qs) posed names sat (suc k) q there on =
+      goal_at (v + own_variables b day p) (w + 1) qs posed.1 names.1 (all_last _ (goal_clauses w (question_lits b day v p)) _ sat) k q there
+      (ap a (let e : w + 1 + k ≡ w + suc k = omega arith in e) ∙ on)
+
+-- the variable of a question's goal has the question's value
+value_at : (a : ℕ → Bool) (b : Contents) (day : ℕ) (x : List Bool) (w : ℕ) (qs : List SupplementQuestion) → Names a x w (values b day x qs)
+    → (k : ℕ) (q : SupplementQuestion) → slice_get qs k ≡ Some q → a (w + k) ≡ meets b day q x
+value_at a b day x w [] names k q there = absurd (none-some q there)
+value_at a b day x w (p ∷ qs) names zero q there =
+    ap a (let e : w + zero ≡ w = omega arith in e) ∙ names.0 ∙ holds-truth_rule (meets b day p x) x ∙ ap (λ (r : SupplementQuestion). meets b day r x) (same_Some p q there)
+value_at a b day x w (p ∷ qs) names (suc k) q there =
+    ap a (let e : w + suc k ≡ w + 1 + k = omega arith in e) ∙ value_at a b day x (w + 1) qs names.1 k q there
+
+posed_fit : (b : Contents) (day : ℕ) (qs : List SupplementQuestion) → AllByRecursion (IsPosed b day) qs → AllByRecursion (QuestionFits b) qs
+posed_fit b day qs posed = all_weaker (IsPosed b day) (QuestionFits b) (λ q h. h.fits) qs posed
+
+pub asked_fit : (b : Contents) (day : ℕ) (qs : List SupplementQuestion) → IsBook b → AllByRecursion (QuestionFits b) qs → AllFit (length b.codes) (asked_items b day qs)
+asked_fit b day qs book fits =
+    all-append _ (construct_items b day) (map free_item (all_own b day qs)) (construct_items_fit b day book.constructs_fit)
+    (free_items_fit (length b.codes) (all_own b day qs) (all_own_below b day qs book fits))
+
+own_names : (b : Contents) (day : ℕ) (qs : List SupplementQuestion) (x : List Bool) (a : ℕ → Bool) → Names a x (length b.codes + 1) (items_named (asked_items b day qs))
+    → NamesEach a x b day (construct_variables b day) qs
+own_names b day qs x a h =
+    let rules : List Item = construct_items b day in
+    let mine : List Item = map free_item (all_own b day qs) in
+    let split : Names a x (length b.codes + 1) (items_named rules ++ items_named mine) = subst (λ (fs : List Rule). Names a x (length b.codes + 1) fs) (items_named-append rules mine) h in
+    names_each a x b day (construct_variables b day) qs
+    (subst (λ (k : ℕ). Names a x (length b.codes + 1 + k) (items_named mine)) (length-items_named rules) (names_last a x (length b.codes + 1) (items_named rules) (items_named mine) split))
+
+-- an assignment that satisfies the clauses and meets a goal's literal
+pub record MeetsGoal (clauses : List (List ℕ)) (variable : ℕ) : Type 0 where
+  pub assignment : ℕ → Bool
+  pub satisfies : Sat clauses assignment
+  pub meets_it : assignment variable ≡ true
+
+pub lifts_to_goal : (b : Contents) (day : ℕ) (qs : List SupplementQuestion) → IsBook b → AllByRecursion (IsPosed b day) qs → (k : ℕ) (q : SupplementQuestion) → slice_get qs k ≡ Some q
+    → (x : List Bool) → length x ≡ length b.codes → meets b day q x ≡ true → MeetsGoal (questions_clauses b day qs) (goals_start b day qs + k)
+lifts_to_goal b day qs book posed k q there x len met =
+    let n : ℕ = length b.codes in
+    let is : List Item = asked_items b day qs in
+    let own_rules : List Rule = values b day x qs in
+    let built = built_from_meets b day q x met in
+    let a : ℕ → Bool = lifted n (n + 1) x (items_named is ++ own_rules) in
+    let fits = posed_fit b day qs posed in
+    let all_met : AllMeet x is = all-append _ (construct_items b day) (map free_item (all_own b day qs)) (meets_from_constructible b day x built) (free_items_met x (all_own b day qs)) in
+    let l : IsLiftedOver n n (n + 1) is own_rules x a = lift_items n n (n + 1) is own_rules x (omega arith) (omega arith) (λ (h : n < n). absurd (omega arith)) (asked_fit b day qs book fits) all_met in
+    let each : NamesEach a x b day (construct_variables b day) qs = own_names b day qs x a (names_first a x (n + 1) (items_named is) own_rules l.names) in
+    let goals : Names a x (goals_start b day qs) own_rules =
+    subst (λ (m : ℕ). Names a x (n + 1 + m) own_rules) (length-items_named is) (names_last a x (n + 1) (items_named is) own_rules l.names) in
+    record {
+      assignment = a;
+      satisfies = all-append _ (encoded_items n (n + 1) is) _ l.satisfies (sat_goals b day book x len built a l.begins (construct_variables b day) (goals_start b day qs) qs posed each goals);
+      meets_it = value_at a b day x (goals_start b day qs) qs goals k q there ∙ met;
+    }
+
+pub meets_from_goal : (b : Contents) (day : ℕ) (qs : List SupplementQuestion) → IsBook b → AllByRecursion (IsPosed b day) qs → (k : ℕ) (q : SupplementQuestion) → slice_get qs k ≡ Some q
+    → (x : List Bool) (a : ℕ → Bool) → length x ≡ length b.codes → ((i : ℕ) → i < length b.codes → a i ≡ has x i) → Sat (questions_clauses b day qs) a
+    → a (goals_start b day qs + k) ≡ true → meets b day q x ≡ true
+meets_from_goal b day qs book posed k q there x a len codes sat on =
+    let n : ℕ = length b.codes in
+    let is : List Item = asked_items b day qs in
+    let fits = posed_fit b day qs posed in
+    let o : IsOver n n (n + 1) is x a = items_over n n (n + 1) is x a (asked_fit b day qs book fits) codes (all_first _ (encoded_items n (n + 1) is) _ sat) in
+    let built : is_constructible b day x ≡ true = constructible_from_meets b day x (all_first _ (construct_items b day) (map free_item (all_own b day qs)) o.meets) in
+    goal_at b day book x len built a o.begins (construct_variables b day) (goals_start b day qs) qs posed (own_names b day qs x a o.names) (all_last _ (encoded_items n (n + 1) is) _ sat) k q there on

@@ -1,0 +1,10 @@
+mod EndLaws
+mod QuestionLaws
+mod TouchLaws
+mod FitLaws
+mod GoalLaws
+mod SizeLaws
+mod CodingLaws
+mod AnswerLaws
+mod ReportLaws
+mod OccursLaws

@@ -1,0 +1,24 @@
+use Rattle.std.proofs.Common.{List, All, sym, subst, ◌∙◌}
+use Rattle.std.proofs.lemmas.List.Elements.{All-from_recursion}
+use Rattle.pb_base.specs.InParts.{InParts}
+use Rattle.supplement_findings.specs.Answering.{IsPosed, inquiry}
+use Rattle.supplement_findings.specs.Notes.{OwnNotes}
+use Rattle.supplement_findings.specs.Questions.{questions}
+use Rattle.supplement_findings.specs.declared.question.SupplementQuestion.{SupplementQuestion}
+use Rattle.supplement_findings.proofs.ReportLaws.{slice_notes, questions_posed}
+use Rattle.supplement_findings.proofs.slice.check_slice.Goals as goal
+
+pub check_questions-requires-clause-posed : goal.check_questions-requires-clause-posed
+check_questions-requires-clause-posed c =
+    let b = c.args.book.now in
+    let day = c.args.task.slice.first in
+    subst (All (IsPosed b day)) (sym (c.deref.ensures.value ∙ c.in_ok-questions.ensures)) (All-from_recursion (IsPosed b day) (questions b day) (questions_posed b day))
+
+pub returns : goal.returns
+returns c =
+    let b = c.args.book.now in
+    let budget = c.args.task.budget in
+    let s = c.args.task.slice in
+    slice_notes b budget s c.in_ok-own.own.items c.in_ok-notes.notes.items c.codes.ensures.book c.requires.task.order c.requires.task.steady
+    (subst (λ (qs : List SupplementQuestion). InParts (OwnNotes (inquiry b budget) s) qs c.in_ok-own.own.items) (c.deref.ensures.value ∙ c.in_ok-questions.ensures) c.in_ok-own.ensures)
+    c.in_ok-notes.ensures
