@@ -14,6 +14,21 @@ PAGE = TOP / "docs" / "WRONG-BODIES.md"
 
 # What the changed code would do. An edit that has no line here is shown by its name alone.
 WOULD = {
+    "a_leaf_under_a_not_forgotten": "a formula read with a code as present would be read without it where it stands under a not",
+    "two_codes_renamed_to_one": "two codes of one book would be taken for the same code of the other",
+    "a_gate_one_clause_off": "the layout of a slice would name another clause than the one that ties a variable",
+    "a_start_one_clause_off": "the layout of a slice would begin a record at the clause of another one",
+    "equal_parts_with_another_quantity": "a car that gets two of a part would count as one that gets one of it",
+    "positions_of_the_second_book_left_out": "a part at a place that only the other book knows would be overlooked",
+    "judged_by_the_kept_book": "a kept order would be judged again by the book that it was accepted by, and so come out the same always",
+    "a_start_from_another_store": "a desk would take up the rows of another store than the one that the words name",
+    "passes_that_are_split_with_a_step_too_many": "workers would be promised more steps than the run has",
+    "the_end_of_the_last_worker_alone_is_told": "a port that failed would go unsaid where a later one ended well",
+    "workers_with_half_of_their_steps": "workers would stop at half of the steps that are theirs",
+    "a_finding_of_another_slice": "a rule that breaks cars would be told with the days of another slice",
+    "a_pair_that_is_asked_is_skipped": "two rules that keep each other from firing would go unsaid",
+    "a_rule_is_read_without_the_code": "a rule would be asked of the car as it is, and not of the car with the code that is added",
+    "both_formulas_must_be_lost": "two rules of which only one keeps the other from firing would go unsaid",
     "a_closed_gate_written_again": "the gate could be torn open by a write to it while the record behind it was never synced",
     "a_gate_in_doubt_forgotten": "a change that failed late would be told as never made, and be there at the next start",
     "a_gate_opened_before_its_record_is_synced": "a stop in the middle of a change would leave a record of bytes that nobody wrote",
