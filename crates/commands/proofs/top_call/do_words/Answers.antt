@@ -1,12 +1,6 @@
-use Rattle.std.proofs.Common.{refl, inl, subst}
+use Rattle.std.proofs.Common.{refl, inl}
 use Rattle.commands.proofs.Asked.{Does-of_task, Does-of_usage, Does-of_memory}
-use Rattle.commands.specs.Words.{Asks}
-use Rattle.commands.specs.declared.task.Task.{Task}
 use Rattle.commands.proofs.top_call.do_words.Goals as goal
-
--- the store of the task is the one that the words name
-pub do_task-requires : goal.do_task-requires
-do_task-requires g c = λ store is. c.requires store (subst (λ (task : Task). Asks _ task) is (rw c.in-Ok-Some.field-0-is at c.in-Ok-Some.ensures))
 
 pub returns-in-Ok-Some : goal.returns-in-Ok-Some
 returns-in-Ok-Some g c = Does-of_task _ c.in-Ok-Some.task _ _ _ (rw c.in-Ok-Some.field-0-is at c.in-Ok-Some.ensures) c.do_task.ensures
