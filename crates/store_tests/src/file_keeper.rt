@@ -4,7 +4,6 @@ use crate::row::{book, draft, is_book, is_draft, is_order, number, order};
 use keeper::{BookRow, DraftRow, Keeper, OrderRow, Rows};
 use keeper_sql::FileKeeper;
 use pb_outside::OutError;
-use sqlite::{Alter, Connection, Error};
 use std::alloc::Global;
 use std::fs;
 use std::process::Abort;
@@ -57,75 +56,60 @@ fn put_rows<K: Keeper>(keeper: &mut K, alloc: Global, pairs: &[u8]) -> Result<()
     Ok(())
 }
 
-// A keeper that is made, begun and closed by itself, so that all else is proved over any keeper.
-trait Held: Keeper + Drop {
-    fn fresh(rt: HostRuntime) -> Self;
-
-    fn begin_store(&mut self, name: &str) -> Result<(), OutError>;
-
-    fn close_store(self) -> bool;
+fn begin<K: Held>(keeper: &mut K, name: &str) -> Result<(), OutError> {
+    keeper.begin_store(name)
 }
 
-// Each key is put twice, and each field of its row changes. While a keeper holds the store, no other one gets it.
+// While a keeper holds the store, no other one gets it.
 fn keeps<K: Held>(
     rt: &impl Abort,
     alloc: Global,
     keeper: &mut K,
     other: &mut K,
 ) -> Result<(), OutError> {
-    keeper.begin_store(STORE)?;
-    put_rows(keeper, alloc, b"2a1b2c1d")?;
-    keeper.migrate()?;
-    assert_eq!(rt; other.begin_store(STORE), Err(OutError::Failed));
+    begin(keeper, STORE)?;
+    put_rows(keeper, alloc, b"2a1b2c")?;
+    assert_eq!(rt; begin(other, STORE), Err(OutError::Failed));
     assert_eq!(rt; other.faults(), 1);
     Ok(())
 }
 
 fn are_drafts(rows: &[DraftRow]) -> bool {
-    matches!(rows, [first, second] if is_draft(first, b'1', b'd') && is_draft(second, b'2', b'c'))
+    matches!(rows, [first, second] if is_draft(first, b'1', b'b') && is_draft(second, b'2', b'c'))
 }
 
 fn are_books(rows: &[BookRow]) -> bool {
-    matches!(rows, [first, second] if is_book(first, b'1', b'd') && is_book(second, b'2', b'c'))
+    matches!(rows, [first, second] if is_book(first, b'1', b'b') && is_book(second, b'2', b'c'))
 }
 
 fn are_orders(rows: &[OrderRow]) -> bool {
-    matches!(rows, [first, second] if is_order(first, b'1', b'd') && is_order(second, b'2', b'c'))
+    matches!(rows, [first, second, third]
+        if is_order(first, b'1', b'b') && is_order(second, b'2', b'a') && is_order(third, b'2', b'c'))
 }
 
-fn shows(rt: &impl Abort, rows: &Rows, form: u64, withdrawn: &[u64]) {
-    assert_eq!(rt; rows.form, form);
+fn shows(rt: &impl Abort, rows: &Rows) {
+    assert_eq!(rt; rows.form, 2);
     assert!(rt; are_drafts(&rows.drafts));
     assert!(rt; are_books(&rows.books));
     assert!(rt; are_orders(&rows.orders));
-    assert_eq!(rt; rows.withdrawn.as_slice(), withdrawn);
-}
-
-fn holds<K: Keeper>(
-    rt: &impl Abort,
-    keeper: &mut K,
-    form: u64,
-    withdrawn: &[u64],
-) -> Result<(), OutError> {
-    let rows = keeper.load()?;
-    shows(rt, &rows, form, withdrawn);
-    Ok(())
+    assert_eq!(rt; rows.withdrawn.as_slice(), [1, 2].as_slice());
 }
 
 // The next keeper finds what the last one kept.
 fn finds<K: Held>(rt: &impl Abort, keeper: &mut K) -> Result<(), OutError> {
-    keeper.begin_store(STORE)?;
-    holds(rt, keeper, 2, &[1, 2])
+    begin(keeper, STORE)?;
+    let rows = keeper.load()?;
+    shows(rt, &rows);
+    Ok(())
 }
 
-// A store of form 1 is found as that, and has form 2 and all of its rows once it is migrated.
-fn migrates<K: Held>(rt: &impl Abort, keeper: &mut K) -> Result<(), OutError> {
-    keeper.begin_store(STORE)?;
-    holds(rt, keeper, 1, &[])?;
-    keeper.migrate()?;
-    holds(rt, keeper, 2, &[])?;
-    keeper.put_withdrawn(1)?;
-    holds(rt, keeper, 2, &[1])
+// A keeper that is made and closed by itself, so that all else is proved over any keeper.
+trait Held: Keeper {
+    fn fresh(rt: HostRuntime) -> Self;
+
+    fn begin_store(&mut self, name: &str) -> Result<(), OutError>;
+
+    fn close_store(self) -> bool;
 }
 
 // What may go to another thread.
@@ -159,42 +143,9 @@ fn keeps_and_finds<K: Held>(rt: &impl Abort, host: HostRuntime) -> Result<bool, 
     Ok(is_closed && is_other_closed)
 }
 
-fn changes_one<K: Held>(alloc: Global, keeper: &mut K) -> Result<(), OutError> {
-    keeper.begin_store(STORE)?;
-    put_order(keeper, alloc, b'2', b'e')
-}
-
-fn finds_one<K: Held>(rt: &impl Abort, keeper: &mut K) -> Result<(), OutError> {
-    keeper.begin_store(STORE)?;
-    let rows = keeper.load()?;
-    assert!(rt; matches!(rows.orders.as_slice(), [_, second] if is_order(second, b'2', b'e')));
-    Ok(())
-}
-
-// A keeper that is let go of without an end, as by a stop, leaves its log, and the next one opens both.
-fn opens_again<K: Held>(rt: &impl Abort, host: HostRuntime) -> Result<bool, OutError> {
-    let mut keeper = K::fresh(host);
-    let changed = changes_one(host.alloc(), &mut keeper);
-    drop(keeper);
-    assert!(rt; fs::read(&host, LOG).is_ok());
-    let mut next = K::fresh(host);
-    let found = finds_one(rt, &mut next);
-    let is_closed = next.close_store();
-    changed.and(found)?;
-    Ok(is_closed)
-}
-
-fn goes_to_form_2<K: Held>(rt: &impl Abort, host: HostRuntime) -> Result<bool, OutError> {
-    let mut keeper = K::fresh(host);
-    let done = migrates(rt, &mut keeper);
-    let is_closed = keeper.close_store();
-    done?;
-    Ok(is_closed)
-}
-
 fn refuses_a_note<K: Held>(rt: &impl Abort, host: HostRuntime) -> bool {
     let mut keeper = K::fresh(host);
-    assert_eq!(rt; keeper.begin_store(NOTE), Err(OutError::Failed));
+    assert_eq!(rt; begin(&mut keeper, NOTE), Err(OutError::Failed));
     assert_eq!(rt; keeper.faults(), 1);
     keeper.close_store()
 }
@@ -203,28 +154,8 @@ fn files_keep(rt: &impl Abort, host: HostRuntime) -> Result<bool, OutError> {
     keeps_and_finds::<FileKeeper>(rt, host)
 }
 
-fn files_migrate(rt: &impl Abort, host: HostRuntime) -> Result<bool, OutError> {
-    goes_to_form_2::<FileKeeper>(rt, host)
-}
-
-fn files_open_again(rt: &impl Abort, host: HostRuntime) -> Result<bool, OutError> {
-    opens_again::<FileKeeper>(rt, host)
-}
-
 fn files_refuse(rt: &impl Abort, host: HostRuntime) -> bool {
     refuses_a_note::<FileKeeper>(rt, host)
-}
-
-// Takes away what form 1 lacks.
-fn take_back<S: Alter>(conn: &mut Connection<S>) -> Result<(), Error> {
-    conn.execute_batch("DROP TABLE withdrawn; UPDATE form SET number = 1")
-}
-
-fn make_form_1(host: HostRuntime) -> Result<(), Error> {
-    let mut conn = Connection::open(&host, STORE)?;
-    let taken = take_back(&mut conn);
-    let closed = conn.close();
-    taken.and(closed)
 }
 
 #[test]
@@ -232,9 +163,6 @@ fn a_file_keeps_the_rows(rt: HostRuntime) -> Result<(), Fail> {
     let _ = fs::remove_dir_all(&rt, FOLDER);
     fs::create_dir(&rt, FOLDER)?;
     assert!(rt; files_keep(&rt, rt)?);
-    make_form_1(rt)?;
-    assert!(rt; files_migrate(&rt, rt)?);
-    assert!(rt; files_open_again(&rt, rt)?);
     // One file is left.
     assert!(rt; fs::read(&rt, LOG).is_err());
     fs::write(&rt, NOTE, b"no database")?;
