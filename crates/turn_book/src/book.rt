@@ -65,8 +65,8 @@ impl<M: Machine> TurnBook<M> {
         }
     }
 
-    /// Makes one call at the machine, when its turn comes. It may wait for the turns of others, and lets other threads
-    /// run meanwhile. The history that the new pass has seen begins with what the old one had, and ends with this call.
+    /// Makes one call at the machine, when its turn comes. It may wait for the turns of others, and sleeps where that takes long.
+    /// The history that the new pass has seen begins with what the old one had, and ends with this call.
     pub fn call<R: Wait>(&self, rt: &R, pass: Pass<M>, call: M::Call) -> (M::Reply, Pass<M>)
         requires book { pass.table ≡ self.now.table }
         requires left { 0 < pass.left }

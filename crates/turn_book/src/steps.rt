@@ -9,10 +9,10 @@ use crate::plays::{Count, Look, Noted, Opens, PassOn, Portion, Share};
 use crate::slot::{empty, full};
 use crate::view::{LENGTH, MACHINE, Opening, SERVING, TICKET, Turns, View};
 use atomic_table::{Seat, Shared};
+use std::hint::spin_loop;
 use std::marker::Brand;
 use std::snapshot::Snapshot;
 use std::sync::Wait;
-use std::thread;
 
 type TurnTable<M> = Shared<
     Option<M>,
@@ -26,8 +26,9 @@ type TurnSeat<M> = Seat<Option<M>, View<M, <M as Machine>::Call, <M as Machine>:
 // How often a seat that waits looks before it sleeps.
 const LOOKS: u32 = 64;
 
-// Looks at the ticket that is served, until it is this seat's. A turn is mostly short, so it first lets other threads run
-// and looks again, and then sleeps until the turn is passed on.
+// Looks at the ticket that is served, until it is this seat's. A turn is mostly short, so it first looks again at once, and then
+// sleeps until the turn is passed on. Between the looks it doesn't give its processor away: its turn would come while other
+// programs run in its place, and all who stand behind would wait for that.
 pub(crate) fn wait_turn<M: Machine, B: Opens<M>, R: Wait>(
     rt: &R,
     table: &TurnTable<M>,
@@ -49,7 +50,7 @@ pub(crate) fn wait_turn<M: Machine, B: Opens<M>, R: Wait>(
         }
         if looks < LOOKS {
             looks += 1;
-            thread::yield_now();
+            spin_loop();
         } else {
             table.park(rt, SERVING, low_half(serving));
         }

@@ -1,6 +1,7 @@
 //! Threads that take seats in one hall, and the replies of calls in their order.
 ghost use Rattle.std.specs.Prelude.{◌≡◌, ◌+◌, ℕ, ◌≤◌, ◌<◌, All, IfSome, None, Some, length, slice_index_or};
 
+use std::hint::spin_loop;
 use std::process::Abort;
 use std::sync::Wait;
 use std::thread::Threads;
@@ -53,10 +54,11 @@ impl Machine for Hall {
     ghost stays_fitting = { λ x c r y d v f l g. g };
 }
 
-// Takes so long that those who wait for their turn sleep.
+// Takes so long that those who wait for their turn sleep. It doesn't let others run, since on a busy machine that takes
+// milliseconds each time.
 fn linger() {
-    for _ in 0..200 {
-        thread::yield_now();
+    for _ in 0..20_000 {
+        spin_loop();
     }
 }
 
