@@ -1,7 +1,7 @@
 //! What the kernel of a slice derived, handed on to the next one. No answer hangs on it.
 ghost use Rattle.chains.specs.Growth.{Grows};
 
-use crate::moves::{Days, Layouts, Moves};
+use crate::moves::{Days, Moves};
 use book_model::{Book, Slice};
 use chains::{Trace, derive_again};
 use clause_pool::Kernel;
@@ -70,28 +70,9 @@ impl EarlierChains {
             before: self.day,
             now: slice.first,
         };
-        let layouts = Layouts {
-            before: &before,
-            now: &self.now,
-        };
-        derive_moved(alloc, book, days, layouts, kernel, &trace)
+        let mut moves = Moves::of(alloc, book, days, &before, &self.now)?;
+        derive_again(alloc, kernel, &trace, &mut moves)
     }
-}
-
-// Derives again what a trace has, by where its clauses stand now.
-#[tactic(auto, using(chains::proofs::GrowthLaws::grows_same))]
-fn derive_moved(
-    alloc: Global,
-    book: &Book,
-    days: Days,
-    layouts: Layouts<'_>,
-    kernel: &mut Kernel,
-    trace: &Trace,
-) -> Result<(), Memory>
-    ensures { Grows kernel.old kernel.new }
-{
-    let mut moves = Moves::of(alloc, book, days, layouts)?;
-    derive_again(alloc, kernel, trace, &mut moves)
 }
 
 // The layout of no clauses. It takes no memory.
