@@ -28,7 +28,7 @@ rows_released drafts number [] all = All-nil IsReleasedRow
 rows_released drafts number (b ∷ bs) all =
     All-cons IsReleasedRow (book_row number b) (book_rows (number + 1) bs) (row_released number b all.0.release) (rows_released drafts (number + 1) bs all.1)
 
-told_released : (t : Tables) (rows : Option Kept) → IsValid t → IfSome rows (λ kept. kept ≡ rows_of t) → IfSome rows (λ kept. All IsReleasedRow kept.books)
+pub told_released : (t : Tables) (rows : Option Kept) → IsValid t → IfSome rows (λ kept. kept ≡ rows_of t) → IfSome rows (λ kept. All IsReleasedRow kept.books)
 told_released t None valid is = tt
 told_released t (Some kept) valid is =
     subst (λ (k : Kept). All IsReleasedRow k.books) (sym is) (rows_released t.drafts 1 t.books valid.books)

@@ -69,6 +69,13 @@ impl MemoryDoor {
         }
     }
 
+    /// How many ports came back last.
+    pub fn came_back(&self) -> usize
+        ensures { result ≡ length self.now.back }
+    {
+        self.back.len()
+    }
+
     /// The links that were handed back at this port, once the ports came back.
     pub fn ended(&self, port: u32) -> &[MemoryLink]
         requires { port < length self.now.back }
