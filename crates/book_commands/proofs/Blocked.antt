@@ -19,7 +19,7 @@ use Rattle.book_commands.specs.Checks.{IsReported, IsProvedBy, IsProved, Replies
 use Rattle.book_commands.specs.Replies.{RepliesTo, asks_check}
 use Rattle.book_commands.specs.RunReply.{RunReply, verdict_status, report_reply}
 use Rattle.book_commands.specs.declared.command.BookCommand.{BookCommand}
-use Rattle.book_commands.specs.declared.command.BookCommand.TheVariants.{Order, Check, Prove, Verify}
+use Rattle.book_commands.specs.declared.command.BookCommand.TheVariants.{Order, Check, Prove, Verify, Supplements}
 use Rattle.book_commands.specs.declared.run_status.RunStatus.TheVariants.{Done, Refused, Faulty}
 use Rattle.book_commands.proofs.NeverBlocked.{never_blocked}
 
@@ -68,4 +68,5 @@ unfolding RepliesTo
 command-blocked (Order day ordered) input files files' reply asks h refused = let clash : false ≡ true = asks in cc
 command-blocked (Check budget) input files files' reply asks h refused = check-blocked input (book_of input) budget reply refl h.is_answer refused
 command-blocked (Prove budget) input files files' reply asks h refused = proof-blocked input (book_of input) budget reply refl h.is_answer refused
+command-blocked (Supplements budget) input files files' reply asks h refused = let clash : false ≡ true = asks in cc
 command-blocked (Verify file) input files files' reply asks h refused = let clash : false ≡ true = asks in cc

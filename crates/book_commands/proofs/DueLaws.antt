@@ -9,7 +9,7 @@ use Rattle.book_commands.specs.Inputs.{Inputs, input_limit, ReadsInput}
 use Rattle.book_commands.specs.Replies.{FailsAtFile, KeepsFiles}
 use Rattle.book_commands.specs.RunReply.{RunReply, memory_reply, read_fault_reply, due_of}
 use Rattle.book_commands.specs.declared.command.BookCommand.{BookCommand}
-use Rattle.book_commands.specs.declared.command.BookCommand.TheVariants.{Order, Check, Prove, Verify}
+use Rattle.book_commands.specs.declared.command.BookCommand.TheVariants.{Order, Check, Prove, Verify, Supplements}
 use Rattle.book_commands.specs.declared.object.Object.TheVariants.{Files}
 
 -- files that nobody touched
@@ -18,6 +18,7 @@ unfolding KeepsFiles
 KeepsFiles-same (Order day ordered) files = refl
 KeepsFiles-same (Check budget) files = refl
 KeepsFiles-same (Prove budget) files = refl
+KeepsFiles-same (Supplements budget) files = refl
 KeepsFiles-same (Verify file) files = record { same = refl; later = record { never_falls = omega arith; kept = λ h. h } }
 
 -- what was read is a front of what was left
@@ -46,4 +47,5 @@ unfolding FailsAtFile
 file_rose (Order day ordered) input files files' h = absurd h
 file_rose (Check budget) input files files' h = absurd h
 file_rose (Prove budget) input files files' h = absurd h
+file_rose (Supplements budget) input files files' h = absurd h
 file_rose (Verify file) input files files' h = h.fault.rose

@@ -8,3 +8,4 @@ pub mod Valid
 pub mod NeverBlocked
 pub mod SampleLaws
 pub mod ReportLaws
+pub mod Decided

@@ -1,5 +1,5 @@
 -- The statuses of replies, and those of the replies to valid commands.
-use Rattle.std.proofs.Common.{◌≡◌, ◌∙◌, ℕ, ◌+◌, Bool, true, false, List, [], ◌∷◌, refl, sym, subst, ap, inl, inr}
+use Rattle.std.proofs.Common.{◌≡◌, ◌∙◌, ℕ, ◌+◌, Bool, true, false, List, [], ◌∷◌, map, refl, sym, subst, ap, inl, inr}
 use Rattle.std.specs.Prelude.{◌⊎◌, ◌||◌, Option, None, Some, Result, Ok, Err, IsOk, IfOk, IsSomeAnd, if◌then◌else◌}
 use Rattle.std.specs.List.{list_any}
 use Rattle.pb_base.specs.declared.limits.TheConstants.{MOST_CERT_BYTES}
@@ -24,6 +24,9 @@ use Rattle.parts_usage.specs.Outcome.{outcome_of}
 use Rattle.parts_usage.specs.declared.fault.OrderFault.{OrderFault}
 use Rattle.parts_usage.specs.declared.judgement.Outcome.{Outcome}
 use Rattle.parts_usage.specs.declared.judgement.Outcome.TheVariants.{Accepted, Refused, Unfit}
+use Rattle.supplement_findings.specs.Limits.{slices_within as supplement_slices}
+use Rattle.supplement_findings.specs.Notes.{is_finding, is_undecided}
+use Rattle.supplement_findings.specs.declared.report.SupplementNote.{SupplementNote}
 use Rattle.pb_outside.specs.Files.{NamedBytes, FilesTold, content_of, within_room, ReadsFile}
 use Rattle.book_commands.specs.Ends.{IsDecided, IsOrderStatus, IsCheckStatus, IsVerifyStatus, IsReplyStatus, IsSampleStatus, EndsCheck, EndsCommand, EndsSample}
 use Rattle.book_commands.specs.Logged.{logged_behind, is_spent}
@@ -32,9 +35,11 @@ use Rattle.book_commands.specs.RunReply.{verdict_status, report_reply}
 use Rattle.book_commands.specs.Checks.{IsReported, IsProvedBy, IsProved, RepliesWithin, inquiry, RepliesToCheck, RepliesToProof}
 use Rattle.book_commands.specs.Sample.{RepliesToSample}
 use Rattle.book_commands.specs.Size.{Size}
+use Rattle.book_commands.specs.Supplements.{IsSupplementReply, RepliesToSupplements}
+use Rattle.book_commands.specs.declared.log.Note.TheVariants.{Supplement}
 use Rattle.book_commands.specs.Replies.{IsCertificate, HasCertificate, IsValidCommand, RepliesTo, RepliesToVerify}
 use Rattle.book_commands.specs.declared.command.BookCommand.{BookCommand}
-use Rattle.book_commands.specs.declared.command.BookCommand.TheVariants.{Order, Check, Prove, Verify}
+use Rattle.book_commands.specs.declared.command.BookCommand.TheVariants.{Order, Check, Prove, Verify, Supplements}
 use Rattle.book_commands.specs.declared.run_status.RunStatus.{RunStatus}
 use Rattle.book_commands.specs.declared.run_status.RunStatus.TheVariants as statuses
 
@@ -97,12 +102,25 @@ proof-kind (Ok b) budget reply h =
     (λ r is. proved-kind (verdict_of is.report) b is.report r is.answer) h
 proof-kind (Err fault) budget reply h = same-kind IsCheckStatus _ reply h (inr (inr refl))
 
+supplement-cases : (found left : Bool) → let status : RunStatus = (if found then statuses.Refused else (if left then statuses.Undecided else statuses.Done)) in
+    IsDecided status ⊎ ((status ≡ statuses.Undecided) × (left ≡ true))
+supplement-cases true left = inl (inr refl)
+supplement-cases false true = inr (refl, refl)
+supplement-cases false false = inl (inl refl)
+
+supplements-kind : (book : Result Contents BookFault) (budget : ℕ) (reply : RunReply) → RepliesToSupplements book budget reply → IsCheckStatus reply.status
+supplements-kind (Ok b) budget reply h =
+    within-kind (supplement_slices b) (IsSupplementReply (record { book = b; budget = budget })) reply
+    (λ r is. same-kind IsCheckStatus _ r is.answer (elim (supplement-cases (list_any is_finding is.report) (list_any is_undecided is.report)) [ inl done ↦ inl done | inr left ↦ inr (inl left.0) ])) h
+supplements-kind (Err fault) budget reply h = same-kind IsCheckStatus _ reply h (inr (inr refl))
+
 pub replies-kind : (command : BookCommand) (input : List ℕ) (files files' : FilesTold) (reply : RunReply)
     → RepliesTo command input files files' reply → IsReplyStatus command reply.status
 unfolding RepliesTo
 replies-kind (Order day ordered) input files files' reply h = same-kind IsOrderStatus _ reply h.is_answer (order-kind (book_of input) day ordered)
 replies-kind (Check budget) input files files' reply h = check-kind (book_of input) budget reply h.is_answer
 replies-kind (Prove budget) input files files' reply h = proof-kind (book_of input) budget reply h.is_answer
+replies-kind (Supplements budget) input files files' reply h = supplements-kind (book_of input) budget reply h.is_answer
 replies-kind (Verify file) input files files' reply h = verify-kind (book_of input) file files files' reply h
 
 pub sample-kind : (size : Size) (reply : RunReply) → RepliesToSample size reply → IsSampleStatus reply.status
@@ -196,6 +214,20 @@ proof-answered (Ok b) budget reply ok limits h =
     (λ r is. proved-answered (verdict_of is.report) b is.report r is.answer) h
 proof-answered (Err fault) budget reply ok limits h = let clash : false ≡ true = ok in cc
 
+undecided-logged : (report : List SupplementNote) → list_any is_spent (map Supplement report) ≡ list_any is_undecided report
+undecided-logged [] = refl
+undecided-logged (note ∷ report) = ap (λ (later : Bool). is_undecided note || later) (undecided-logged report)
+
+supplements-answered : (book : Result Contents BookFault) (budget : ℕ) (reply : RunReply) → IsOk book → IfOk book (λ b. IsOk (supplement_slices b))
+    → RepliesToSupplements book budget reply → EndsChecked reply
+supplements-answered (Ok b) budget reply ok limits h =
+    within-answered (supplement_slices b) (IsSupplementReply (record { book = b; budget = budget })) reply limits
+    (λ r is. same-checked _ r is.answer (elim (supplement-cases (list_any is_finding is.report) (list_any is_undecided is.report)) [
+      | inl done ↦ inl done
+      | inr left ↦ inr (record { ends = left.0; spent = undecided-logged is.report ∙ left.1 })
+    ])) h
+supplements-answered (Err fault) budget reply ok limits h = let clash : false ≡ true = ok in cc
+
 -- a valid command is answered
 pub valid-answered : (command : BookCommand) (input : List ℕ) (files files' : FilesTold) (reply : RunReply)
     → IsValidCommand command input files.files → RepliesTo command input files files' reply → EndsCommand command reply.status reply.notes
@@ -204,6 +236,7 @@ valid-answered (Order day ordered) input files files' reply v h =
     same-kind IsDecided _ reply h.is_answer (order-status (book_of input) day ordered v.book v.order)
 valid-answered (Check budget) input files files' reply v h = check-answered (book_of input) budget reply v.no_fault v.limits h.is_answer
 valid-answered (Prove budget) input files files' reply v h = proof-answered (book_of input) budget reply v.no_fault v.limits h.is_answer
+valid-answered (Supplements budget) input files files' reply v h = supplements-answered (book_of input) budget reply v.no_fault v.limits h.is_answer
 valid-answered (Verify file) input files files' reply v h =
     verify-status (book_of input) file files files' reply v.book v.certificate h
 

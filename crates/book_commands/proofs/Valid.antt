@@ -11,7 +11,7 @@ use Rattle.book_commands.specs.Inputs.{input_limit}
 use Rattle.book_commands.specs.Replies.{IsCertificate, HasCertificate, IsValidCommand, RepliesTo, FailsAtFile}
 use Rattle.book_commands.specs.RunReply.{RunReply}
 use Rattle.book_commands.specs.declared.command.BookCommand.{BookCommand}
-use Rattle.book_commands.specs.declared.command.BookCommand.TheVariants.{Order, Check, Prove, Verify}
+use Rattle.book_commands.specs.declared.command.BookCommand.TheVariants.{Order, Check, Prove, Verify, Supplements}
 use Rattle.book_commands.proofs.Statuses.{valid-answered}
 
 -- the input that was read is the one that was given
@@ -47,4 +47,5 @@ unfolding FailsAtFile IsValidCommand
 no_file_fault (Order day ordered) input read files files' e valid sure h = absurd h
 no_file_fault (Check budget) input read files files' e valid sure h = absurd h
 no_file_fault (Prove budget) input read files files' e valid sure h = absurd h
+no_file_fault (Supplements budget) input read files files' e valid sure h = absurd h
 no_file_fault (Verify file) input read files files' e valid sure h = has_certificate (book_of input) files.files file valid.book valid.certificate (h.fault.possible sure)

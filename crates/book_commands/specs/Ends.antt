@@ -6,7 +6,7 @@ use Rattle.std.specs.Prelude.{◌≡◌, ◌⊎◌, true, List}
 use Rattle.std.specs.List.{list_any}
 use Rattle.book_commands.specs.Logged.{is_spent}
 use Rattle.book_commands.specs.declared.command.BookCommand.{BookCommand}
-use Rattle.book_commands.specs.declared.command.BookCommand.TheVariants.{Order, Check, Prove, Verify}
+use Rattle.book_commands.specs.declared.command.BookCommand.TheVariants.{Order, Check, Prove, Verify, Supplements}
 use Rattle.book_commands.specs.declared.log.Note.{Note}
 use Rattle.book_commands.specs.declared.run_status.RunStatus.{RunStatus}
 use Rattle.book_commands.specs.declared.run_status.RunStatus.TheVariants.{Done, Refused, Faulty, Undecided, BadCertificate}
@@ -29,12 +29,13 @@ IsReplyStatus (Order day ordered) status = IsOrderStatus status
 IsReplyStatus (Check budget) status = IsCheckStatus status
 IsReplyStatus (Prove budget) status = IsCheckStatus status
 IsReplyStatus (Verify file) status = IsVerifyStatus status
+IsReplyStatus (Supplements budget) status = IsCheckStatus status
 
 abbrev pub IsSampleStatus : RunStatus → Type 0
 IsSampleStatus status = (status ≡ Done) ⊎ (status ≡ Undecided)
 
--- no finding keeps the book from its release, but a question that a release asks was left, of which the log has what was
--- learnt
+-- no finding keeps the book from its release, or is of its supplementing rules, but a question that was asked for this was left,
+-- of which the log has what was learnt
 pub record IsLeft (status : RunStatus) (notes : List Note) : Type 0 where
   pub ends : status ≡ Undecided
   pub spent : list_any is_spent notes ≡ true
@@ -47,6 +48,7 @@ EndsCommand (Order day ordered) status notes = IsDecided status
 EndsCommand (Check budget) status notes = EndsCheck status notes
 EndsCommand (Prove budget) status notes = EndsCheck status notes
 EndsCommand (Verify file) status notes = status ≡ Done
+EndsCommand (Supplements budget) status notes = EndsCheck status notes
 
 abbrev pub EndsSample : RunStatus → List Note → Type 0
 EndsSample status notes = (status ≡ Done) ⊎ IsLeft status notes

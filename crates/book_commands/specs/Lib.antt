@@ -4,9 +4,11 @@ pub mod CertText
 pub mod Logged
 pub mod RunReply
 pub mod Checks
+pub mod Supplements
 pub mod Replies
 pub mod Inputs
 pub mod Due
 pub mod Sample
 pub mod Tells
 pub mod Ends
+pub mod Ample

@@ -16,9 +16,11 @@ status_number statuses.NotStarted = 6
 status_number statuses.Undecided = 7
 status_number statuses.BadCertificate = 8
 status_number statuses.WantOfMemory = 9
+status_number statuses.DoorFault = 10
 
 abbrev pub object_number : Object → ℕ
 object_number objects.Source = 1
 object_number objects.Files = 2
 object_number objects.Sink = 3
 object_number objects.Keeper = 4
+object_number objects.Door = 5

@@ -10,8 +10,9 @@ use Rattle.pb_outside.specs.Faults.{IsLater}
 use Rattle.pb_outside.specs.Files.{NamedBytes, FilesTold, content_of, ReadsFile, FailsToRead}
 use Rattle.book_commands.specs.Checks.{RepliesToCheck, RepliesToProof, IsCheckable}
 use Rattle.book_commands.specs.RunReply.{RunReply, book_fault_reply, order_reply, content_reply}
+use Rattle.book_commands.specs.Supplements.{RepliesToSupplements, IsAskable}
 use Rattle.book_commands.specs.declared.command.BookCommand.{BookCommand}
-use Rattle.book_commands.specs.declared.command.BookCommand.TheVariants.{Order, Check, Prove, Verify}
+use Rattle.book_commands.specs.declared.command.BookCommand.TheVariants.{Order, Check, Prove, Verify, Supplements}
 
 -- the certificate is the content of its file, of which a longer one than the limit has none
 pub record RepliesToFile (b : Contents) (file : List ℕ) (files files' : FilesTold) (reply : RunReply) : Type 0 where
@@ -69,6 +70,7 @@ RepliesTo (Order day ordered) input files files' reply = RepliesAlone (λ r. r �
 RepliesTo (Check budget) input files files' reply = RepliesAlone (RepliesToCheck (book_of input) budget) files files' reply
 RepliesTo (Prove budget) input files files' reply = RepliesAlone (RepliesToProof (book_of input) budget) files files' reply
 RepliesTo (Verify file) input files files' reply = RepliesToVerify (book_of input) file files files' reply
+RepliesTo (Supplements budget) input files files' reply = RepliesAlone (RepliesToSupplements (book_of input) budget) files files' reply
 
 -- the files failed, at a file that the command has to read
 unfoldable pub FailsAtFile : BookCommand → List ℕ → FilesTold → FilesTold → Type 0
@@ -76,6 +78,7 @@ FailsAtFile (Order day ordered) input files files' = ⊥
 FailsAtFile (Check budget) input files files' = ⊥
 FailsAtFile (Prove budget) input files files' = ⊥
 FailsAtFile (Verify file) input files files' = FailsAtCertificate file input files files'
+FailsAtFile (Supplements budget) input files files' = ⊥
 
 -- what a command leaves as it is of the files, however it ends
 unfoldable pub KeepsFiles : BookCommand → FilesTold → FilesTold → Type 0
@@ -83,6 +86,7 @@ KeepsFiles (Order day ordered) files files' = files' ≡ files
 KeepsFiles (Check budget) files files' = files' ≡ files
 KeepsFiles (Prove budget) files files' = files' ≡ files
 KeepsFiles (Verify file) files files' = ReadsFiles files files'
+KeepsFiles (Supplements budget) files files' = files' ≡ files
 
 -- the input, and what else the command reads, has no fault
 unfoldable pub IsValidCommand : BookCommand → List ℕ → Option (List NamedBytes) → Type 0
@@ -90,6 +94,7 @@ IsValidCommand (Order day ordered) input files = IsValidOrder input day ordered
 IsValidCommand (Check budget) input files = IsCheckable (book_of input)
 IsValidCommand (Prove budget) input files = IsCheckable (book_of input)
 IsValidCommand (Verify file) input files = IsValidVerify input files file
+IsValidCommand (Supplements budget) input files = IsAskable (book_of input)
 
 -- the command asks whether the book can be released
 abbrev pub asks_release : BookCommand → Bool
@@ -97,6 +102,7 @@ asks_release (Order day ordered) = false
 asks_release (Check budget) = true
 asks_release (Prove budget) = true
 asks_release (Verify file) = true
+asks_release (Supplements budget) = false
 
 -- the command asks what keeps the book from its release
 abbrev pub asks_check : BookCommand → Bool
@@ -104,3 +110,4 @@ asks_check (Order day ordered) = false
 asks_check (Check budget) = true
 asks_check (Prove budget) = true
 asks_check (Verify file) = false
+asks_check (Supplements budget) = false

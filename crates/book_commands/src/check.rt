@@ -94,8 +94,8 @@ fn verdict_status(verdict: Verdict) -> RunStatus
     }
 }
 
-// `limit ..`, with the limit as a note.
-fn limit_fault_reply(alloc: Global, fault: LimitFault) -> Result<RunReply, Memory>
+/// `limit ..`, with the limit as a note.
+pub(crate) fn limit_fault_reply(alloc: Global, fault: LimitFault) -> Result<RunReply, Memory>
     ensures { IfOk result (λ reply. reply ≡ limit_fault_reply fault) }
 {
     let text = limit_fault_text(alloc, &fault)?;

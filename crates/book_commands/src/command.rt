@@ -15,4 +15,6 @@ pub enum BookCommand {
     Prove { budget: Budget },
     /// Whether the certificate in this file shows that the book can be released.
     Verify { file: FileName },
+    /// What the supplementing rules of the book do, with this budget for each question.
+    Supplements { budget: Budget },
 }

@@ -12,6 +12,7 @@ use crate::command::BookCommand;
 use crate::judge::order_reply;
 use crate::object::Object;
 use crate::run_reply::RunReply;
+use crate::supplements::supplements_reply;
 use pb_base::Memory;
 use pb_base::limits::MOST_TEXT_BYTES;
 use pb_outside::{Files, OutError, Source, read_up_to};
@@ -71,5 +72,6 @@ fn command_reply<F: Files>(
         BookCommand::Check { budget } => Ok(check_reply(alloc, input, budget)?),
         BookCommand::Prove { budget } => Ok(proof_reply(alloc, input, budget)?),
         BookCommand::Verify { file } => verify_reply(alloc, input, file, files),
+        BookCommand::Supplements { budget } => Ok(supplements_reply(alloc, input, budget)?),
     }
 }

@@ -16,6 +16,7 @@ mod run_reply;
 mod run_status;
 mod sample;
 mod sample_size;
+mod supplements;
 mod tally;
 mod tell;
 

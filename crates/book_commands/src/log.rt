@@ -11,6 +11,7 @@ use parts_usage::OrderFault;
 use pb_base::{CodeSet, Memory};
 use std::alloc::Global;
 use std::marker::Model;
+use supplement_findings::SupplementNote;
 
 /// One thing that a status rests on. Places in a book count from 0.
 #[derive(Drop)]
@@ -43,6 +44,8 @@ pub enum Note {
     },
     /// The certificate has this fault.
     Cert(CertFault),
+    /// A note of a report on supplementing rules.
+    Supplement(SupplementNote),
     /// A row that is kept is not right: its table, 0 form, 1 drafts, 2 books, 3 orders, 4 withdrawn, and its place in it, from
     /// 1, or 0 for the form.
     BadRow {

@@ -13,6 +13,8 @@ pub enum Object {
     Sink,
     /// Which keeps the rows of the desk.
     Keeper,
+    /// Where connections come from.
+    Door,
 }
 
 impl Object {
@@ -25,6 +27,7 @@ impl Object {
             Object::Files => 2,
             Object::Sink => 3,
             Object::Keeper => 4,
+            Object::Door => 5,
         }
     }
 }

@@ -6,9 +6,9 @@ ghost use Rattle.book_commands.specs.Numbers.{status_number};
 #[derive(Clone, Copy)]
 pub enum RunStatus {
     /// The order is accepted, the book can be released, the certificate has no fault, the sample is judged, or the desk served
-    /// its link to the end.
+    /// its link, or its door, to the end.
     Done,
-    /// The order is refused, or unfit, or a finding keeps the book from its release.
+    /// The order is refused, or unfit, or a finding keeps the book from its release, or supplementing rules break sets or swap.
     Refused,
     /// The words are of no form.
     Usage,
@@ -21,12 +21,14 @@ pub enum RunStatus {
     WriteFault,
     /// The desk was not started: its keeper failed, or a row that is kept is not right.
     NotStarted,
-    /// No finding keeps the book from its release, but a question was left.
+    /// No finding keeps the book from its release, or is of its supplementing rules, but a question was left.
     Undecided,
     /// The certificate has a fault.
     BadCertificate,
     /// Memory was wanting.
     WantOfMemory,
+    /// The door or one of its ports failed.
+    DoorFault,
 }
 
 impl RunStatus {
@@ -45,6 +47,7 @@ impl RunStatus {
             RunStatus::Undecided => 7,
             RunStatus::BadCertificate => 8,
             RunStatus::WantOfMemory => 9,
+            RunStatus::DoorFault => 10,
         }
     }
 }

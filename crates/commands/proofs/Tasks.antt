@@ -9,7 +9,7 @@ use Rattle.command_words.specs.declared.command.Command.{Command}
 use Rattle.command_words.specs.declared.command.Command.TheVariants as commands
 use Rattle.command_words.proofs.Meanings.{prepared_form, one_meaning, unprepared, unread}
 use Rattle.commands.specs.Words.{form_of, Asks, AsksNothing, Means, IsTaskOf}
-use Rattle.book_commands.specs.declared.command.BookCommand.TheVariants.{Order, Check, Prove, Verify}
+use Rattle.book_commands.specs.declared.command.BookCommand.TheVariants.{Order, Check, Prove, Verify, Supplements}
 use Rattle.commands.specs.declared.task.Task.{Task}
 use Rattle.commands.specs.declared.task.Task.TheVariants.{Book, Desk, Sample}
 
@@ -22,7 +22,7 @@ task_of (commands.Verify file) = Some (Book (Verify file))
 task_of (commands.Desk store) = Some (Desk store)
 task_of (commands.Serve store port workers links) = None
 task_of (commands.Sample start codes orders) = Some (Sample (record { start = start; codes = codes; orders = orders }))
-task_of (commands.Supplements budget) = None
+task_of (commands.Supplements budget) = Some (Book (Supplements budget))
 task_of (commands.Compare day file budget) = None
 task_of (commands.Rejudge store book workers) = None
 
@@ -31,6 +31,7 @@ task_back (Book (Order day ordered)) = refl
 task_back (Book (Check budget)) = refl
 task_back (Book (Prove budget)) = refl
 task_back (Book (Verify file)) = refl
+task_back (Book (Supplements budget)) = refl
 task_back (Desk store) = refl
 task_back (Sample size) = refl
 
@@ -46,9 +47,6 @@ no_task command none task e = let clash : None ≡ Some task = sym none ∙ ap t
 
 not_serve : (store : List ℕ) (port workers links : ℕ) → IsTaskOf (commands.Serve store port workers links) None
 not_serve store port workers links = no_task (commands.Serve store port workers links) refl
-
-not_supplements : (budget : ℕ) → IsTaskOf (commands.Supplements budget) None
-not_supplements budget = no_task (commands.Supplements budget) refl
 
 not_compare : (day : ℕ) (file : List ℕ) (budget : ℕ) → IsTaskOf (commands.Compare day file budget) None
 not_compare day file budget = no_task (commands.Compare day file budget) refl
@@ -78,8 +76,7 @@ by_form words (commands.Serve store port workers links) f =
     inr (means_task words (commands.Serve store port workers links) None f (not_serve store port workers links))
 by_form words (commands.Sample start codes orders) f =
     inl (record { task = Sample (record { start = start; codes = codes; orders = orders }); asks = f })
-by_form words (commands.Supplements budget) f =
-    inr (means_task words (commands.Supplements budget) None f (not_supplements budget))
+by_form words (commands.Supplements budget) f = inl (record { task = Book (Supplements budget); asks = f })
 by_form words (commands.Compare day file budget) f =
     inr (means_task words (commands.Compare day file budget) None f (not_compare day file budget))
 by_form words (commands.Rejudge store book workers) f =

@@ -5,6 +5,7 @@
 --     verify CERTFILE               the check of the certificate in this file
 --     desk STORE                    the order desk over the rows that this store keeps
 --     sample START CODES ORDERS     the release of the generated book of this size, and what its orders come to
+--     supplements [--budget N]      what completion does with sets that break no rule
 -- The words of these forms, and of those that the program doesn't have, are those of command_words.
 use Rattle.std.specs.Prelude.{◌≡◌, ◌<◌, ◌≤◌, ℕ, List, Option, None, Some}
 use Rattle.book_sample.specs.Law.{MaySample}
@@ -13,7 +14,7 @@ use Rattle.command_words.specs.Parts.{Words}
 use Rattle.command_words.specs.declared.command.Command.{Command}
 use Rattle.command_words.specs.declared.command.Command.TheVariants as commands
 use Rattle.pb_base.specs.declared.limits.TheConstants.{MOST_BUDGET}
-use Rattle.book_commands.specs.declared.command.BookCommand.TheVariants.{Order, Check, Prove, Verify}
+use Rattle.book_commands.specs.declared.command.BookCommand.TheVariants.{Order, Check, Prove, Verify, Supplements}
 use Rattle.commands.specs.declared.task.Task.{Task}
 use Rattle.commands.specs.declared.task.Task.TheVariants.{Book, Desk, Sample}
 
@@ -23,6 +24,7 @@ form_of (Book (Order day ordered)) = commands.Order day ordered
 form_of (Book (Check budget)) = commands.Check budget
 form_of (Book (Prove budget)) = commands.Prove budget
 form_of (Book (Verify file)) = commands.Verify file
+form_of (Book (Supplements budget)) = commands.Supplements budget
 form_of (Desk store) = commands.Desk store
 form_of (Sample size) = commands.Sample size.start size.codes size.orders
 

@@ -43,6 +43,8 @@ fn task_of(command: Command) -> Option<Task>
         Command::Serve { .. } => None,
         Command::Rejudge { .. } => None,
         Command::Compare { .. } => None,
-        Command::Supplements { .. } => None,
+        Command::Supplements { budget } => Some(Task::Book(BookCommand::Supplements {
+            budget: Budget::of(budget),
+        })),
     }
 }

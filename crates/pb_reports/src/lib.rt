@@ -4,6 +4,8 @@
 mod note;
 mod question;
 mod report;
+mod supplements;
 
 pub use order_text::outcome_text;
 pub use report::report_text;
+pub use supplements::supplement_text;

@@ -22,8 +22,8 @@ pub(crate) fn put_note(text: &mut Text, book: &Book, note: &Note) -> Result<(), 
     }
 }
 
-// The days of a slice.
-fn put_days(text: &mut Text, first: Day, last: Day) -> Result<(), Memory>
+/// The days of a slice.
+pub(crate) fn put_days(text: &mut Text, first: Day, last: Day) -> Result<(), Memory>
     ensures { OnOk result (text.new ≡ text.old ++ days_text first last) }
 {
     text.put(b"slice")?;

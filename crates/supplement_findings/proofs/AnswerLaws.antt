@@ -1,6 +1,6 @@
 -- What the solver's answers say of questions.
-use Rattle.std.proofs.Common.{◌≡◌, ℕ, ◌+◌, ◌*◌, ◌≤◌, ◌<◌, Bool, true, false, not, List, Some, length, get_or, refl, sym, ap, subst, ◌∙◌, arith, All}
-use Rattle.std.specs.List.{slice_get, AllByRecursion}
+use Rattle.std.proofs.Common.{◌≡◌, ℕ, ◌+◌, ◌*◌, ◌≤◌, ◌<◌, Bool, true, false, not, List, Some, length, sym, ap, subst, ◌∙◌, arith, All}
+use Rattle.std.specs.List.{slice_get}
 use Rattle.std.proofs.lemmas.Bool.{false_from_ne_true, true≢false}
 use Rattle.std.proofs.lemmas.List.Elements.{recursion_from_All}
 use Rattle.std.proofs.lemmas.List.{take_all}
@@ -9,7 +9,7 @@ use Rattle.book_model.specs.Book.{IsBook}
 use Rattle.book_model.specs.Contents.{Contents}
 use Rattle.chains.specs.Growth.{ClosedBy, given_of}
 use Rattle.clause_pool.specs.Literal.{literal, is_true}
-use Rattle.clause_pool.specs.Clause.{AreBelow, Follows, Sat}
+use Rattle.clause_pool.specs.Clause.{AreBelow, Follows}
 use Rattle.clause_pool.specs.Derivation.{Derivation, AllFollow, kernel_of}
 use Rattle.clause_pool.proofs.ClauseLaws.{TrueLiteral, true_literal, all_found}
 use Rattle.clause_pool.proofs.LiteralLaws.{is_true-complement}

@@ -1,17 +1,17 @@
 -- How far the coding of questions has come.
-use Rattle.std.proofs.Common.{◌≡◌, ℕ, ◌+◌, ◌<◌, true, List, [], ◌∷◌, ◌++◌, length, map, drop, get_or, refl, sym, ap, subst, ◌∙◌, arith, append_assoc}
+use Rattle.std.proofs.Common.{◌≡◌, ℕ, ◌+◌, ◌<◌, true, List, [], ◌∷◌, ◌++◌, length, map, drop, refl, sym, ap, subst, ◌∙◌, arith, append_assoc}
 use Rattle.std.proofs.lemmas.List.{drop_more, map-append}
 use Rattle.book_model.specs.Contents.{Contents}
 use Rattle.clause_pool.specs.Literal.{literal}
 use Rattle.clause_pool.specs.Clause.{clause_of}
 use Rattle.clausify.specs.Coded.{construct_variables}
-use Rattle.clausify.specs.Encoding.{Encodes, EncodesItems}
+use Rattle.clausify.specs.Encoding.{EncodesItems}
 use Rattle.clausify.specs.Items.{Item, construct_items, free_item, item_clauses, encoded_items, variables_of}
 use Rattle.clausify.specs.declared.encoder.Encoder.{Encoder}
 use Rattle.clausify.proofs.CodedLaws.{Begun, items_then}
 use Rattle.clausify.proofs.Remaining.{ItemsLeft, items_many}
 use Rattle.supplement_findings.specs.Answering.{question_at}
-use Rattle.supplement_findings.specs.Clauses.{own, own_variables, question_lits, all_own, all_lits, all_goal_clauses, asked_items, goals_start, questions_clauses, questions_variables}
+use Rattle.supplement_findings.specs.Clauses.{own, own_variables, question_lits, all_own, all_lits, all_goal_clauses, asked_items, goals_start, questions_clauses}
 use Rattle.supplement_findings.specs.declared.lits.QuestionLits.{QuestionLits}
 use Rattle.supplement_findings.specs.declared.question.SupplementQuestion.{SupplementQuestion}
 use Rattle.supplement_findings.specs.declared.question.SupplementQuestion.TheVariants.{Breaks}

@@ -1,8 +1,8 @@
 -- Where no rule breaks a set and no two swap over one, each constructible set has one end: its completion.
-use Rattle.std.proofs.Common.{inl, inr, ◌≡◌, ◌≢◌, ℕ, zero, suc, ◌≤◌, ◌<◌, Bool, true, false, not, ◌&&◌, ◌⊎◌, eqb, List, [], ◌∷◌, length, get_or, set, Option, Some, None, refl, sym, ap, subst, ◌∙◌, arith, All}
+use Rattle.std.proofs.Common.{inl, inr, ◌≡◌, ℕ, zero, suc, ◌≤◌, ◌<◌, Bool, true, false, not, ◌&&◌, ◌⊎◌, eqb, List, [], ◌∷◌, length, get_or, Option, Some, None, refl, sym, ap, subst, ◌∙◌, arith, All}
 use Rattle.std.specs.Prelude.{count_by, Contains}
 use Rattle.std.specs.List.{list_any}
-use Rattle.std.proofs.lemmas.Bool.{and_parts, and_from, or_parts, cases_eq, cases_Bool, ne_eqb, not-true, not_from_false, true≢false, false≢true}
+use Rattle.std.proofs.lemmas.Bool.{and_parts, and_from, or_parts, cases_eq, ne_eqb, not-true, not_from_false, true≢false, false≢true}
 use Rattle.std.proofs.lemmas.List.{length-set, get_or-set_other, set_comm}
 use Rattle.std.proofs.lemmas.List.Elements.{All-nil, All-cons, All-contains, Contains-get_or}
 use Rattle.std.proofs.lemmas.List.Folds.{list_any_none}
@@ -14,10 +14,10 @@ use Rattle.book_model.specs.Contents.{Contents}
 use Rattle.book_model.specs.Good.{fires, is_constructible}
 use Rattle.book_model.specs.declared.record.Supplement.{Supplement}
 use Rattle.supplement.specs.declared.firing.Firing.{Firing}
-use Rattle.supplement.specs.Completion.{first_firing, completion_of, completion_by, with_code_of}
+use Rattle.supplement.specs.Completion.{first_firing, completion_of}
 use Rattle.supplement.proofs.FirstFiring.{none_fires, first_fires, first_code}
 use Rattle.supplement.proofs.Laws.{fewer_absent, completion-none, completion-firing}
-use Rattle.supplement_findings.specs.Ends.{with_code, breaks_with, swaps_with, Ends, stops, goes, IsCalm, HasOneEnd}
+use Rattle.supplement_findings.specs.Ends.{with_code, Ends, stops, goes, IsCalm, HasOneEnd}
 use Rattle.supplement_findings.specs.Questions.{no_rule}
 
 strip : (p c : Bool) → (p && c) ≡ false → p ≡ true → c ≡ false

@@ -1,6 +1,6 @@
 -- The formulas of questions speak of the book's codes.
-use Rattle.std.proofs.Common.{inl, inr, ◌≡◌, ℕ, ◌+◌, ◌≤◌, ◌<◌, Bool, true, false, not, ◌&&◌, cond, eqb, ltb, List, [], ◌∷◌, ◌++◌, Option, None, Some, length, map, get_or, refl, sym, ap, subst, ◌∙◌, arith, All}
-use Rattle.std.specs.List.{filter, flat_map, AllByRecursion}
+use Rattle.std.proofs.Common.{inl, inr, ◌≡◌, ℕ, ◌<◌, true, not, ◌&&◌, eqb, ltb, List, [], ◌∷◌, None, Some, length, map, refl, ap, ◌∙◌, All}
+use Rattle.std.specs.List.{filter, AllByRecursion}
 use Rattle.std.proofs.lemmas.Bool.{and_from, cases_Bool, cond-true, cond-false, lt-ltb}
 use Rattle.std.proofs.lemmas.List.Elements.{recursion_from_All, All-get_or}
 use Rattle.pb_base.specs.Leaves.{with_present}

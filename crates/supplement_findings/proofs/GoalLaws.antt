@@ -1,8 +1,8 @@
 -- The clauses of questions: a constructible set that shows what one of them asks for begins an assignment that satisfies the
 -- clauses with the variable of its goal true, and what satisfies them so begins with such a set.
-use Rattle.std.proofs.Common.{inl, inr, ◌≡◌, ℕ, zero, suc, ◌+◌, ◌≤◌, ◌<◌, Bool, true, false, not, ◌&&◌, ◌||◌, eqb, List, [], ◌∷◌, ◌++◌, Some, length, map, drop, get_or, set, refl, sym, ap, subst, ◌∙◌, arith}
-use Rattle.std.specs.List.{filter, flat_map, list_any, slice_get, AllByRecursion}
-use Rattle.std.proofs.lemmas.Bool.{and_parts, and_from, or_left, cases_Bool, not-true, true≢false, false≢true}
+use Rattle.std.proofs.Common.{◌≡◌, ℕ, zero, suc, ◌+◌, ◌<◌, Bool, true, false, not, ◌&&◌, ◌||◌, eqb, List, [], ◌∷◌, ◌++◌, Some, length, map, drop, get_or, refl, sym, ap, subst, ◌∙◌, arith}
+use Rattle.std.specs.List.{list_any, slice_get, AllByRecursion}
+use Rattle.std.proofs.lemmas.Bool.{and_parts, and_from, or_left, not-true, false≢true}
 use Rattle.std.proofs.lemmas.Option.{none-some, same_Some}
 use Rattle.std.proofs.lemmas.List.{map-append}
 use Rattle.pb_base.specs.Leaves.{with_present}
@@ -21,17 +21,17 @@ use Rattle.clause_pool.proofs.ClauseLaws.{clause_true-clause_of}
 use Rattle.clause_pool.proofs.LiteralLaws.{is_true-complement}
 use Rattle.clausify.specs.Coded.{construct_variables}
 use Rattle.clausify.specs.Formulas.{connectives, formula_literal, literals_from}
-use Rattle.clausify.specs.Items.{Item, construct_items, free_item, encoded_items, variables_of}
+use Rattle.clausify.specs.Items.{Item, construct_items, free_item, encoded_items}
 use Rattle.clausify.proofs.FormulaLaws.{Names, Begins, names_first, names_last}
-use Rattle.clausify.proofs.ItemLaws.{AllFit, AllMeet, AllBelow, items_named, items_named-append, length-items_named, literals_true, free_items_fit, free_items_met, construct_items_fit, constructible_from_meets, meets_from_constructible}
+use Rattle.clausify.proofs.ItemLaws.{AllFit, AllMeet, items_named, items_named-append, length-items_named, literals_true, free_items_fit, free_items_met, construct_items_fit, constructible_from_meets, meets_from_constructible}
 use Rattle.clausify.proofs.LiftLaws.{lifted, IsLiftedOver, lift_items, IsOver, items_over}
 use Rattle.clausify.proofs.ListLaws.{all-append, all_first, all_last, all_weaker}
-use Rattle.clausify.proofs.Truth.{true_negative, true_positive}
+use Rattle.clausify.proofs.Truth.{true_negative}
 use Rattle.supplement_findings.specs.Answering.{IsPosed}
 use Rattle.supplement_findings.specs.Clauses.{breaks_own, swaps_own, own, own_variables, breaks_lits, swaps_lits, question_lits, goal_clauses, all_own, all_lits, all_goal_clauses, asked_items, goals_start, questions_clauses}
 use Rattle.supplement_findings.specs.Ends.{with_code, breaks_with, swaps_with}
-use Rattle.supplement_findings.specs.Questions.{rule_at, is_put, is_asked, meets, QuestionFits}
-use Rattle.supplement_findings.specs.Touching.{touches, after, touched, afters}
+use Rattle.supplement_findings.specs.Questions.{rule_at, meets, QuestionFits}
+use Rattle.supplement_findings.specs.Touching.{after, touched, afters}
 use Rattle.supplement_findings.specs.declared.lits.QuestionLits.{QuestionLits}
 use Rattle.supplement_findings.specs.declared.lits.QuestionLits.TheVariants.{BreaksLits, SwapsLits}
 use Rattle.supplement_findings.specs.declared.question.SupplementQuestion.{SupplementQuestion}

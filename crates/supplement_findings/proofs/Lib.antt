@@ -1,6 +1,7 @@
 mod EndLaws
 mod QuestionLaws
 mod TouchLaws
+mod TouchedLaws
 mod FitLaws
 mod GoalLaws
 mod SizeLaws

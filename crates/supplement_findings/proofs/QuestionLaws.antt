@@ -1,13 +1,11 @@
 -- What the questions on supplementing rules leave out shows nothing, and where none of them is shown by a set, a day is calm.
-use Rattle.std.proofs.Common.{inl, inr, ◌≡◌, ◌≢◌, ℕ, zero, suc, ◌+◌, ◌≤◌, ◌<◌, Bool, true, false, not, ◌&&◌, ◌||◌, ◌⊎◌, cond, eqb, List, [], ◌∷◌, ◌++◌, length, get_or, set, Some, refl, sym, ap, subst, ◌∙◌, arith, add-one}
+use Rattle.std.proofs.Common.{inl, inr, ◌≡◌, ℕ, zero, suc, ◌+◌, ◌≤◌, ◌<◌, Bool, true, false, not, ◌&&◌, ◌||◌, ◌⊎◌, eqb, List, [], ◌∷◌, length, get_or, refl, sym, ap, subst, ◌∙◌, arith}
 use Rattle.std.specs.Prelude.{All, Contains}
 use Rattle.std.specs.List.{filter, AllByRecursion}
-use Rattle.std.proofs.lemmas.Bool.{and_parts, and_from, or_parts, or_cases, or_left, or_right, cases_Bool, cases_order, cond-true, cond-false, false_from_ne_true, not_from_false, not_from_true, not-true, eqb-true, eq-eqb, ne_eqb, eqb-false, true≢false, false≢true}
+use Rattle.std.proofs.lemmas.Bool.{and_parts, and_from, or_parts, cases_Bool, cases_order, cond-true, cond-false, false_from_ne_true, not_from_false, not-true, eqb-true, ne_eqb, eqb-false, true≢false, false≢true}
 use Rattle.std.proofs.lemmas.Option.{slice_get_read, get_or_from_slice_get}
 use Rattle.std.proofs.lemmas.List.Elements.{All-from_recursion, All-get_or, Contains-get_or}
 use Rattle.pb_base.specs.Rule.{holds}
-use Rattle.pb_base.specs.Sets.{has}
-use Rattle.book_model.specs.Activity.{is_within}
 use Rattle.book_model.specs.Contents.{Contents}
 use Rattle.book_model.specs.Good.{fires, is_constructible}
 use Rattle.book_model.specs.Slices.{AreAlike}
@@ -20,7 +18,7 @@ use Rattle.supplement_findings.specs.Ends.{with_code, breaks_with, swaps_with, I
 use Rattle.supplement_findings.specs.Questions.{no_rule, rule_at, is_active, is_asked, breaks_from, swaps_with_later, swaps_from, all_questions, is_put, questions, meets, QuestionFits}
 use Rattle.supplement_findings.specs.declared.question.SupplementQuestion.{SupplementQuestion}
 use Rattle.supplement_findings.specs.declared.question.SupplementQuestion.TheVariants.{Breaks, Swaps}
-use Rattle.supplement_findings.proofs.EndLaws.{FiresOver, fires_over, over_fires}
+use Rattle.supplement_findings.proofs.EndLaws.{fires_over}
 
 -- what it is that a rule breaks a set, and that two swap over one
 pub record BreaksOver (b : Contents) (day : ℕ) (s : Supplement) (x : List Bool) : Type 0 where

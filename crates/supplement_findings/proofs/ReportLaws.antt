@@ -1,8 +1,8 @@
 -- What is told of the questions of a slice.
-use Rattle.std.proofs.Common.{inl, inr, ◌≡◌, ℕ, ◌<◌, ◌≤◌, ◌+◌, ◌-◌, Bool, true, false, cond, leb, List, [], ◌∷◌, ◌++◌, length, Some, Result, Ok, Err, take, drop, take-add, get_or, refl, sym, ap, subst, ◌∙◌, arith, append_assoc, IsTrue, All}
+use Rattle.std.proofs.Common.{◌≡◌, ℕ, ◌<◌, ◌≤◌, ◌+◌, ◌-◌, Bool, true, false, cond, leb, List, [], ◌∷◌, ◌++◌, length, Result, Ok, Err, take, drop, take-add, get_or, refl, sym, ap, subst, ◌∙◌, arith, append_assoc, All}
 use Rattle.std.specs.List.{AllByRecursion}
 use Rattle.std.proofs.lemmas.Bool.{and_from, le-leb, leb-true, false≢true}
-use Rattle.std.proofs.lemmas.List.Elements.{All-from_recursion, All-get_or}
+use Rattle.std.proofs.lemmas.List.Elements.{All-get_or, All-weaker}
 use Rattle.std.proofs.lemmas.List.{take_more}
 use Rattle.std.proofs.lemmas.Option.{get_or_from_slice_get, slice_get_read}
 use Rattle.std.specs.Result.{IsErr, IsErrAnd}
@@ -14,20 +14,18 @@ use Rattle.pb_base.proofs.PartLaws.{none_in_parts, parts_more}
 use Rattle.book_model.specs.Activity.{is_within}
 use Rattle.book_model.specs.Book.{IsBook}
 use Rattle.book_model.specs.Contents.{Contents}
-use Rattle.book_model.specs.Good.{is_constructible}
 use Rattle.book_model.specs.Slices.{IsOrdered, IsSteady, all_slices, slices_of}
 use Rattle.book_model.specs.declared.slicing.LimitFault.{LimitFault}
 use Rattle.book_model.specs.declared.slicing.LimitFault.TheVariants.{Slices}
 use Rattle.book_model.specs.declared.record.Slice.{Slice}
-use Rattle.book_model.proofs.DaysAlike.{constructible_alike}
 use Rattle.clause_pool.specs.Literal.{literal}
 use Rattle.clause_pool.specs.PoolContents.{PoolContents}
 use Rattle.clausify.proofs.ListLaws.{all_weaker}
 use Rattle.solver.specs.Answer.{IsSpent}
-use Rattle.supplement_findings.specs.Answering.{IsPosed, IsKept, IsTask, inquiry, question_at}
+use Rattle.supplement_findings.specs.Answering.{IsPosed, IsCounted, IsKept, inquiry, question_at}
 use Rattle.supplement_findings.specs.Clauses.{goals_start, questions_clauses, questions_variables}
-use Rattle.supplement_findings.specs.Ends.{IsCalm, HasOneEnd}
-use Rattle.supplement_findings.specs.Notes.{SupplementInquiry, ShownBy, ShownByNone, IsNoteOf, OwnNotes, HasOneEndThrough, SliceNotes}
+use Rattle.supplement_findings.specs.Ends.{IsCalm}
+use Rattle.supplement_findings.specs.Notes.{ShownBy, ShownByNone, OwnNotes, HasOneEndThrough, SliceNotes}
 use Rattle.supplement_findings.specs.Questions.{all_questions, is_put, questions, meets, QuestionFits}
 use Rattle.supplement_findings.specs.declared.question.SupplementQuestion.{SupplementQuestion}
 use Rattle.supplement_findings.specs.declared.question.SupplementQuestion.TheVariants.{Breaks}
@@ -35,7 +33,7 @@ use Rattle.supplement_findings.specs.declared.report.SupplementNote.{SupplementN
 use Rattle.supplement_findings.specs.declared.report.SupplementNote.TheVariants.{Days, Finding, Undecided}
 use Rattle.supplement_findings.proofs.EndLaws.{one_end_law}
 use Rattle.supplement_findings.proofs.GoalLaws.{built_from_meets}
-use Rattle.supplement_findings.proofs.QuestionLaws.{calm_law, calm_alike, meets_alike, questions_fit, all_fit, all_pass}
+use Rattle.supplement_findings.proofs.QuestionLaws.{calm_law, calm_alike, meets_alike, questions_fit, all_pass}
 
 -- a set that shows something on the first day of a slice shows it on each
 pub shown_through : (b : Contents) (s : Slice) (q : SupplementQuestion) (x : List Bool) → IsSteady b s → QuestionFits b q → length x ≡ length b.codes → meets b s.first q x ≡ true
@@ -124,6 +122,9 @@ parts_further {X} {N} IsPart xs at end notes own more order parts further is =
 pub kept_by_meets : (b : Contents) (day : ℕ) (q : SupplementQuestion) (x y : List Bool) → y ≡ x → length x ≡ length b.codes → meets b day q x ≡ true → IsKept b day y
 kept_by_meets b day q x y same len met =
     subst (λ (z : List Bool). IsKept b day z) (sym same) (record { counted = len; built = built_from_meets b day q x met })
+
+pub counted_of_kept : (b : Contents) (day : ℕ) (xs : List (List Bool)) → All (IsKept b day) xs → All (IsCounted b) xs
+counted_of_kept b day xs h = All-weaker (IsKept b day) (IsCounted b) (λ x kept. kept.counted) xs h
 
 -- a refusal that is passed on is that of the definition
 pub refusal_passed : {T A E : Type 0} (result : Result T (Fail E)) (e : Fail E) (answer : Result A E) → IsErr result × IsErrAnd result (λ x. x ≡ e)

@@ -1,15 +1,15 @@
 -- The variables of questions are few enough to be numbered, and their clauses speak of no others.
-use Rattle.std.proofs.Common.{inl, inr, ◌≡◌, ℕ, zero, suc, ◌+◌, ◌*◌, ◌≤◌, ◌<◌, ◌^◌, Bool, true, false, not, cond, eqb, List, [], ◌∷◌, ◌++◌, Option, None, Some, length, map, refl, sym, ap, subst, ◌∙◌, arith, All, length-append}
+use Rattle.std.proofs.Common.{inl, inr, ◌≡◌, ℕ, ◌+◌, ◌*◌, ◌≤◌, ◌<◌, Bool, true, false, not, eqb, List, [], ◌∷◌, None, Some, length, map, refl, ap, ◌∙◌, arith, All}
 use Rattle.std.specs.List.{filter, AllByRecursion}
 use Rattle.std.proofs.lemmas.Bool.{cases_Bool, cond-true, cond-false}
-use Rattle.std.proofs.lemmas.List.{length-map, map-append}
+use Rattle.std.proofs.lemmas.List.{map-append}
 use Rattle.std.proofs.lemmas.List.Elements.{recursion_from_All}
 use Rattle.pb_base.specs.Leaves.{with_present}
-use Rattle.pb_base.specs.Rule.{Rule, code, negation, both, either, nodes}
+use Rattle.pb_base.specs.Rule.{Rule, code, negation, both, either}
 use Rattle.pb_base.proofs.LeafLaws.{nodes-with_leaves}
 use Rattle.pb_base.specs.Leaves.{present}
 use Rattle.book_model.specs.Activity.{is_within}
-use Rattle.book_model.specs.Book.{IsBook, SupplementFits, ConstructFits, DemandFits, RuleFits}
+use Rattle.book_model.specs.Book.{IsBook, ConstructFits, DemandFits, RuleFits}
 use Rattle.book_model.specs.Contents.{Contents}
 use Rattle.book_model.specs.declared.demand.Demand.{Demand}
 use Rattle.book_model.specs.declared.demand.Demand.TheVariants as demand
@@ -17,18 +17,18 @@ use Rattle.book_model.specs.declared.record.Construct.{Construct}
 use Rattle.book_model.specs.declared.record.Supplement.{Supplement}
 use Rattle.book_model.proofs.BookLimits.{constructs_below}
 use Rattle.clause_pool.specs.Literal.{literal, complement}
-use Rattle.clause_pool.specs.Clause.{clause_of, IsBelow, AreBelow}
+use Rattle.clause_pool.specs.Clause.{AreBelow}
 use Rattle.clause_pool.proofs.ClauseLaws.{IsBelow-clause_of}
 use Rattle.clausify.specs.Coded.{construct_variables}
-use Rattle.clausify.specs.Formulas.{connectives, formula_literal, literals_from}
-use Rattle.clausify.specs.Items.{Item, construct_item, construct_items, free_item, encoded_items, variables_of}
+use Rattle.clausify.specs.Formulas.{connectives, literals_from}
+use Rattle.clausify.specs.Items.{construct_item, construct_items, free_item, encoded_items, variables_of}
 use Rattle.clausify.specs.Questions.{and_none, none_rule}
 use Rattle.clausify.proofs.Bounds.{connectives_below, variables_below, demand_item_below}
 use Rattle.clausify.proofs.ItemLaws.{AllBelow, variables_of-append}
-use Rattle.clausify.proofs.ListLaws.{all-append, all-map, all_weaker}
+use Rattle.clausify.proofs.ListLaws.{all-append, all_weaker}
 use Rattle.clausify.proofs.RangeLaws.{positive_below, negative_below, complement_below, literal_below, items_below}
 use Rattle.supplement_findings.specs.Answering.{IsPosed}
-use Rattle.supplement_findings.specs.Clauses.{breaks_own, swaps_own, own, own_variables, question_lits, goal_clauses, all_own, all_lits, all_goal_clauses, asked_items, goals_start, questions_clauses, questions_variables}
+use Rattle.supplement_findings.specs.Clauses.{swaps_own, own, own_variables, question_lits, goal_clauses, all_own, all_lits, all_goal_clauses, asked_items, goals_start, questions_clauses, questions_variables}
 use Rattle.supplement_findings.specs.Questions.{rule_at, QuestionFits}
 use Rattle.supplement_findings.specs.Touching.{no_other, after, is_touched, afters}
 use Rattle.supplement_findings.specs.declared.lits.QuestionLits.{QuestionLits}

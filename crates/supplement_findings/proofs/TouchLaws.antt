@@ -1,17 +1,17 @@
 -- What an added code changes of the demands of constructibility rules: of those in which it does not stand nothing, and of the
 -- others what `after` says.
-use Rattle.std.proofs.Common.{inl, inr, ◌≡◌, ◌≢◌, ℕ, zero, suc, ◌+◌, ◌≤◌, ◌<◌, Bool, true, false, not, ◌&&◌, ◌||◌, ◌⊎◌, cond, eqb, leb, List, [], ◌∷◌, Option, None, Some, length, map, set, refl, sym, ap, subst, ◌∙◌, arith}
+use Rattle.std.proofs.Common.{inl, inr, ◌≡◌, ℕ, zero, suc, ◌+◌, ◌<◌, Bool, true, false, not, ◌&&◌, ◌||◌, eqb, leb, List, [], ◌∷◌, None, Some, length, map, set, refl, sym, ap, ◌∙◌, arith}
 use Rattle.std.specs.Prelude.{nat_eq}
 use Rattle.std.specs.List.{filter, list_any, list_all, AllByRecursion, IsDistinct}
-use Rattle.std.proofs.lemmas.Bool.{and_left, or_parts, or_cases, cases_Bool, cases_eq, cond-true, cond-false, eqb-true, eqb-false, eq-eqb, ne_eqb, le-leb, lt-leb, not_from_true, not_from_false, true≢false, false≢true}
+use Rattle.std.proofs.lemmas.Bool.{and_left, or_parts, cases_Bool, cases_eq, cond-true, cond-false, eqb-false, eq-eqb, ne_eqb, le-leb, lt-leb, not_from_true, not_from_false, false≢true}
 use Rattle.std.proofs.lemmas.List.{get_or-set_same, get_or-set_other}
 use Rattle.std.proofs.Math.Bool.{and_assoc}
 use Rattle.pb_base.specs.Leaves.{with_present}
-use Rattle.pb_base.specs.Rule.{Rule, code, negation, both, either, always, holds}
+use Rattle.pb_base.specs.Rule.{Rule, code, negation, both, either, holds}
 use Rattle.pb_base.specs.Sets.{has}
 use Rattle.pb_base.proofs.LeafLaws.{holds-with_present}
 use Rattle.book_model.specs.Activity.{is_within}
-use Rattle.book_model.specs.Book.{ConstructFits, DemandFits, GroupFits}
+use Rattle.book_model.specs.Book.{ConstructFits, DemandFits}
 use Rattle.book_model.specs.Good.{breaks, is_met, present}
 use Rattle.book_model.specs.declared.demand.Demand.{Demand}
 use Rattle.book_model.specs.declared.demand.Demand.TheVariants as demand
@@ -19,8 +19,7 @@ use Rattle.book_model.specs.declared.record.Construct.{Construct}
 use Rattle.clausify.specs.Questions.{and_none, none_rule}
 use Rattle.supplement.specs.Occurrences.{occurs}
 use Rattle.supplement.proofs.OccurrenceLemmas.{holds-set}
-use Rattle.supplement_findings.specs.Ends.{with_code}
-use Rattle.supplement_findings.specs.Touching.{touches, no_other, after}
+use Rattle.supplement_findings.specs.Touching.{touches, after}
 
 -- none of some codes is present
 

@@ -2,6 +2,7 @@
 --     IsPosed b day q            a question of the book that is put on the day
 --     IsOver b day qs solving    a solver over the clauses of some questions
 --     IsOutcome b day qs place budget outcome    what comes of the question at a place
+--     IsCounted b x              a set of the book's codes
 --     IsKept b day x             a set that may answer other questions
 --     IsTask b task              a slice on all days of which the same records are active, and a budget within its bounds
 use Rattle.std.specs.Prelude.{◌≡◌, ℕ, ◌+◌, ◌<◌, ◌≤◌, Bool, true, false, List, length, slice_index_or}
@@ -42,6 +43,9 @@ IsOutcome b day qs place budget (Shown x) = (length x ≡ length b.codes) × (me
 IsOutcome b day qs place budget NotShown = (x : List Bool) → length x ≡ length b.codes → meets b day (question_at qs place) x ≡ false
 IsOutcome b day qs place budget (Left learnt) =
     IsSpent (questions_variables b day qs) (questions_clauses b day qs) (literal (goals_start b day qs + place) true) budget learnt.clauses
+
+abbrev pub IsCounted : Contents → List Bool → Type 0
+IsCounted b x = length x ≡ length b.codes
 
 pub record IsKept (b : Contents) (day : ℕ) (x : List Bool) : Type 0 where
   pub counted : length x ≡ length b.codes

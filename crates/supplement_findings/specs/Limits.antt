@@ -1,6 +1,6 @@
 -- The limits of a book's slices and of the questions on its supplementing rules.
 --     slices_within b     the slices of a book that keeps the limits, or the first limit that it exceeds
-use Rattle.std.specs.Prelude.{ℕ, suc, ◌≤◌, List, [], ◌∷◌, Option, None, Some, Result, Ok, All, length, nat_lt, if◌then◌else◌}
+use Rattle.std.specs.Prelude.{ℕ, suc, List, [], ◌∷◌, Option, None, Some, Result, Ok, length, nat_lt, if◌then◌else◌}
 use Rattle.pb_base.specs.Results.{and_then, unless}
 use Rattle.pb_base.specs.declared.limits.TheConstants.{MOST_QUESTIONS}
 use Rattle.book_model.specs.Contents.{Contents}

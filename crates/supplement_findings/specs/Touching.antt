@@ -3,10 +3,12 @@
 --     after code demand         a formula that is true where the set with the code meets the demand, over sets that meet it without
 --     touched b day code        the active constructibility rules in whose demand the code stands
 --     afters b day code         what each of them asks of the set with the code
-use Rattle.std.specs.Prelude.{ℕ, Bool, not, ◌&&◌, ◌||◌, ◌==◌, List, Option, Some, None, filter, map, if◌then◌else◌}
+--     all_touched b             of the code of each supplementing rule, the places of the rules that it touches, whatever their days
+--     afters_at b day code places     what the active ones of the rules at these places ask of the set with the code
+use Rattle.std.specs.Prelude.{ℕ, suc, Bool, not, ◌&&◌, ◌||◌, ◌==◌, List, [], ◌∷◌, Option, Some, None, filter, map, slice_index_or, if◌then◌else◌}
 use Rattle.std.specs.List.{list_any}
 use Rattle.pb_base.specs.Leaves.{with_present}
-use Rattle.pb_base.specs.Rule.{Rule, code, negation, both, either}
+use Rattle.pb_base.specs.Rule.{Rule, code, negation, both, either, never}
 use Rattle.book_model.specs.Activity.{is_within}
 use Rattle.book_model.specs.Contents.{Contents}
 use Rattle.book_model.specs.declared.demand.Demand.{Demand}
@@ -51,3 +53,24 @@ touched b day added = filter (is_touched day added) b.constructs
 
 abbrev pub afters : Contents → ℕ → ℕ → List Rule
 afters b day added = map (λ r. after added r.demand) (touched b day added)
+
+-- of rules of which the first has the place i
+abbrev pub touched_from : ℕ → ℕ → List Construct → List ℕ
+touched_from i added [] = []
+touched_from i added (r ∷ rs) = if touches added r.demand then i ∷ touched_from (suc i) added rs else touched_from (suc i) added rs
+
+abbrev pub all_touched : Contents → List (List ℕ)
+all_touched b = map (λ s. touched_from 0 s.code b.constructs) b.supplements
+
+-- a rule that is never active, in place of one that the book doesn't have
+abbrev pub no_construct : Construct
+no_construct = record { id = []; demand = demand.Rule None never; from = 1; until = 0 }
+
+abbrev pub construct_at : Contents → ℕ → Construct
+construct_at b place = slice_index_or b.constructs place no_construct
+
+abbrev pub is_active_rule : ℕ → Construct → Bool
+is_active_rule day r = is_within r.from r.until day
+
+abbrev pub afters_at : Contents → ℕ → ℕ → List ℕ → List Rule
+afters_at b day added places = map (λ r. after added r.demand) (filter (is_active_rule day) (map (construct_at b) places))

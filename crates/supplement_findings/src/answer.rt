@@ -6,12 +6,13 @@ ghost use Rattle.solver.specs.Solver.{IsRight};
 ghost use Rattle.supplement_findings.specs.Answering.{IsPosed, IsOver, IsOutcome};
 ghost use Rattle.supplement_findings.specs.Clauses.{goals_start};
 ghost use Rattle.supplement_findings.specs.Questions.{QuestionFits};
+ghost use Rattle.supplement_findings.specs.Touching.{all_touched};
 
 use crate::coding::{CodedQuestions, MOST_TOGETHER, coded_questions};
 use crate::question::SupplementQuestion;
 use book_model::Book;
 use clause_pool::{Kernel, Lit, Pool};
-use pb_base::{CodeSet, Day, Memory};
+use pb_base::{CodeSet, Day, Memory, Sequence};
 use solver::{Answer, Solver};
 use std::alloc::Global;
 
@@ -39,14 +40,16 @@ pub(crate) fn begin(
     book: &Book,
     day: Day,
     questions: &[SupplementQuestion],
+    touched: &[Sequence<u32>],
 ) -> Result<Asking, Memory>
     requires fit { All (QuestionFits book.now) questions.now }
+    requires touched { touched.now ≡ all_touched book.now }
     requires few { length questions.now ≤ MOST_TOGETHER }
     ensures over { IfOk result (λ a. IsOver book.now day questions.now a.solver) }
     ensures goals { IfOk result (λ a. a.first_goal ≡ goals_start book.now day questions.now) }
 {
     let codes = book.codes().len();
-    let coded = coded_questions(alloc, book, day, questions)?;
+    let coded = coded_questions(alloc, book, day, questions, touched)?;
     let CodedQuestions {
         pool,
         vars,

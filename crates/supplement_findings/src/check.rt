@@ -10,14 +10,16 @@ ghost use Rattle.supplement_findings.specs.Ends.{swaps_with};
 ghost use Rattle.supplement_findings.specs.Limits.{slices_within};
 ghost use Rattle.supplement_findings.specs.Notes.{IsReport, SliceNotes};
 ghost use Rattle.supplement_findings.specs.Questions.{all_questions, is_asked};
+ghost use Rattle.supplement_findings.specs.Touching.{all_touched};
 
 use crate::laws::unasked_never_swap;
 use crate::question::SupplementQuestion;
 use crate::questions::{all_questions, slices_within};
 use crate::report::{SupplementNote, SupplementReport};
 use crate::slice::{SliceTask, check_slice};
+use crate::touched::all_touched;
 use book_model::{Book, LimitFault, Slice};
-use pb_base::{Fail, Memory};
+use pb_base::{Fail, Memory, Sequence};
 use std::alloc::Global;
 
 /// Asks of every slice of a book which of its supplementing rules break constructible sets and which swap. A question is left
@@ -38,7 +40,8 @@ pub fn check_supplements(
     unasked_never_swap();
     let all = all_questions(alloc, book)?;
     let slices = slices_within(alloc, book, &all)?;
-    let notes = check_slices(alloc, book, slices.as_slice(), &all, budget)?;
+    let touched = all_touched(alloc, book)?;
+    let notes = check_slices(alloc, book, slices.as_slice(), &all, &touched, budget)?;
     Ok(SupplementReport::of(notes))
 }
 
@@ -48,22 +51,25 @@ fn check_slices(
     book: &Book,
     slices: &[Slice],
     all: &[SupplementQuestion],
+    touched: &[Sequence<u32>],
     budget: u32,
 ) -> Result<Vec<SupplementNote>, Memory>
     requires steady { All (IsSteady book.now) slices.now }
     requires order { All IsOrdered slices.now }
     requires all { all.now ≡ all_questions book.now }
+    requires touched { touched.now ≡ all_touched book.now }
     requires some { 0 < budget }
     requires most { budget ≤ MOST_BUDGET }
     ensures { IfOk result (λ notes. InParts (SliceNotes (inquiry book.now budget)) slices.now notes.items) }
 {
     let mut notes = Vec::new(alloc);
+    let mut sets = Vec::new(alloc);
     for slice in slices {
         let task = SliceTask {
             slice: *slice,
             budget,
         };
-        let mut own = check_slice(alloc, book, task, all)?;
+        let mut own = check_slice(alloc, book, task, all, touched, &mut sets)?;
         notes.append(&mut own)?;
     }
     Ok(notes)

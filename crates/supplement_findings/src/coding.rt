@@ -8,13 +8,13 @@ ghost use Rattle.clausify.specs.Items.{free_item, variables_of};
 ghost use Rattle.supplement_findings.specs.Clauses.{breaks_own, swaps_own, own, own_variables, all_own, breaks_lits, swaps_lits, question_lits, all_lits};
 ghost use Rattle.supplement_findings.specs.Clauses.{goal_clauses, all_goal_clauses, goals_start, questions_clauses, questions_variables};
 ghost use Rattle.supplement_findings.specs.Questions.{QuestionFits};
-ghost use Rattle.supplement_findings.specs.Touching.{afters, is_touched};
+ghost use Rattle.supplement_findings.specs.Touching.{afters, afters_at, all_touched, touched_from};
 
 use crate::after::after;
 use crate::lits::QuestionLits;
-use crate::occurs::touches;
 use crate::question::SupplementQuestion;
-use book_model::{Book, Construct, Supplement, active};
+use crate::touched::touched_at;
+use book_model::{Book, Supplement, active};
 use clause_pool::{Lit, Pool};
 use clausify::{Encoded, Encoder, add_constructs};
 use pb_base::{Day, Formula, Memory, Present, Sequence};
@@ -38,8 +38,10 @@ pub(crate) fn coded_questions(
     book: &Book,
     day: Day,
     questions: &[SupplementQuestion],
+    touched: &[Sequence<u32>],
 ) -> Result<CodedQuestions, Memory>
     requires fit { All (QuestionFits book.now) questions.now }
+    requires touched { touched.now ≡ all_touched book.now }
     requires few { length questions.now ≤ MOST_TOGETHER }
     ensures clauses { IfOk result (λ c. c.pool.clauses ≡ questions_clauses book.now day questions.now) }
     ensures vars { IfOk result (λ c. c.vars ≡ questions_variables book.now day questions.now) }
@@ -48,7 +50,7 @@ pub(crate) fn coded_questions(
     let mut encoder = Encoder::new(alloc, book.codes().len())?;
     let mut starts = Vec::new(alloc);
     add_constructs(&mut encoder, &mut starts, book, day)?;
-    let lits = add_all_own(alloc, &mut encoder, book, day, questions)?;
+    let lits = add_all_own(alloc, &mut encoder, book, day, questions, touched)?;
     let Encoded {
         mut pool,
         vars: first_goal,
@@ -69,7 +71,9 @@ fn add_all_own(
     book: &Book,
     day: Day,
     questions: &[SupplementQuestion],
+    touched: &[Sequence<u32>],
 ) -> Result<Vec<QuestionLits>, Memory>
+    requires touched { touched.now ≡ all_touched book.now }
     requires truth { encoder.old.truth ≡ length book.now.codes }
     requires fit { All (QuestionFits book.now) questions.now }
     requires room { let items = map free_item (all_own book.now day questions.now) in
@@ -80,7 +84,7 @@ fn add_all_own(
 {
     let mut all = Vec::new(alloc);
     for question in questions {
-        let lits = add_own(alloc, encoder, book, day, *question)?;
+        let lits = add_own(alloc, encoder, book, day, *question, touched)?;
         all.push(lits)?;
     }
     Ok(all)
@@ -93,7 +97,9 @@ fn add_own(
     book: &Book,
     day: Day,
     question: SupplementQuestion,
+    touched: &[Sequence<u32>],
 ) -> Result<QuestionLits, Memory>
+    requires touched { touched.now ≡ all_touched book.now }
     requires truth { encoder.old.truth ≡ length book.now.codes }
     requires fits { QuestionFits book.now question }
     requires room { encoder.old.next + own_variables book.now day question < 2 ^ 32 }
@@ -104,7 +110,8 @@ fn add_own(
     let rules = book.supplements();
     match question {
         SupplementQuestion::Breaks(place) => {
-            add_breaks(alloc, encoder, book, day, &rules[place as usize])
+            let touched = touched_at(book, touched, place);
+            add_breaks(alloc, encoder, book, day, &rules[place as usize], touched)
         }
         SupplementQuestion::Swaps { first, second } => {
             add_swaps(
@@ -118,13 +125,16 @@ fn add_own(
 }
 
 // The rule's formula, and what the constructibility rules ask of the set with its code.
+#[tactic(auto, using(crate::proofs::TouchedLaws::afters_touched, crate::proofs::TouchedLaws::all_within))]
 fn add_breaks(
     alloc: Global,
     encoder: &mut Encoder,
     book: &Book,
     day: Day,
     rule: &Supplement,
+    touched: &[u32],
 ) -> Result<QuestionLits, Memory>
+    requires touched { touched.now ≡ touched_from 0 rule.now.code book.now.constructs }
     requires truth { encoder.old.truth ≡ length book.now.codes }
     requires room { let items = map free_item (breaks_own book.now day rule.now) in
         encoder.old.next + variables_of items < 2 ^ 32 }
@@ -133,7 +143,7 @@ fn add_breaks(
     ensures lits { IfOk result (λ lits. lits ≡ breaks_lits book.now day encoder.old.next rule.now) }
 {
     let literal = encoder.literal(&rule.rule)?;
-    let afterwards = add_afters(alloc, encoder, book, day, rule.code)?;
+    let afterwards = add_afters(alloc, encoder, book, day, rule.code, touched)?;
     Ok(QuestionLits::BreaksLits {
         rule: literal,
         added: rule.code,
@@ -148,7 +158,10 @@ fn add_afters(
     book: &Book,
     day: Day,
     added: u32,
+    touched: &[u32],
 ) -> Result<Vec<Lit>, Memory>
+    requires touched { afters_at book.now day added touched.now ≡ afters book.now day added }
+    requires within { All (λ p. p < length book.now.constructs) touched.now }
     requires room { let items = map free_item (afters book.now day added) in
         encoder.old.next + variables_of items < 2 ^ 32 }
     ensures made { let items = map free_item (afters book.now day added) in
@@ -156,21 +169,16 @@ fn add_afters(
     ensures lits { IfOk result (λ lits. lits.items
         ≡ literals_from encoder.old.truth encoder.old.next (afters book.now day added)) }
 {
+    let constructs = book.constructs();
     let mut lits = Vec::new(alloc);
-    for construct in book.constructs() {
-        if is_touched(construct, day, added) {
+    for place in touched {
+        let construct = &constructs[*place as usize];
+        if active(construct.from, construct.until, day) {
             let asked = after(alloc, added, &construct.demand)?;
             lits.push(encoder.literal(&asked)?)?;
         }
     }
     Ok(lits)
-}
-
-// Whether the rule is active, and the code stands in its demand.
-fn is_touched(construct: &Construct, day: Day, added: u32) -> bool
-    ensures { result ≡ is_touched day added construct.now }
-{
-    active(construct.from, construct.until, day) && touches(added, &construct.demand)
 }
 
 // Both rules' formulas, and each with the code of the other read as present.

@@ -14,6 +14,7 @@ mod questions;
 mod report;
 mod sets;
 mod slice;
+mod touched;
 
 pub use check::check_supplements;
 pub use laws::{calm_where_none_is_found, one_end, unasked_never_swap};

@@ -1,16 +1,80 @@
 //! Sets that were found for one question and may answer others.
-ghost use Rattle.std.specs.Prelude.{◌≡◌, ◌<◌, All, IfOk, IfSome, length, true};
+ghost use Rattle.std.specs.Prelude.{◌≡◌, ◌<◌, All, IfOk, IfSome, OnOk, length, true};
 ghost use Rattle.std.specs.List.{list_any};
 ghost use Rattle.book_model.specs.Book.{SupplementFits, ConstructFits};
-ghost use Rattle.book_model.specs.Good.{breaks};
-ghost use Rattle.supplement_findings.specs.Answering.{IsKept};
+ghost use Rattle.book_model.specs.Good.{breaks, is_constructible};
+ghost use Rattle.supplement_findings.specs.Answering.{IsCounted, IsKept};
 ghost use Rattle.supplement_findings.specs.Ends.{breaks_with, swaps_with, with_code};
 ghost use Rattle.supplement_findings.specs.Questions.{meets, QuestionFits};
+ghost use Rattle.supplement_findings.specs.Touching.{all_touched, touched_from, construct_at};
 
 use crate::question::SupplementQuestion;
+use crate::touched::touched_at;
 use book_model::{Book, Construct, Supplement, breaks, fires};
-use pb_base::{CodeSet, Day, Memory};
+use pb_base::{CodeSet, Day, Memory, Sequence};
 use std::alloc::Global;
+
+/// Lets go of the sets that are not constructible on a day.
+#[tactic(auto, using(crate::proofs::ReportLaws::counted_of_kept))]
+pub(crate) fn keep_built(
+    alloc: Global,
+    book: &Book,
+    day: Day,
+    sets: &mut Vec<CodeSet>,
+) -> Result<(), Memory>
+    requires counted { All (IsCounted book.now) sets.old.items }
+    ensures counted { All (IsCounted book.now) sets.new.items }
+    ensures kept { OnOk result (All (IsKept book.now day) sets.new.items) }
+{
+    let kept = built(alloc, book, day, sets)?;
+    *sets = kept;
+    Ok(())
+}
+
+// Those of the sets that are constructible on a day.
+fn built(alloc: Global, book: &Book, day: Day, sets: &[CodeSet]) -> Result<Vec<CodeSet>, Memory>
+    requires { All (IsCounted book.now) sets.now }
+    ensures { IfOk result (λ kept. All (IsKept book.now day) kept.items) }
+{
+    let mut kept = Vec::new(alloc);
+    for set in sets {
+        if is_built(book, day, set) {
+            keep_copy(alloc, book, day, set, &mut kept)?;
+        }
+    }
+    Ok(kept)
+}
+
+/// Puts a copy of a set behind the others.
+pub(crate) fn keep_copy(
+    alloc: Global,
+    book: &Book,
+    day: Day,
+    set: &CodeSet,
+    sets: &mut Vec<CodeSet>,
+) -> Result<(), Memory>
+    requires set { IsKept book.now day set.now }
+    requires kept { All (IsKept book.now day) sets.old.items }
+    ensures { All (IsKept book.now day) sets.new.items }
+{
+    let copy = set.copy(alloc)?;
+    sets.push(copy)?;
+    Ok(())
+}
+
+fn is_built(book: &Book, day: Day, set: &CodeSet) -> bool
+    requires { IsCounted book.now set.now }
+    ensures { result ≡ is_constructible book.now day set.now }
+{
+    !any_broken(book.constructs(), day, set)
+}
+
+fn any_broken(constructs: &[Construct], day: Day, set: &CodeSet) -> bool
+    requires { All (ConstructFits (length set.now)) constructs.now }
+    ensures { result ≡ list_any (breaks day set.now) constructs.now }
+{
+    constructs.iter().any(|c| breaks(c, day, set))
+}
 
 /// A further set, equal to the first of these that shows what the question asks for.
 pub(crate) fn set_for(
@@ -19,14 +83,16 @@ pub(crate) fn set_for(
     day: Day,
     sets: &[CodeSet],
     question: SupplementQuestion,
+    touched: &[Sequence<u32>],
 ) -> Result<Option<CodeSet>, Memory>
     requires fits { QuestionFits book.now question }
+    requires touched { touched.now ≡ all_touched book.now }
     requires kept { All (IsKept book.now day) sets.now }
     ensures kept { IfOk result (λ found. IfSome found (λ x. length x ≡ length book.now.codes)) }
     ensures shown { IfOk result (λ found. IfSome found (λ x. meets book.now day question x ≡ true)) }
 {
     for set in sets {
-        if meets(alloc, book, day, set, question)? {
+        if meets(alloc, book, day, set, question, touched)? {
             return Ok(Some(set.copy(alloc)?));
         }
     }
@@ -40,15 +106,18 @@ fn meets(
     day: Day,
     set: &CodeSet,
     question: SupplementQuestion,
+    touched: &[Sequence<u32>],
 ) -> Result<bool, Memory>
     requires fits { QuestionFits book.now question }
+    requires touched { touched.now ≡ all_touched book.now }
     requires kept { IsKept book.now day set.now }
     ensures { IfOk result (λ met. met ≡ meets book.now day question set.now) }
 {
     let rules = book.supplements();
     match question {
         SupplementQuestion::Breaks(place) => {
-            is_broken(alloc, book, day, set, &rules[place as usize])
+            let touched = touched_at(book, touched, place);
+            is_broken(alloc, book, day, set, &rules[place as usize], touched)
         }
         SupplementQuestion::Swaps { first, second } => {
             is_swapped(
@@ -63,22 +132,25 @@ fn meets(
     }
 }
 
+#[tactic(auto, using(crate::proofs::TouchedLaws::broken_at, crate::proofs::TouchedLaws::all_within))]
 fn is_broken(
     alloc: Global,
     book: &Book,
     day: Day,
     set: &CodeSet,
     rule: &Supplement,
+    touched: &[u32],
 ) -> Result<bool, Memory>
     requires kept { IsKept book.now day set.now }
     requires fits { SupplementFits (length set.now) rule.now }
+    requires touched { touched.now ≡ touched_from 0 rule.now.code book.now.constructs }
     ensures { IfOk result (λ met. met ≡ breaks_with book.now day rule.now set.now) }
 {
     if !fires(rule, day, set) {
         return Ok(false);
     }
     let larger = with_code(alloc, set, rule.code)?;
-    Ok(any_breaks(book.constructs(), day, &larger))
+    Ok(any_breaks(book, touched, day, &larger))
 }
 
 fn is_swapped(
@@ -112,9 +184,17 @@ fn with_code(alloc: Global, set: &CodeSet, code: u32) -> Result<CodeSet, Memory>
     Ok(larger)
 }
 
-fn any_breaks(constructs: &[Construct], day: Day, set: &CodeSet) -> bool
-    requires { All (ConstructFits (length set.now)) constructs.now }
-    ensures { result ≡ list_any (breaks day set.now) constructs.now }
+// Whether the set breaks one of the constructibility rules at these places.
+fn any_breaks(book: &Book, places: &[u32], day: Day, set: &CodeSet) -> bool
+    requires counted { length set.now ≡ length book.now.codes }
+    requires within { All (λ p. p < length book.now.constructs) places.now }
+    ensures { result ≡ list_any (λ p. breaks day set.now (construct_at book.now p)) places.now }
 {
-    constructs.iter().any(|c| breaks(c, day, set))
+    let constructs = book.constructs();
+    for place in places {
+        if breaks(&constructs[*place as usize], day, set) {
+            return true;
+        }
+    }
+    false
 }

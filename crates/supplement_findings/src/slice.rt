@@ -2,10 +2,11 @@
 ghost use Rattle.std.specs.Prelude.{◌≡◌, ◌<◌, ◌≤◌, ◌+◌, ◌++◌, ◌∷◌, [], Bool, List, true, false, All, IfOk, OnOk, length};
 ghost use Rattle.std.specs.Option.{option_to_list};
 ghost use Rattle.pb_base.specs.InParts.{InParts};
-ghost use Rattle.supplement_findings.specs.Answering.{IsPosed, IsOver, IsOutcome, IsKept, IsTask, inquiry, question_at};
+ghost use Rattle.supplement_findings.specs.Answering.{IsPosed, IsOver, IsOutcome, IsCounted, IsKept, IsTask, inquiry, question_at};
 ghost use Rattle.supplement_findings.specs.Clauses.{goals_start};
 ghost use Rattle.supplement_findings.specs.Notes.{OwnNotes, SliceNotes};
 ghost use Rattle.supplement_findings.specs.Questions.{all_questions, meets, QuestionFits};
+ghost use Rattle.supplement_findings.specs.Touching.{all_touched};
 ghost use Rattle.supplement_findings.specs.declared.report.SupplementNote.TheVariants.{Days};
 
 use crate::answer::{Asking, Outcome, ask, begin};
@@ -13,9 +14,9 @@ use crate::coding::MOST_TOGETHER;
 use crate::question::SupplementQuestion;
 use crate::questions::questions_on;
 use crate::report::SupplementNote;
-use crate::sets::set_for;
+use crate::sets::{keep_built, keep_copy, set_for};
 use book_model::{Book, Slice};
-use pb_base::{CodeSet, Memory};
+use pb_base::{CodeSet, Memory, Sequence};
 use std::alloc::Global;
 
 /// A slice, and how many clauses may be learnt for each of its questions.
@@ -25,20 +26,27 @@ pub(crate) struct SliceTask {
     pub budget: u32,
 }
 
-/// The notes on a slice, its days first.
+/// The notes on a slice, its days first. The sets are those that answered questions of earlier slices, and then of this one, too.
+#[tactic(auto, using(crate::proofs::ReportLaws::counted_of_kept))]
 pub(crate) fn check_slice(
     alloc: Global,
     book: &Book,
     task: SliceTask,
     all: &[SupplementQuestion],
+    touched: &[Sequence<u32>],
+    sets: &mut Vec<CodeSet>,
 ) -> Result<Vec<SupplementNote>, Memory>
     requires task { IsTask book.now task }
     requires all { all.now ≡ all_questions book.now }
-    ensures { IfOk result (λ notes. SliceNotes (inquiry book.now task.budget) task.slice notes.items) }
+    requires touched { touched.now ≡ all_touched book.now }
+    requires counted { All (IsCounted book.now) sets.old.items }
+    ensures counted { All (IsCounted book.now) sets.new.items }
+    ensures notes { IfOk result (λ notes. SliceNotes (inquiry book.now task.budget) task.slice notes.items) }
 {
     book.codes();
     let questions = questions_on(alloc, book, task.slice.first, all)?;
-    let own = check_questions(alloc, book, task, &questions)?;
+    keep_built(alloc, book, task.slice.first, sets)?;
+    let own = check_questions(alloc, book, task, &questions, touched, sets)?;
     let notes = with_days(alloc, task.slice, own)?;
     Ok(notes)
 }
@@ -66,19 +74,23 @@ fn check_questions(
     book: &Book,
     task: SliceTask,
     questions: &[SupplementQuestion],
+    touched: &[Sequence<u32>],
+    sets: &mut Vec<CodeSet>,
 ) -> Result<Vec<SupplementNote>, Memory>
     requires task { IsTask book.now task }
+    requires touched { touched.now ≡ all_touched book.now }
     requires posed { All (IsPosed book.now task.slice.first) questions.now }
-    ensures { IfOk result (λ notes.
+    requires kept { All (IsKept book.now task.slice.first) sets.old.items }
+    ensures kept { All (IsKept book.now task.slice.first) sets.new.items }
+    ensures notes { IfOk result (λ notes.
         InParts (OwnNotes (inquiry book.now task.budget) task.slice) questions.now notes.items) }
 {
     let mut notes = Vec::new(alloc);
-    let mut sets = Vec::new(alloc);
     let mut at = 0;
     while at < questions.len() {
         let end = end_of_together(questions.len(), at);
         let together = &questions[at..end];
-        let mut own = check_together(alloc, book, task, together, &mut sets)?;
+        let mut own = check_together(alloc, book, task, together, touched, sets)?;
         notes.append(&mut own)?;
         at = end;
     }
@@ -105,9 +117,11 @@ fn check_together(
     book: &Book,
     task: SliceTask,
     questions: &[SupplementQuestion],
+    touched: &[Sequence<u32>],
     sets: &mut Vec<CodeSet>,
 ) -> Result<Vec<SupplementNote>, Memory>
     requires task { IsTask book.now task }
+    requires touched { touched.now ≡ all_touched book.now }
     requires posed { All (IsPosed book.now task.slice.first) questions.now }
     requires few { length questions.now ≤ MOST_TOGETHER }
     requires kept { All (IsKept book.now task.slice.first) sets.old.items }
@@ -115,10 +129,19 @@ fn check_together(
     ensures notes { IfOk result (λ notes.
         InParts (OwnNotes (inquiry book.now task.budget) task.slice) questions.now notes.items) }
 {
-    let mut asking = begin(alloc, book, task.slice.first, questions)?;
+    let mut asking = begin(alloc, book, task.slice.first, questions, touched)?;
     let mut notes = Vec::new(alloc);
     for place in 0..questions.len() {
-        let note = note_on(alloc, book, task, questions, place, &mut asking, sets)?;
+        let note = note_on(
+            alloc,
+            book,
+            task,
+            questions,
+            place,
+            touched,
+            &mut asking,
+            sets,
+        )?;
         put(&mut notes, note)?;
     }
     Ok(notes)
@@ -142,10 +165,12 @@ fn note_on(
     task: SliceTask,
     questions: &[SupplementQuestion],
     place: usize,
+    touched: &[Sequence<u32>],
     asking: &mut Asking,
     sets: &mut Vec<CodeSet>,
 ) -> Result<Option<SupplementNote>, Memory>
     requires task { IsTask book.now task }
+    requires touched { touched.now ≡ all_touched book.now }
     requires posed { All (IsPosed book.now task.slice.first) questions.now }
     requires few { length questions.now ≤ MOST_TOGETHER }
     requires within { place < length questions.now }
@@ -159,7 +184,7 @@ fn note_on(
         IfOk result (λ note. OwnNotes (inquiry book.now task.budget) task.slice question (option_to_list note)) }
 {
     let question = questions[place];
-    let found = set_for(alloc, book, task.slice.first, sets, question)?;
+    let found = set_for(alloc, book, task.slice.first, sets, question, touched)?;
     match found {
         Some(set) => return Ok(Some(finding(book, task, question, set))),
         None => {}
@@ -175,7 +200,7 @@ fn note_on(
     match outcome {
         Outcome::Shown(set) => keep(alloc, book, task, question, set, sets),
         Outcome::NotShown => Ok(none(book, task, question)),
-        Outcome::Left(_) => note_alone(alloc, book, task, question),
+        Outcome::Left(_) => note_alone(alloc, book, task, question, touched),
     }
 }
 
@@ -213,8 +238,7 @@ fn keep(
     ensures note { IfOk result (λ note.
         OwnNotes (inquiry book.now task.budget) task.slice question (option_to_list note)) }
 {
-    let copy = set.copy(alloc)?;
-    sets.push(copy)?;
+    keep_copy(alloc, book, task.slice.first, &set, sets)?;
     Ok(Some(finding(book, task, question, set)))
 }
 
@@ -235,13 +259,15 @@ fn note_alone(
     book: &Book,
     task: SliceTask,
     question: SupplementQuestion,
+    touched: &[Sequence<u32>],
 ) -> Result<Option<SupplementNote>, Memory>
     requires task { IsTask book.now task }
+    requires touched { touched.now ≡ all_touched book.now }
     requires posed { IsPosed book.now task.slice.first question }
     ensures { IfOk result (λ note.
         OwnNotes (inquiry book.now task.budget) task.slice question (option_to_list note)) }
 {
-    let outcome = ask_alone(alloc, book, task, question)?;
+    let outcome = ask_alone(alloc, book, task, question, touched)?;
     match outcome {
         Outcome::Shown(set) => Ok(Some(finding(book, task, question, set))),
         Outcome::NotShown => Ok(none(book, task, question)),
@@ -255,12 +281,14 @@ fn ask_alone(
     book: &Book,
     task: SliceTask,
     question: SupplementQuestion,
+    touched: &[Sequence<u32>],
 ) -> Result<Outcome, Memory>
     requires task { IsTask book.now task }
+    requires touched { touched.now ≡ all_touched book.now }
     requires posed { IsPosed book.now task.slice.first question }
     ensures { IfOk result (IsOutcome book.now task.slice.first (question ∷ []) 0 task.budget) }
 {
     let alone = [question];
-    let mut asking = begin(alloc, book, task.slice.first, &alone)?;
+    let mut asking = begin(alloc, book, task.slice.first, &alone, touched)?;
     ask(book, task.slice.first, &alone, 0, &mut asking, task.budget)
 }

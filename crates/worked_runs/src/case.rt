@@ -107,6 +107,8 @@ impl<'a> Case<'a> {
             Object::Files => put_numbers(&mut self.files_fails, numbers),
             Object::Sink => put_numbers(&mut self.sink_fails, numbers),
             Object::Keeper => put_numbers(&mut self.keeper_fails, numbers),
+            // No command has a door yet.
+            Object::Door => Ok(()),
         }
     }
 

@@ -19,6 +19,7 @@ mod said;
 mod section;
 mod series;
 mod setting;
+mod supplement_line;
 
 use crate::bench::Bench;
 use pb_outside::{OutError, Sink, Source, StreamSink, StreamSource, read_up_to};

@@ -1,5 +1,6 @@
 //! The notes of a run, a line each.
 
+use crate::supplement_line::put_supplement;
 use clausify::Question;
 use commands::Note;
 use desk_words::{put_book_fault, put_limit_fault, put_number, put_order_fault};
@@ -41,6 +42,7 @@ pub fn put_note(text: &mut Text, note: &Note) -> Result<(), Memory> {
             put_numbers(text, "bad row", &[u64::from(*table), u64::from(*place)])
         }
         Note::Cert(fault) => put_numbers(text, "certificate", &[fault.line]),
+        Note::Supplement(told) => put_supplement(text, told),
         Note::Count {
             which,
             before,
@@ -49,7 +51,8 @@ pub fn put_note(text: &mut Text, note: &Note) -> Result<(), Memory> {
     }
 }
 
-fn put_numbers(text: &mut Text, word: &str, numbers: &[u64]) -> Result<(), Memory> {
+/// Puts a word, numbers behind it, and the end of the line.
+pub fn put_numbers(text: &mut Text, word: &str, numbers: &[u64]) -> Result<(), Memory> {
     text.put(word.as_bytes())?;
     for number in numbers {
         put_number(text, *number)?;

@@ -11,5 +11,9 @@ loop-slice-preserved c =
     let k = c.loop-slice.slice-index in
     let none : Slice = record { first = 0; last = 0 } in
     let below : k < length slices = omega arith in
-    part_noted (SliceNotes (inquiry c.args.book.now c.args.budget)) slices k none c.loop-slice.notes.items c.append.new.self.items c.in_ok-own.own.items below c.loop-slice.invariant
-    c.in_ok-own.ensures c.in_ok-append.ensures.items
+    record {
+      parts =
+          part_noted (SliceNotes (inquiry c.args.book.now c.args.budget)) slices k none c.loop-slice.notes.items c.append.new.self.items c.in_ok-own.own.items below
+          c.loop-slice.invariant.parts c.in_ok-own.ensures.notes c.in_ok-append.ensures.items;
+      counted = c.in_ok-own.ensures.counted;
+    }

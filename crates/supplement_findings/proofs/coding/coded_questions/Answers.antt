@@ -1,6 +1,6 @@
-use Rattle.std.proofs.Common.{◌≡◌, length, ◌∙◌, sym, ap, ◌+◌, ◌<◌, arith}
+use Rattle.std.proofs.Common.{◌≡◌, length, ◌∙◌, ap, ◌+◌, ◌<◌, arith}
 use Rattle.clausify.proofs.CodedLaws.{begun}
-use Rattle.supplement_findings.proofs.CodingLaws.{AreMade, own_begin, goals_begin, clauses_made, length-all_lits}
+use Rattle.supplement_findings.proofs.CodingLaws.{own_begin, goals_begin, clauses_made, length-all_lits}
 use Rattle.supplement_findings.proofs.SizeLaws.{constructs_room, own_room}
 use Rattle.supplement_findings.proofs.coding.coded_questions.Goals as goal
 

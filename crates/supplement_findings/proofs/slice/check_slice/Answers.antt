@@ -14,11 +14,11 @@ check_questions-requires-clause-posed c =
     let day = c.args.task.slice.first in
     subst (All (IsPosed b day)) (sym (c.deref.ensures.value ∙ c.in_ok-questions.ensures)) (All-from_recursion (IsPosed b day) (questions b day) (questions_posed b day))
 
-pub returns : goal.returns
-returns c =
+pub returns-clause-notes : goal.returns-clause-notes
+returns-clause-notes c =
     let b = c.args.book.now in
     let budget = c.args.task.budget in
     let s = c.args.task.slice in
     slice_notes b budget s c.in_ok-own.own.items c.in_ok-notes.notes.items c.codes.ensures.book c.requires.task.order c.requires.task.steady
-    (subst (λ (qs : List SupplementQuestion). InParts (OwnNotes (inquiry b budget) s) qs c.in_ok-own.own.items) (c.deref.ensures.value ∙ c.in_ok-questions.ensures) c.in_ok-own.ensures)
+    (subst (λ (qs : List SupplementQuestion). InParts (OwnNotes (inquiry b budget) s) qs c.in_ok-own.own.items) (c.deref.ensures.value ∙ c.in_ok-questions.ensures) c.in_ok-own.ensures.notes)
     c.in_ok-notes.ensures
