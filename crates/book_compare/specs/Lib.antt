@@ -1,0 +1,11 @@
+pub mod Common
+pub mod Numbering
+pub mod JointItems
+pub mod Keys
+pub mod Asked
+pub mod Asking
+pub mod Picked
+pub mod Comparison
+pub mod Searched
+pub mod CompareText
+pub mod Same

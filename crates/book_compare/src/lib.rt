@@ -1,0 +1,17 @@
+//! What another book changes: the positions at which some car that both books allow gets other parts.
+#![tactic(auto)]
+
+mod answer;
+mod joint;
+mod keys;
+mod note;
+mod numbering;
+mod position;
+mod positions;
+mod renaming;
+mod same;
+mod text;
+
+pub use note::{CompareNote, Outside};
+pub use positions::compare;
+pub use text::{any_finding, any_undecided, compare_text, findings_in};

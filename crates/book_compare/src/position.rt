@@ -1,0 +1,186 @@
+//! The clauses of one position, behind those of the two books.
+ghost use Rattle.std.specs.Prelude.{◌≡◌, ◌+◌, ◌++◌, ◌<◌, [], ◌∷◌, All, IfOk, OnOk, length, map, true, false};
+ghost use Rattle.clause_pool.specs.Literal.{literal};
+ghost use Rattle.clause_pool.specs.Clause.{clause_of};
+ghost use Rattle.clausify.specs.Formulas.{either_clauses};
+ghost use Rattle.book_compare.specs.Asked.{key_literals};
+ghost use Rattle.book_compare.specs.Keys.{any_clauses, any_literal, either_all, either_literal, joins};
+ghost use Rattle.book_compare.specs.Asking.{Takes, TakesKey, TakesKeys, key_of};
+
+use crate::joint::Joint as Both;
+use crate::keys::literals_with;
+use book_model::Book;
+use chosen_parts::PartUse;
+use clause_pool::{Lit, Pool};
+use clausify::{Joint, Usage, tie};
+use pb_base::Memory;
+use std::alloc::Global;
+
+/// The clauses in the making, the variable that is taken next, and the literals of which one has to be true.
+#[derive(Drop)]
+pub(crate) struct Asking {
+    pub(crate) pool: Pool,
+    pub(crate) next: u32,
+    pub(crate) ways: Vec<Lit>,
+}
+
+/// The clauses of a position, how many variables they have, and the literal that is assumed.
+#[derive(Drop)]
+pub(crate) struct Asked {
+    pub(crate) pool: Pool,
+    pub(crate) vars: u32,
+    pub(crate) goal: Lit,
+}
+
+impl Asking {
+    // Takes the next variable. Variables that don't fit into 32 bits are want of memory.
+    fn take(&mut self) -> Result<u32, Memory>
+        ensures taken { IfOk result (λ v. v ≡ self.old.next) }
+        ensures next { OnOk result (self.new.next ≡ self.old.next + 1) }
+        ensures pool { self.new.pool ≡ self.old.pool }
+        ensures ways { self.new.ways ≡ self.old.ways }
+    {
+        let taken = self.next;
+        match taken.checked_add(1) {
+            Some(next) => {
+                self.next = next;
+                Ok(taken)
+            }
+            None => Err(Memory),
+        }
+    }
+
+    // A variable that is true where one of the literals is.
+    fn either(&mut self, left: Lit, right: Lit) -> Result<Lit, Memory>
+        ensures made { OnOk result (Takes self.old self.new (either_clauses self.old.next left right) 1) }
+        ensures literal { IfOk result (λ l. l ≡ literal self.old.next true) }
+    {
+        let var = self.take()?;
+        tie(&mut self.pool, Joint::Any, var, left, right)?;
+        Ok(Lit::new(var, true))
+    }
+
+    // A literal that is true where one of these is. Variable `truth` is always true.
+    fn either_all(&mut self, truth: u32, lits: &[Lit]) -> Result<Lit, Memory>
+        ensures made { OnOk result (Takes self.old self.new (either_all self.old.next lits.now) (joins lits.now)) }
+        ensures literal { IfOk result (λ l. l ≡ either_literal truth self.old.next lits.now) }
+    {
+        let Some(first) = lits.first() else {
+            return Ok(Lit::new(truth, false));
+        };
+        self.any(*first, &lits[1..])
+    }
+
+    // The same of the first one and further ones.
+    fn any(&mut self, first: Lit, rest: &[Lit]) -> Result<Lit, Memory>
+        ensures made { OnOk result (Takes self.old self.new (any_clauses self.old.next first rest.now) (length rest.now)) }
+        ensures literal { IfOk result (λ l. l ≡ any_literal self.old.next first rest.now) }
+    {
+        let mut named = first;
+        for lit in rest {
+            named = self.either(named, *lit)?;
+        }
+        Ok(named)
+    }
+
+    // A variable that is true only where both literals are.
+    fn way(&mut self, left: Lit, right: Lit) -> Result<(), Memory>
+        ensures clauses { OnOk result (self.new.pool.clauses ≡ self.old.pool.clauses
+            ++ clause_of (literal self.old.next false ∷ left ∷ []) ∷ clause_of (literal self.old.next false ∷ right ∷ []) ∷ []) }
+        ensures next { OnOk result (self.new.next ≡ self.old.next + 1) }
+        ensures ways { OnOk result (self.new.ways.items ≡ self.old.ways.items ++ literal self.old.next true ∷ []) }
+    {
+        let var = self.take()?;
+        let absent = Lit::new(var, false);
+        self.pool.add(&[absent, left])?;
+        self.pool.add(&[absent, right])?;
+        self.ways.push(Lit::new(var, true))?;
+        Ok(())
+    }
+
+    // The two ways in which the books may differ by a key, whose usages have these literals.
+    fn key(&mut self, truth: u32, first: &[Lit], second: &[Lit]) -> Result<(), Memory>
+        ensures { OnOk result (TakesKey truth self.old self.new (key_of first.now second.now)) }
+    {
+        let one = self.either_all(truth, first)?;
+        let other = self.either_all(truth, second)?;
+        self.way(one, other.not())?;
+        self.way(one.not(), other)
+    }
+
+    /// All keys of a position.
+    pub(crate) fn keys(
+        &mut self,
+        alloc: Global,
+        first: &Book,
+        first_usages: &[Usage],
+        second: &Book,
+        second_usages: &[Usage],
+        keys: &[PartUse],
+    ) -> Result<(), Memory>
+        requires first { All (λ u. u.variant < length first.now.variants) first_usages.now }
+        requires second { All (λ u. u.variant < length second.now.variants) second_usages.now }
+        ensures { let literals = map (key_literals first.now first_usages.now second.now second_usages.now) keys.now in
+            OnOk result (TakesKeys (length first.now.codes) self.old self.new literals) }
+    {
+        let truth = first.codes().len();
+        for key in keys {
+            let one = literals_with(alloc, first, first_usages, key)?;
+            let other = literals_with(alloc, second, second_usages, key)?;
+            self.key(truth, &one, &other)?;
+        }
+        Ok(())
+    }
+
+    /// The last clause: one of the ways is true where the last variable is.
+    pub(crate) fn asked(self, alloc: Global) -> Result<Asked, Memory>
+        ensures clauses { IfOk result (λ a. a.pool.clauses ≡ self.pool.clauses
+            ++ clause_of (literal self.next false ∷ self.ways.items) ∷ []) }
+        ensures vars { IfOk result (λ a. a.vars ≡ self.next + 1) }
+        ensures goal { IfOk result (λ a. a.goal ≡ literal self.next true) }
+    {
+        let mut asking = self;
+        let var = asking.take()?;
+        let mut last = Vec::with_capacity(alloc, 1)?;
+        last.push(Lit::new(var, false))?;
+        last.extend_from_slice(&asking.ways)?;
+        asking.pool.add(&last)?;
+        let Asking {
+            pool,
+            next,
+            ways: _ways,
+        } = asking;
+        Ok(Asked {
+            pool,
+            vars: next,
+            goal: Lit::new(var, true),
+        })
+    }
+}
+
+impl Asking {
+    /// The clauses of both books, with none of a position.
+    pub(crate) fn behind(alloc: Global, joint: &Both) -> Result<Asking, Memory>
+        ensures clauses { IfOk result (λ a. a.pool.clauses ≡ joint.now.pool.clauses) }
+        ensures next { IfOk result (λ a. a.next ≡ joint.now.vars) }
+        ensures ways { IfOk result (λ a. a.ways.items ≡ []) }
+    {
+        let pool = copy(alloc, &joint.pool)?;
+        Ok(Asking {
+            pool,
+            next: joint.vars,
+            ways: Vec::new(alloc),
+        })
+    }
+}
+
+// A further pool of the same clauses.
+fn copy(alloc: Global, pool: &Pool) -> Result<Pool, Memory>
+    ensures { IfOk result (λ p. p.clauses ≡ pool.now.clauses) }
+{
+    let mut further = Pool::new(alloc);
+    for at in 0..pool.len() {
+        further.add(pool.lits(at))?;
+    }
+    Ok(further)
+}
