@@ -105,7 +105,7 @@ case_text() {
 }
 
 # The cases have copies of the books of examples/.
-for copy in T:engine VAN:van COMPACT:compact COMPACTG:compact-groups YEAR:year TARN:tarn; do
+for copy in T:engine VAN:van COMPACT:compact COMPACTG:compact-groups YEAR:year TARN:tarn ESTATE:estate; do
     if ! case_text "${copy%%:*}" | cmp -s - "$top/examples/${copy##*:}.csv"; then
         failed=1
         echo "differs: the text ${copy%%:*} of crates/worked_runs/stdin, from examples/${copy##*:}.csv"

@@ -20,6 +20,9 @@ WOULD = {
     "a_start_one_clause_off": "the layout of a slice would begin a record at the clause of another one",
     "equal_parts_with_another_quantity": "a car that gets two of a part would count as one that gets one of it",
     "positions_of_the_second_book_left_out": "a part at a place that only the other book knows would be overlooked",
+    "codes_of_one_book_left_free": "a car would be shown that one of the two books can't order",
+    "another_part_is_the_same_position": "a position whose parts changed under the same formulas would count as the same, with no search",
+    "answers_in_another_order_by_two_workers": "what a kept order comes to would be told of another one where two workers judge",
     "judged_by_the_kept_book": "a kept order would be judged again by the book that it was accepted by, and so come out the same always",
     "a_start_from_another_store": "a desk would take up the rows of another store than the one that the words name",
     "passes_that_are_split_with_a_step_too_many": "workers would be promised more steps than the run has",
@@ -54,7 +57,6 @@ WOULD = {
     "spent_one_clause_early": "a question would be left undecided one clause before the budget is used up",
     "a_void_slice_is_released": "a book would be released though on some days no car can be ordered",
     "the_first_slice_alone_is_checked": "a book would be released though later days have faults",
-    "undecided_with_no_clauses": "a question would be called undecided without the clauses that show how far the search went",
     "a_write_dropped_from_the_history": "what a thread did at the machine would be missing from the history",
     "an_answer_invented": "a thread would be told an answer that the machine never gave",
     "the_opening_state_always_shown": "a thread would see the machine as it was at first, and not what others did since",
@@ -67,6 +69,8 @@ WOULD = {
     "a_store_fault_made_up": "a want of memory would be told as a fault of the store, which had none",
     "undecided_is_done": "a check that left questions open would end with the status of a book that can be released",
     "a_read_fault_of_a_desk_told_as_done": "a desk whose connection broke would end as if all were answered",
+    "a_service_that_takes_no_link": "a service would end without having taken a connection, and tell what its store had at the start",
+    "every_service_told_as_a_door_fault": "a service that has served all its connections would end as if its port had failed",
     "every_desk_told_as_not_started": "a desk that served its callers would end as if it had not started",
 }
 
