@@ -13,16 +13,16 @@ use std::path::Path;
 /// A file by its path. It is opened in each call, and made where there is none. Each refusal that is not want of memory
 /// is counted as a fault. It tells no content.
 #[derive(Drop)]
-pub struct FileDisk<'a> {
+pub struct FileDisk {
     rt: HostRuntime,
-    path: &'a str,
+    path: String,
     faults: FaultCount,
 }
 
-impl<'a> FileDisk<'a> {
+impl FileDisk {
     /// No fault so far.
-    pub fn new(rt: HostRuntime, path: &'a str) -> FileDisk<'a>
-        ensures { (⟦<FileDisk<'a> as Disk>⟧.failures result) ≡ 0 }
+    pub fn new(rt: HostRuntime, path: String) -> FileDisk
+        ensures { (⟦<FileDisk as Disk>⟧.failures result) ≡ 0 }
     {
         FileDisk {
             rt,
@@ -85,7 +85,7 @@ fn counted(faults: &mut FaultCount, done: io::Result<()>) -> Result<(), OutError
     }
 }
 
-impl Disk for FileDisk<'_> {
+impl Disk for FileDisk {
     ghost content = { λ _. None };
 
     ghost may_leave = { λ _ _. ⊥ };
@@ -101,7 +101,7 @@ impl Disk for FileDisk<'_> {
     ghost only_now = { λ _ _ never. never };
 
     fn read(&mut self, alloc: Global) -> Result<Vec<u8>, OutError> {
-        match read(alloc, &self.rt, self.path) {
+        match read(alloc, &self.rt, &self.path) {
             Ok(bytes) => Ok(bytes),
             Err(error) if error.kind() == ErrorKind::OutOfMemory => Err(OutError::Memory),
             Err(_) => self.faults.fail(),
@@ -109,15 +109,15 @@ impl Disk for FileDisk<'_> {
     }
 
     fn write_at(&mut self, at: u64, bytes: &[u8]) -> Result<(), OutError> {
-        counted(&mut self.faults, write_at(&self.rt, self.path, at, bytes))
+        counted(&mut self.faults, write_at(&self.rt, &self.path, at, bytes))
     }
 
     fn cut(&mut self, len: u64) -> Result<(), OutError> {
-        counted(&mut self.faults, cut(&self.rt, self.path, len))
+        counted(&mut self.faults, cut(&self.rt, &self.path, len))
     }
 
     fn sync(&mut self) -> Result<(), OutError> {
-        counted(&mut self.faults, sync(&self.rt, self.path))
+        counted(&mut self.faults, sync(&self.rt, &self.path))
     }
 
     fn faults(&self) -> u64 {

@@ -28,12 +28,14 @@ fn loaded<D: Disk>(alloc: Global, keeper: &mut JournalKeeper<D>) -> Result<Text,
 }
 
 fn put_in_file(rt: HostRuntime) -> Result<(), Fail> {
-    let mut keeper = JournalKeeper::new(rt.alloc(), FileDisk::new(rt, JOURNAL));
+    let path = String::from_str(rt.alloc(), JOURNAL)?;
+    let mut keeper = JournalKeeper::new(rt.alloc(), FileDisk::new(rt, path));
     put_withdrawn(&mut keeper)
 }
 
 fn loaded_from_file(rt: HostRuntime) -> Result<Text, Fail> {
-    let mut keeper = JournalKeeper::new(rt.alloc(), FileDisk::new(rt, JOURNAL));
+    let path = String::from_str(rt.alloc(), JOURNAL)?;
+    let mut keeper = JournalKeeper::new(rt.alloc(), FileDisk::new(rt, path));
     loaded(rt.alloc(), &mut keeper)
 }
 

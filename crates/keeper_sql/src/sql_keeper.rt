@@ -16,21 +16,25 @@ use std::io::ErrorKind;
 #[derive(Drop)]
 pub struct SqlKeeper<S: Alter + Drop> {
     rt: HostRuntime,
-    // The open store, and the name of its log.
-    store: Option<(Connection<S>, String)>,
+    // Some 3 KB for a file. Whoever hands the keeper on moves the box alone.
+    store: Option<Box<OpenStore<S>>>,
     faults: FaultCount,
 }
 
-/// A keeper over a file, which sqlite3 can read while no keeper holds it.
-pub type FileKeeper = SqlKeeper<FileStore<File>>;
+// An open store, and the name of its log.
+#[derive(Drop)]
+struct OpenStore<S: Alter + Drop> {
+    connection: Connection<S>,
+    log: String,
+}
 
 // What a call before `begin` comes to, too.
 const CANNOT_OPEN: Error = Error::SqliteFailure(ErrorCode::CannotOpen);
 
-impl SqlKeeper<FileStore<File>> {
+impl<S: Opens> SqlKeeper<S> {
     /// A keeper that has no store yet, and no fault so far.
-    pub fn new(rt: HostRuntime) -> FileKeeper
-        ensures { (⟦<FileKeeper as Keeper>⟧.failures result).count ≡ 0 }
+    pub fn new(rt: HostRuntime) -> SqlKeeper<S>
+        ensures { (⟦<SqlKeeper<S> as Keeper>⟧.failures result).count ≡ 0 }
     {
         SqlKeeper {
             rt,
@@ -38,7 +42,9 @@ impl SqlKeeper<FileStore<File>> {
             faults: FaultCount::new(),
         }
     }
+}
 
+impl SqlKeeper<FileStore<File>> {
     /// Ends the store: its log is copied into its file, and taken away. False says that this failed: the rows are then in
     /// the file and the log beside it, and the next keeper over both has them.
     pub fn close(self) -> bool {
@@ -47,9 +53,10 @@ impl SqlKeeper<FileStore<File>> {
             store,
             faults: _,
         } = self;
-        let Some((connection, log)) = store else {
+        let Some(store) = store else {
             return true;
         };
+        let OpenStore { connection, log } = Box::into_inner(store);
         match connection.close_files() {
             Ok(files) => {
                 // As long as the files are held, no other program has begun a log of its own.
@@ -63,11 +70,11 @@ impl SqlKeeper<FileStore<File>> {
 }
 
 // Opens the store, or makes it where there is none.
-fn opened<S: Opens>(rt: &HostRuntime, name: &str) -> Result<(Connection<S>, String), Error> {
+fn opened<S: Opens>(rt: &HostRuntime, name: &str) -> Result<Box<OpenStore<S>>, Error> {
     let mut connection = S::open(rt, name)?;
     begin(&mut connection)?;
     let log = log_of(rt, name)?;
-    Ok((connection, log))
+    Ok(Box::new(rt.alloc(), OpenStore { connection, log })?)
 }
 
 // The name of the log, which lies beside the file that a link leads to.
@@ -111,7 +118,7 @@ impl<S: Opens> Keeper for SqlKeeper<S> {
 
     fn load(&mut self) -> Result<Rows, OutError> {
         let rows = match &mut self.store {
-            Some((connection, _)) => load(self.rt.alloc(), connection),
+            Some(store) => load(self.rt.alloc(), &mut store.connection),
             None => Err(CANNOT_OPEN),
         };
         counted(&mut self.faults, by_kind(rows))
@@ -119,7 +126,7 @@ impl<S: Opens> Keeper for SqlKeeper<S> {
 
     fn put_draft(&mut self, row: &DraftRow) -> Result<(), OutError> {
         let done = match &mut self.store {
-            Some((connection, _)) => put_draft(connection, row),
+            Some(store) => put_draft(&mut store.connection, row),
             None => Err(CANNOT_OPEN),
         };
         counted(&mut self.faults, by_kind(done))
@@ -127,7 +134,7 @@ impl<S: Opens> Keeper for SqlKeeper<S> {
 
     fn put_book(&mut self, row: &BookRow) -> Result<(), OutError> {
         let done = match &mut self.store {
-            Some((connection, _)) => put_book(connection, row),
+            Some(store) => put_book(&mut store.connection, row),
             None => Err(CANNOT_OPEN),
         };
         counted(&mut self.faults, by_kind(done))
@@ -135,7 +142,7 @@ impl<S: Opens> Keeper for SqlKeeper<S> {
 
     fn put_order(&mut self, row: &OrderRow) -> Result<(), OutError> {
         let done = match &mut self.store {
-            Some((connection, _)) => put_order(connection, row),
+            Some(store) => put_order(&mut store.connection, row),
             None => Err(CANNOT_OPEN),
         };
         counted(&mut self.faults, by_kind(done))
@@ -143,7 +150,7 @@ impl<S: Opens> Keeper for SqlKeeper<S> {
 
     fn put_withdrawn(&mut self, number: u64) -> Result<(), OutError> {
         let done = match &mut self.store {
-            Some((connection, _)) => put_withdrawn(connection, number),
+            Some(store) => put_withdrawn(&mut store.connection, number),
             None => Err(CANNOT_OPEN),
         };
         counted(&mut self.faults, by_kind(done))
@@ -151,7 +158,7 @@ impl<S: Opens> Keeper for SqlKeeper<S> {
 
     fn migrate(&mut self) -> Result<(), OutError> {
         let done = match &mut self.store {
-            Some((connection, _)) => migrate(connection),
+            Some(store) => migrate(&mut store.connection),
             None => Err(CANNOT_OPEN),
         };
         counted(&mut self.faults, by_kind(done))

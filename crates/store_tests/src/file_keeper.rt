@@ -112,14 +112,9 @@ trait Held: Keeper {
     fn close_store(self) -> bool;
 }
 
-// What may go to another thread.
-fn moved<T: Send>(value: T) -> T {
-    value
-}
-
 impl Held for FileKeeper {
     fn fresh(rt: HostRuntime) -> FileKeeper {
-        moved(FileKeeper::new(rt))
+        FileKeeper::new(rt)
     }
 
     fn begin_store(&mut self, name: &str) -> Result<(), OutError> {
