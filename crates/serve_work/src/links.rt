@@ -5,10 +5,12 @@ ghost use Rattle.serve_work.specs.Work.{KeepsEnd, Works, WorksOn};
 
 use crate::end::WorkEnd;
 use answering::Turns;
+use http_api::Routes;
+use pb_base::Memory;
 use pb_door::DoorPort;
 use pb_gate::Gate;
 use pb_outside::OutError;
-use session::{SessionEnd, session};
+use session::{SessionEnd, session_by};
 use std::alloc::Global;
 
 /// Serves the links of a port one after the other, and hands each back, until the port gives no more or fails. Where a
@@ -29,9 +31,32 @@ pub fn work<Q: DoorPort, T: Turns, G: Gate>(
     ensures faultless { Q.faultless port.old ≡ true → Q.faultless port.new ≡ true }
     ensures unfailing { Q.faultless port.old ≡ true → result ≢ WorkEnd.Fault }
 {
+    match Routes::new(alloc) {
+        Ok(routes) => serve_links(alloc, &routes, port, turns, gate, faults),
+        Err(Memory) => WorkEnd::Memory,
+    }
+}
+
+// The same, where the paths are known.
+fn serve_links<Q: DoorPort, T: Turns, G: Gate>(
+    alloc: Global,
+    routes: &Routes,
+    port: &mut Q,
+    turns: &mut T,
+    gate: &G,
+    faults: &mut Vec<SessionEnd>,
+) -> WorkEnd
+    requires { (Q.told port.old).out ≡ false }
+    ensures works { let before = T.hand turns.old in
+        let port' = Q.told port.new in
+        Works result before (Q.told port.old) port' faults.old.items faults.new.items (T.hand turns.new) }
+    ensures steps { IsLaterHand (T.hand turns.old) (T.hand turns.new) }
+    ensures faultless { Q.faultless port.old ≡ true → Q.faultless port.new ≡ true }
+    ensures unfailing { Q.faultless port.old ≡ true → result ≢ WorkEnd.Fault }
+{
     // No port has so many links.
     for _ in 0..u64::MAX {
-        if let Err(end) = serve_next(alloc, port, turns, gate, faults) {
+        if let Err(end) = serve_next(alloc, routes, port, turns, gate, faults) {
             return end;
         }
     }
@@ -41,6 +66,7 @@ pub fn work<Q: DoorPort, T: Turns, G: Gate>(
 // Serves the next link and hands it back, or says why there is none.
 fn serve_next<Q: DoorPort, T: Turns, G: Gate>(
     alloc: Global,
+    routes: &Routes,
     port: &mut Q,
     turns: &mut T,
     gate: &G,
@@ -62,7 +88,7 @@ fn serve_next<Q: DoorPort, T: Turns, G: Gate>(
 {
     match port.next() {
         Ok(Some(mut link)) => {
-            let end = session(alloc, &mut link, turns, gate);
+            let end = session_by(alloc, routes, &mut link, turns, gate);
             port.done(link);
             keep(faults, end);
             Ok(())

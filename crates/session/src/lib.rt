@@ -9,4 +9,4 @@ mod serving;
 mod write;
 
 pub use end::{SessionEnd, WriteFault};
-pub use serving::session;
+pub use serving::{session, session_by};

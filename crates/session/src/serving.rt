@@ -38,6 +38,24 @@ pub fn session<L: Link, T: Turns, G: Gate>(
     begin(alloc, link, turns, gate)
 }
 
+/// Does what `session` does, by paths that were read before: who serves many links reads them once.
+pub fn session_by<L: Link, T: Turns, G: Gate>(
+    alloc: Global,
+    routes: &Routes,
+    link: &mut L,
+    turns: &mut T,
+    gate: &G,
+) -> SessionEnd
+    ensures dealt { let before = told (L.input link.old) (L.output link.old) in
+        let after = told (L.input link.new) (L.output link.new) in
+        HasDealt result (T.hand turns.old) before after (T.hand turns.new) }
+    ensures steps { IsLaterHand (T.hand turns.old) (T.hand turns.new) }
+    ensures same_names { L.names link.new ≡ L.names link.old }
+{
+    let _left = turns.left();
+    serve(alloc, routes, link, turns, gate)
+}
+
 // The same, where the holder has seen valid tables.
 fn begin<L: Link, T: Turns, G: Gate>(
     alloc: Global,
