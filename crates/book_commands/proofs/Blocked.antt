@@ -19,7 +19,7 @@ use Rattle.book_commands.specs.Checks.{IsReported, IsProvedBy, IsProved, Replies
 use Rattle.book_commands.specs.Replies.{RepliesTo, asks_check}
 use Rattle.book_commands.specs.RunReply.{RunReply, verdict_status, report_reply}
 use Rattle.book_commands.specs.declared.command.BookCommand.{BookCommand}
-use Rattle.book_commands.specs.declared.command.BookCommand.TheVariants.{Order, Check, Prove, Verify, Supplements}
+use Rattle.book_commands.specs.declared.command.BookCommand.TheVariants.{Order, Check, Prove, Verify, Supplements, Compare}
 use Rattle.book_commands.specs.declared.run_status.RunStatus.TheVariants.{Done, Refused, Faulty}
 use Rattle.book_commands.proofs.NeverBlocked.{never_blocked}
 
@@ -69,4 +69,5 @@ command-blocked (Order day ordered) input files files' reply asks h refused = le
 command-blocked (Check budget) input files files' reply asks h refused = check-blocked input (book_of input) budget reply refl h.is_answer refused
 command-blocked (Prove budget) input files files' reply asks h refused = proof-blocked input (book_of input) budget reply refl h.is_answer refused
 command-blocked (Supplements budget) input files files' reply asks h refused = let clash : false ≡ true = asks in cc
+command-blocked (Compare day file budget) input files files' reply asks h refused = let clash : false ≡ true = asks in cc
 command-blocked (Verify file) input files files' reply asks h refused = let clash : false ≡ true = asks in cc

@@ -21,7 +21,7 @@ use Rattle.book_commands.specs.Checks.{IsReported, IsProvedBy, IsProved, Replies
 use Rattle.book_commands.specs.Replies.{RepliesTo}
 use Rattle.book_commands.specs.RunReply.{RunReply, verdict_status, report_reply}
 use Rattle.book_commands.specs.declared.command.BookCommand.{BookCommand}
-use Rattle.book_commands.specs.declared.command.BookCommand.TheVariants.{Order, Check, Prove, Verify, Supplements}
+use Rattle.book_commands.specs.declared.command.BookCommand.TheVariants.{Order, Check, Prove, Verify, Supplements, Compare}
 use Rattle.book_commands.specs.declared.run_status.RunStatus.TheVariants.{Done, Refused, Undecided, Faulty}
 
 -- the status comes with the verdict
@@ -68,3 +68,4 @@ command-decided (Check budget) input files files' reply ample h left = check_dec
 command-decided (Prove budget) input files files' reply ample h left = proof_decided input (book_of input) budget reply refl ample h.is_answer left
 command-decided (Verify file) input files files' reply ample h left = ample
 command-decided (Supplements budget) input files files' reply ample h left = ample
+command-decided (Compare day file budget) input files files' reply ample h left = ample

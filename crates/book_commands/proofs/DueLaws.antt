@@ -9,7 +9,7 @@ use Rattle.book_commands.specs.Inputs.{Inputs, input_limit, ReadsInput}
 use Rattle.book_commands.specs.Replies.{FailsAtFile, KeepsFiles}
 use Rattle.book_commands.specs.RunReply.{RunReply, memory_reply, read_fault_reply, due_of}
 use Rattle.book_commands.specs.declared.command.BookCommand.{BookCommand}
-use Rattle.book_commands.specs.declared.command.BookCommand.TheVariants.{Order, Check, Prove, Verify, Supplements}
+use Rattle.book_commands.specs.declared.command.BookCommand.TheVariants.{Order, Check, Prove, Verify, Supplements, Compare}
 use Rattle.book_commands.specs.declared.object.Object.TheVariants.{Files}
 
 -- files that nobody touched
@@ -19,6 +19,7 @@ KeepsFiles-same (Order day ordered) files = refl
 KeepsFiles-same (Check budget) files = refl
 KeepsFiles-same (Prove budget) files = refl
 KeepsFiles-same (Supplements budget) files = refl
+KeepsFiles-same (Compare day file budget) files = record { same = refl; later = record { never_falls = omega arith; kept = λ h. h } }
 KeepsFiles-same (Verify file) files = record { same = refl; later = record { never_falls = omega arith; kept = λ h. h } }
 
 -- what was read is a front of what was left
@@ -48,4 +49,5 @@ file_rose (Order day ordered) input files files' h = absurd h
 file_rose (Check budget) input files files' h = absurd h
 file_rose (Prove budget) input files files' h = absurd h
 file_rose (Supplements budget) input files files' h = absurd h
+file_rose (Compare day file budget) input files files' h = h.rose
 file_rose (Verify file) input files files' h = h.fault.rose

@@ -9,3 +9,4 @@ pub mod NeverBlocked
 pub mod SampleLaws
 pub mod ReportLaws
 pub mod Decided
+pub mod CompareLaws

@@ -24,7 +24,7 @@ use Rattle.book_commands.specs.Checks.{IsReported, IsProvedBy, IsProved, Replies
 use Rattle.book_commands.specs.Replies.{RepliesTo, RepliesToVerify, asks_release}
 use Rattle.book_commands.specs.RunReply.{RunReply, certified_reply, content_reply, verdict_status, report_reply}
 use Rattle.book_commands.specs.declared.command.BookCommand.{BookCommand}
-use Rattle.book_commands.specs.declared.command.BookCommand.TheVariants.{Order, Check, Prove, Verify, Supplements}
+use Rattle.book_commands.specs.declared.command.BookCommand.TheVariants.{Order, Check, Prove, Verify, Supplements, Compare}
 use Rattle.book_commands.specs.declared.run_status.RunStatus.TheVariants.{Done, Faulty}
 
 -- the status of done comes with a certificate of the book
@@ -87,4 +87,5 @@ command-releasable (Order day ordered) input files files' reply asks h done = le
 command-releasable (Check budget) input files files' reply asks h done = check-releasable (book_of input) budget reply h.is_answer done
 command-releasable (Prove budget) input files files' reply asks h done = proof-releasable input (book_of input) budget reply refl h.is_answer done
 command-releasable (Supplements budget) input files files' reply asks h done = let clash : false ≡ true = asks in cc
+command-releasable (Compare day file budget) input files files' reply asks h done = let clash : false ≡ true = asks in cc
 command-releasable (Verify file) input files files' reply asks h done = verified-releasable input file (book_of input) files files' reply refl h done

@@ -2,8 +2,14 @@
 use Rattle.std.proofs.Common.{◌≡◌, ◌∙◌, ℕ, ◌+◌, Bool, true, false, List, [], ◌∷◌, map, refl, sym, subst, ap, inl, inr}
 use Rattle.std.specs.Prelude.{◌⊎◌, ◌||◌, Option, None, Some, Result, Ok, Err, IsOk, IfOk, IsSomeAnd, if◌then◌else◌}
 use Rattle.std.specs.List.{list_any}
-use Rattle.pb_base.specs.declared.limits.TheConstants.{MOST_CERT_BYTES}
+use Rattle.pb_base.specs.declared.limits.TheConstants.{MOST_CERT_BYTES, MOST_TEXT_BYTES}
 use Rattle.pb_base.specs.Results.{unless}
+use Rattle.book_compare.specs.CompareText.{is_finding as is_difference, is_undecided as is_left_open}
+use Rattle.book_compare.specs.Comparison.{outside}
+use Rattle.book_compare.specs.declared.note.CompareNote.{CompareNote}
+use Rattle.book_compare.specs.declared.note.Outside.{Outside}
+use Rattle.book_compare.specs.declared.note.Outside.TheVariants.{First, Second}
+use Rattle.book_model.specs.Activity.{is_within}
 use Rattle.book_model.specs.Contents.{Contents}
 use Rattle.book_model.specs.declared.record.Slice.{Slice}
 use Rattle.book_model.specs.declared.slicing.LimitFault.{LimitFault}
@@ -36,10 +42,11 @@ use Rattle.book_commands.specs.Checks.{IsReported, IsProvedBy, IsProved, Replies
 use Rattle.book_commands.specs.Sample.{RepliesToSample}
 use Rattle.book_commands.specs.Size.{Size}
 use Rattle.book_commands.specs.Supplements.{IsSupplementReply, RepliesToSupplements}
-use Rattle.book_commands.specs.declared.log.Note.TheVariants.{Supplement}
+use Rattle.book_commands.specs.CompareReply.{IsReleased, IsComparisonReply, RepliesByDay, RepliesToSecond, RepliesToTexts, RepliesToCompare, IsBookOn, HasBookOn, IsValidCompare}
+use Rattle.book_commands.specs.declared.log.Note.TheVariants.{Supplement, Compare as CompareLogged}
 use Rattle.book_commands.specs.Replies.{IsCertificate, HasCertificate, IsValidCommand, RepliesTo, RepliesToVerify}
 use Rattle.book_commands.specs.declared.command.BookCommand.{BookCommand}
-use Rattle.book_commands.specs.declared.command.BookCommand.TheVariants.{Order, Check, Prove, Verify, Supplements}
+use Rattle.book_commands.specs.declared.command.BookCommand.TheVariants.{Order, Check, Prove, Verify, Supplements, Compare}
 use Rattle.book_commands.specs.declared.run_status.RunStatus.{RunStatus}
 use Rattle.book_commands.specs.declared.run_status.RunStatus.TheVariants as statuses
 
@@ -114,6 +121,24 @@ supplements-kind (Ok b) budget reply h =
     (λ r is. same-kind IsCheckStatus _ r is.answer (elim (supplement-cases (list_any is_finding is.report) (list_any is_undecided is.report)) [ inl done ↦ inl done | inr left ↦ inr (inl left.0) ])) h
 supplements-kind (Err fault) budget reply h = same-kind IsCheckStatus _ reply h (inr (inr refl))
 
+outside-kind : (o : Option Outside) (one other : Contents) (day budget : ℕ) (reply : RunReply) → RepliesByDay o one other day budget reply → IsCheckStatus reply.status
+outside-kind None one other day budget reply h =
+    same-kind IsCheckStatus _ reply h.answer (elim (supplement-cases (list_any is_difference h.notes) (list_any is_left_open h.notes)) [ inl done ↦ inl done | inr left ↦ inr (inl left.0) ])
+outside-kind (Some which) one other day budget reply h = same-kind IsCheckStatus _ reply h (inr (inr refl))
+
+second-kind : (one : Contents) (second : Option (List ℕ)) (day budget : ℕ) (reply : RunReply) → RepliesToSecond one second day budget reply → IsCheckStatus reply.status
+second-kind one None day budget reply h = same-kind IsCheckStatus _ reply h (inr (inr refl))
+second-kind one (Some text) day budget reply h = elim h [
+  | inl kept ↦ proof-kind (book_of text) budget reply kept.answer
+  | inr compares ↦ outside-kind (outside one compares.book day) one compares.book day budget reply compares.answer
+]
+
+texts-kind : (first : List ℕ) (second : Option (List ℕ)) (day budget : ℕ) (reply : RunReply) → RepliesToTexts first second day budget reply → IsCheckStatus reply.status
+texts-kind first second day budget reply h = elim h [
+  | inl kept ↦ proof-kind (book_of first) budget reply kept.answer
+  | inr from ↦ second-kind from.book second day budget reply from.answer
+]
+
 pub replies-kind : (command : BookCommand) (input : List ℕ) (files files' : FilesTold) (reply : RunReply)
     → RepliesTo command input files files' reply → IsReplyStatus command reply.status
 unfolding RepliesTo
@@ -121,6 +146,7 @@ replies-kind (Order day ordered) input files files' reply h = same-kind IsOrderS
 replies-kind (Check budget) input files files' reply h = check-kind (book_of input) budget reply h.is_answer
 replies-kind (Prove budget) input files files' reply h = proof-kind (book_of input) budget reply h.is_answer
 replies-kind (Supplements budget) input files files' reply h = supplements-kind (book_of input) budget reply h.is_answer
+replies-kind (Compare day file budget) input files files' reply h = texts-kind input h.content day budget reply h.answer
 replies-kind (Verify file) input files files' reply h = verify-kind (book_of input) file files files' reply h
 
 pub sample-kind : (size : Size) (reply : RunReply) → RepliesToSample size reply → IsSampleStatus reply.status
@@ -228,6 +254,60 @@ supplements-answered (Ok b) budget reply ok limits h =
     ])) h
 supplements-answered (Err fault) budget reply ok limits h = let clash : false ≡ true = ok in cc
 
+open-logged : (notes : List CompareNote) → list_any is_spent (map CompareLogged notes) ≡ list_any is_left_open notes
+open-logged [] = refl
+open-logged (note ∷ notes) = ap (λ (later : Bool). is_left_open note || later) (open-logged notes)
+
+comparison-answered : (one other : Contents) (day budget : ℕ) (reply : RunReply) → IsComparisonReply one other day budget reply → EndsChecked reply
+comparison-answered one other day budget reply is =
+    same-checked _ reply is.answer (elim (supplement-cases (list_any is_difference is.notes) (list_any is_left_open is.notes)) [
+      | inl done ↦ inl done
+      | inr left ↦ inr (record { ends = left.0; spent = open-logged is.notes ∙ left.1 })
+    ])
+
+-- a day of the term of the book that a text reads as
+on-day : (text : List ℕ) (b : Contents) (day : ℕ) → IsBookOn day text → IsReleased text b → is_within b.first b.last day ≡ true
+on-day text b day on is = subst (λ (book : Result Contents BookFault). IfOk book (λ c. is_within c.first c.last day ≡ true)) is.reads on.term
+
+within-both : (one other : Contents) (day : ℕ) → is_within one.first one.last day ≡ true → is_within other.first other.last day ≡ true → outside one other day ≡ None
+within-both one other day first second =
+    ap (λ (t : Bool). if t then (if is_within other.first other.last day then None else Some Second) else Some First) first
+    ∙ ap (λ (t : Bool). if t then None else Some Second) second
+
+second-answered : (one : Contents) (text : List ℕ) (day budget : ℕ) (reply : RunReply) → is_within one.first one.last day ≡ true → IsBookOn day text
+    → RepliesToSecond one (Some text) day budget reply → EndsChecked reply
+second-answered one text day budget reply first on h = elim h [
+  | inl kept ↦ proof-answered (book_of text) budget reply on.checkable.no_fault on.checkable.limits kept.answer
+  | inr compares ↦
+      comparison-answered one compares.book day budget reply
+      (subst (λ (o : Option Outside). RepliesByDay o one compares.book day budget reply) (within-both one compares.book day first (on-day text compares.book day on compares.released)) compares.answer)
+]
+
+-- the content of the file is a text of a book
+content-answered : (one : Contents) (content : Option (List ℕ)) (day budget : ℕ) (reply : RunReply) → is_within one.first one.last day ≡ true → IsSomeAnd content (IsBookOn day)
+    → RepliesToSecond one content day budget reply → EndsChecked reply
+content-answered one None day budget reply first on h = absurd on
+content-answered one (Some text) day budget reply first on h = second-answered one text day budget reply first on h
+
+found-text : (day : ℕ) (found content : Option (List ℕ)) → IsSomeAnd found (IsBookOn day) → IsSomeAnd found (λ text. content ≡ within_room MOST_TEXT_BYTES text) → IsSomeAnd content (IsBookOn day)
+found-text day None content on read = absurd on
+found-text day (Some text) content on read =
+    let whole : within_room MOST_TEXT_BYTES text ≡ Some text = ap (λ (fits : Bool). if fits then Some text else None) on.limit in
+    subst (λ (c : Option (List ℕ)). IsSomeAnd c (IsBookOn day)) (sym (read ∙ whole)) on
+
+file-text : (day : ℕ) (files : Option (List NamedBytes)) (file : List ℕ) (content : Option (List ℕ)) → HasBookOn day files file → ReadsFile file MOST_TEXT_BYTES files content → IsSomeAnd content (IsBookOn day)
+file-text day None file content on read = absurd on
+file-text day (Some all) file content on read = found-text day (content_of all file) content on read
+
+compare-answered : (input file : List ℕ) (day budget : ℕ) (files files' : FilesTold) (reply : RunReply) → IsValidCompare input files.files file day
+    → RepliesToCompare input day file budget files files' reply → EndsChecked reply
+compare-answered input file day budget files files' reply valid h = elim h.answer [
+  | inl kept ↦ proof-answered (book_of input) budget reply valid.first.checkable.no_fault valid.first.checkable.limits kept.answer
+  | inr from ↦
+      content-answered from.book h.content day budget reply (on-day input from.book day valid.first from.released)
+      (file-text day files.files file h.content valid.second h.read) from.answer
+]
+
 -- a valid command is answered
 pub valid-answered : (command : BookCommand) (input : List ℕ) (files files' : FilesTold) (reply : RunReply)
     → IsValidCommand command input files.files → RepliesTo command input files files' reply → EndsCommand command reply.status reply.notes
@@ -237,6 +317,7 @@ valid-answered (Order day ordered) input files files' reply v h =
 valid-answered (Check budget) input files files' reply v h = check-answered (book_of input) budget reply v.no_fault v.limits h.is_answer
 valid-answered (Prove budget) input files files' reply v h = proof-answered (book_of input) budget reply v.no_fault v.limits h.is_answer
 valid-answered (Supplements budget) input files files' reply v h = supplements-answered (book_of input) budget reply v.no_fault v.limits h.is_answer
+valid-answered (Compare day file budget) input files files' reply v h = compare-answered input file day budget files files' reply v h
 valid-answered (Verify file) input files files' reply v h =
     verify-status (book_of input) file files files' reply v.book v.certificate h
 

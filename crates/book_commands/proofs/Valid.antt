@@ -9,9 +9,10 @@ use Rattle.pb_outside.specs.Files.{NamedBytes, FilesTold, content_of}
 use Rattle.book_commands.specs.Ends.{EndsCommand}
 use Rattle.book_commands.specs.Inputs.{input_limit}
 use Rattle.book_commands.specs.Replies.{IsCertificate, HasCertificate, IsValidCommand, RepliesTo, FailsAtFile}
+use Rattle.book_commands.specs.CompareReply.{IsBookOn, HasBookOn}
 use Rattle.book_commands.specs.RunReply.{RunReply}
 use Rattle.book_commands.specs.declared.command.BookCommand.{BookCommand}
-use Rattle.book_commands.specs.declared.command.BookCommand.TheVariants.{Order, Check, Prove, Verify, Supplements}
+use Rattle.book_commands.specs.declared.command.BookCommand.TheVariants.{Order, Check, Prove, Verify, Supplements, Compare}
 use Rattle.book_commands.proofs.Statuses.{valid-answered}
 
 -- the input that was read is the one that was given
@@ -40,6 +41,15 @@ has_certificate : (book : Result Contents BookFault) (files : Option (List Named
 has_certificate (Ok b) files file ok has none = has_named files b file has none
 has_certificate (Err fault) files file ok has none = let clash : false ≡ true = ok in cc
 
+-- a file with a book is there
+has_text : (day : ℕ) (found : Option (List ℕ)) → IsSomeAnd found (IsBookOn day) → found ≡ None → ⊥
+has_text day None has none = has
+has_text day (Some text) has none = cc
+
+has_book : (day : ℕ) (files : Option (List NamedBytes)) (file : List ℕ) → HasBookOn day files file → IfSome files (λ all. content_of all file ≡ None) → ⊥
+has_book day None file has none = has
+has_book day (Some all) file has none = has_text day (content_of all file) has none
+
 -- files that say that no call on them fails give the file of a valid command
 pub no_file_fault : (command : BookCommand) (input read : List ℕ) (files files' : FilesTold) → input ≡ read
     → IsValidCommand command input files.files → files.faults.faultless ≡ true → FailsAtFile command read files files' → ⊥
@@ -48,4 +58,5 @@ no_file_fault (Order day ordered) input read files files' e valid sure h = absur
 no_file_fault (Check budget) input read files files' e valid sure h = absurd h
 no_file_fault (Prove budget) input read files files' e valid sure h = absurd h
 no_file_fault (Supplements budget) input read files files' e valid sure h = absurd h
+no_file_fault (Compare day file budget) input read files files' e valid sure h = has_book day files.files file valid.second (h.possible sure)
 no_file_fault (Verify file) input read files files' e valid sure h = has_certificate (book_of input) files.files file valid.book valid.certificate (h.fault.possible sure)

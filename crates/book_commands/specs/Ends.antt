@@ -6,7 +6,7 @@ use Rattle.std.specs.Prelude.{◌≡◌, ◌⊎◌, true, List}
 use Rattle.std.specs.List.{list_any}
 use Rattle.book_commands.specs.Logged.{is_spent}
 use Rattle.book_commands.specs.declared.command.BookCommand.{BookCommand}
-use Rattle.book_commands.specs.declared.command.BookCommand.TheVariants.{Order, Check, Prove, Verify, Supplements}
+use Rattle.book_commands.specs.declared.command.BookCommand.TheVariants.{Order, Check, Prove, Verify, Supplements, Compare}
 use Rattle.book_commands.specs.declared.log.Note.{Note}
 use Rattle.book_commands.specs.declared.run_status.RunStatus.{RunStatus}
 use Rattle.book_commands.specs.declared.run_status.RunStatus.TheVariants.{Done, Refused, Faulty, Undecided, BadCertificate}
@@ -30,6 +30,7 @@ IsReplyStatus (Check budget) status = IsCheckStatus status
 IsReplyStatus (Prove budget) status = IsCheckStatus status
 IsReplyStatus (Verify file) status = IsVerifyStatus status
 IsReplyStatus (Supplements budget) status = IsCheckStatus status
+IsReplyStatus (Compare day file budget) status = IsCheckStatus status
 
 abbrev pub IsSampleStatus : RunStatus → Type 0
 IsSampleStatus status = (status ≡ Done) ⊎ (status ≡ Undecided)
@@ -49,6 +50,7 @@ EndsCommand (Check budget) status notes = EndsCheck status notes
 EndsCommand (Prove budget) status notes = EndsCheck status notes
 EndsCommand (Verify file) status notes = status ≡ Done
 EndsCommand (Supplements budget) status notes = EndsCheck status notes
+EndsCommand (Compare day file budget) status notes = EndsCheck status notes
 
 abbrev pub EndsSample : RunStatus → List Note → Type 0
 EndsSample status notes = (status ≡ Done) ⊎ IsLeft status notes

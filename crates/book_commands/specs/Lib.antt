@@ -5,6 +5,7 @@ pub mod Logged
 pub mod RunReply
 pub mod Checks
 pub mod Supplements
+pub mod CompareReply
 pub mod Replies
 pub mod Inputs
 pub mod Due

@@ -9,10 +9,11 @@ use Rattle.derivation.specs.Certificate.{cert_answer}
 use Rattle.pb_outside.specs.Faults.{IsLater}
 use Rattle.pb_outside.specs.Files.{NamedBytes, FilesTold, content_of, ReadsFile, FailsToRead}
 use Rattle.book_commands.specs.Checks.{RepliesToCheck, RepliesToProof, IsCheckable}
+use Rattle.book_commands.specs.CompareReply.{RepliesToCompare, IsValidCompare}
 use Rattle.book_commands.specs.RunReply.{RunReply, book_fault_reply, order_reply, content_reply}
 use Rattle.book_commands.specs.Supplements.{RepliesToSupplements, IsAskable}
 use Rattle.book_commands.specs.declared.command.BookCommand.{BookCommand}
-use Rattle.book_commands.specs.declared.command.BookCommand.TheVariants.{Order, Check, Prove, Verify, Supplements}
+use Rattle.book_commands.specs.declared.command.BookCommand.TheVariants.{Order, Check, Prove, Verify, Supplements, Compare}
 
 -- the certificate is the content of its file, of which a longer one than the limit has none
 pub record RepliesToFile (b : Contents) (file : List ℕ) (files files' : FilesTold) (reply : RunReply) : Type 0 where
@@ -71,6 +72,7 @@ RepliesTo (Check budget) input files files' reply = RepliesAlone (RepliesToCheck
 RepliesTo (Prove budget) input files files' reply = RepliesAlone (RepliesToProof (book_of input) budget) files files' reply
 RepliesTo (Verify file) input files files' reply = RepliesToVerify (book_of input) file files files' reply
 RepliesTo (Supplements budget) input files files' reply = RepliesAlone (RepliesToSupplements (book_of input) budget) files files' reply
+RepliesTo (Compare day file budget) input files files' reply = RepliesToCompare input day file budget files files' reply
 
 -- the files failed, at a file that the command has to read
 unfoldable pub FailsAtFile : BookCommand → List ℕ → FilesTold → FilesTold → Type 0
@@ -79,6 +81,7 @@ FailsAtFile (Check budget) input files files' = ⊥
 FailsAtFile (Prove budget) input files files' = ⊥
 FailsAtFile (Verify file) input files files' = FailsAtCertificate file input files files'
 FailsAtFile (Supplements budget) input files files' = ⊥
+FailsAtFile (Compare day file budget) input files files' = FailsToRead file files files'
 
 -- what a command leaves as it is of the files, however it ends
 unfoldable pub KeepsFiles : BookCommand → FilesTold → FilesTold → Type 0
@@ -87,6 +90,7 @@ KeepsFiles (Check budget) files files' = files' ≡ files
 KeepsFiles (Prove budget) files files' = files' ≡ files
 KeepsFiles (Verify file) files files' = ReadsFiles files files'
 KeepsFiles (Supplements budget) files files' = files' ≡ files
+KeepsFiles (Compare day file budget) files files' = ReadsFiles files files'
 
 -- the input, and what else the command reads, has no fault
 unfoldable pub IsValidCommand : BookCommand → List ℕ → Option (List NamedBytes) → Type 0
@@ -95,6 +99,7 @@ IsValidCommand (Check budget) input files = IsCheckable (book_of input)
 IsValidCommand (Prove budget) input files = IsCheckable (book_of input)
 IsValidCommand (Verify file) input files = IsValidVerify input files file
 IsValidCommand (Supplements budget) input files = IsAskable (book_of input)
+IsValidCommand (Compare day file budget) input files = IsValidCompare input files file day
 
 -- the command asks whether the book can be released
 abbrev pub asks_release : BookCommand → Bool
@@ -103,6 +108,7 @@ asks_release (Check budget) = true
 asks_release (Prove budget) = true
 asks_release (Verify file) = true
 asks_release (Supplements budget) = false
+asks_release (Compare day file budget) = false
 
 -- the command asks what keeps the book from its release
 abbrev pub asks_check : BookCommand → Bool
@@ -111,3 +117,4 @@ asks_check (Check budget) = true
 asks_check (Prove budget) = true
 asks_check (Verify file) = false
 asks_check (Supplements budget) = false
+asks_check (Compare day file budget) = false

@@ -35,7 +35,7 @@ pub record RunReply : Type 0 where
   pub notes : List Note
 
 abbrev pub usage_text : List ℕ
-usage_text = codes "usage: order DAY CODE.. | check [--budget N] | prove [--budget N] | verify CERTFILE | desk STORE | sample START CODES ORDERS | supplements [--budget N]\n"
+usage_text = codes "usage: order DAY CODE.. | check [--budget N] | prove [--budget N] | verify CERTFILE | desk STORE | serve STORE PORT WORKERS LINKS | sample START CODES ORDERS | supplements [--budget N] | compare DAY FILE [--budget N] | rejudge STORE BOOK WORKERS\n"
 
 abbrev pub usage_reply : RunReply
 usage_reply = record { text = usage_text; status = statuses.Usage; notes = [] }

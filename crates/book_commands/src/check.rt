@@ -73,8 +73,8 @@ fn proved_reply(alloc: Global, book: &Book, budget: &Budget) -> Result<RunReply,
     }
 }
 
-// The report, with its findings and what was left as notes.
-fn report_reply(alloc: Global, book: &Book, report: Report) -> Result<RunReply, Memory>
+/// The report, with its findings and what was left as notes.
+pub(crate) fn report_reply(alloc: Global, book: &Book, report: Report) -> Result<RunReply, Memory>
     requires few { slices_told report ≤ MOST_SLICES }
     ensures { IfOk result (λ reply. reply ≡ report_reply book.now report) }
 {

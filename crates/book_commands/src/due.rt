@@ -9,6 +9,7 @@ ghost use Rattle.book_commands.specs.Due.{Due};
 use crate::certify::verify_reply;
 use crate::check::{check_reply, proof_reply};
 use crate::command::BookCommand;
+use crate::comparing::compare_reply;
 use crate::judge::order_reply;
 use crate::object::Object;
 use crate::run_reply::RunReply;
@@ -73,5 +74,8 @@ fn command_reply<F: Files>(
         BookCommand::Prove { budget } => Ok(proof_reply(alloc, input, budget)?),
         BookCommand::Verify { file } => verify_reply(alloc, input, file, files),
         BookCommand::Supplements { budget } => Ok(supplements_reply(alloc, input, budget)?),
+        BookCommand::Compare { day, file, budget } => {
+            compare_reply(alloc, input, *day, file, budget, files)
+        }
     }
 }

@@ -6,6 +6,7 @@ mod cert_text;
 mod certify;
 mod check;
 mod command;
+mod comparing;
 mod due;
 mod fault_text;
 mod judge;

@@ -2,6 +2,7 @@
 ghost use Rattle.std.specs.Prelude.{◌≡◌, ◌++◌, [], ◌∷◌, OnOk, OnErr};
 
 use crate::object::Object;
+use book_compare::CompareNote;
 use book_model::LimitFault;
 use book_text::BookFault;
 use clause_pool::Pool;
@@ -46,6 +47,8 @@ pub enum Note {
     Cert(CertFault),
     /// A note of a report on supplementing rules.
     Supplement(SupplementNote),
+    /// A note of a comparison of two books.
+    Compare(CompareNote),
     /// A row that is kept is not right: its table, 0 form, 1 drafts, 2 books, 3 orders, 4 withdrawn, and its place in it, from
     /// 1, or 0 for the form.
     BadRow {

@@ -46,7 +46,7 @@ pub fn tell_usage<K: Sink>(sink: &mut K, log: &mut RunLog) -> RunStatus
         IsWritten usage_reply before after result }
 {
     write(
-        b"usage: order DAY CODE.. | check [--budget N] | prove [--budget N] | verify CERTFILE | desk STORE | sample START CODES ORDERS | supplements [--budget N]\n",
+        b"usage: order DAY CODE.. | check [--budget N] | prove [--budget N] | verify CERTFILE | desk STORE | serve STORE PORT WORKERS LINKS | sample START CODES ORDERS | supplements [--budget N] | compare DAY FILE [--budget N] | rejudge STORE BOOK WORKERS\n",
         RunStatus::Usage,
         sink,
         log,

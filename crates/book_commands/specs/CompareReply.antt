@@ -1,0 +1,122 @@
+-- What the comparison of two books is answered.
+--     IsKeptBack text budget reply       the text's book is not released, and the reply is that of a proof, which gives no certificate
+--     comparison_reply notes             the notes on all positions, which stand in the log
+--     RepliesToTexts first second day budget reply
+--                                        the books of both texts are released, the first one first, and then compared
+use Rattle.std.specs.Prelude.{◌≡◌, ◌⊎◌, ℕ, ◌≤◌, Bool, true, List, [], ◌∷◌, ◌++◌, Option, None, Some, Result, Ok, IfOk, IsSomeAnd, IsTrue, codes, length, map, nat_le, if◌then◌else◌}
+use Rattle.std.specs.List.{list_any}
+use Rattle.pb_base.specs.declared.limits.TheConstants.{MOST_SLICES, MOST_TEXT_BYTES}
+use Rattle.book_compare.specs.CompareText.{is_finding, is_undecided, compare_text}
+use Rattle.book_compare.specs.Comparison.{IsComparison, outside}
+use Rattle.book_compare.specs.declared.note.CompareNote.{CompareNote}
+use Rattle.book_compare.specs.declared.note.Outside.{Outside}
+use Rattle.book_compare.specs.declared.note.Outside.TheVariants.{First, Second}
+use Rattle.book_model.specs.Activity.{is_within}
+use Rattle.book_model.specs.Contents.{Contents}
+use Rattle.book_model.specs.Sound.{IsReleasable}
+use Rattle.book_text.specs.BookText.{book_of}
+use Rattle.book_text.specs.declared.fault.BookFault.{BookFault}
+use Rattle.book_text.specs.declared.fault.BookKind.TheVariants.{TooLarge}
+use Rattle.desk_words.specs.Lines.{line}
+use Rattle.pb_outside.specs.Files.{NamedBytes, FilesTold, content_of, ReadsFile}
+use Rattle.release_check.specs.declared.not_released.NotReleased.{NotReleased}
+use Rattle.release_check.specs.declared.not_released.NotReleased.TheVariants.{Text, Found, Undecided, Limit}
+use Rattle.book_commands.specs.Checks.{RepliesToProof, IsCheckable}
+use Rattle.book_commands.specs.Logged.{slices_told}
+use Rattle.book_commands.specs.RunReply.{RunReply, book_fault_reply, limit_fault_reply, report_reply}
+use Rattle.book_commands.specs.declared.log.Note.TheVariants.{Compare}
+use Rattle.book_commands.specs.declared.run_status.RunStatus.{RunStatus}
+use Rattle.book_commands.specs.declared.run_status.RunStatus.TheVariants as statuses
+
+-- the text reads as a book that can be released
+pub record IsReleased (text : List ℕ) (b : Contents) : Type 0 where
+  pub reads : book_of text ≡ Ok b
+  pub releasable : IsReleasable b
+
+pub record IsKeptBack (text : List ℕ) (budget : ℕ) (reply : RunReply) : Type 0 where
+  pub answer : RepliesToProof (book_of text) budget reply
+  pub kept : reply.status ≡ statuses.Done → ⊥
+
+-- by why the book is not released: the fault of the text, the limit that it exceeds, or the report on it
+abbrev pub kept_back_reply : NotReleased → RunReply
+kept_back_reply (Text fault) = book_fault_reply fault
+kept_back_reply (Found b report) = report_reply b report
+kept_back_reply (Undecided b report) = report_reply b report
+kept_back_reply (Limit fault) = limit_fault_reply fault
+
+-- a report tells of no more slices than a book may have
+abbrev pub HasFewSlices : NotReleased → Type 0
+HasFewSlices (Text fault) = Unit {0}
+HasFewSlices (Found b report) = slices_told report ≤ MOST_SLICES
+HasFewSlices (Undecided b report) = slices_told report ≤ MOST_SLICES
+HasFewSlices (Limit fault) = Unit {0}
+
+-- a file that is longer than a book's text may be
+abbrev pub text_too_large : BookFault
+text_too_large = record { row = 0; kind = TooLarge }
+
+abbrev pub outside_text : Outside → List ℕ
+outside_text First = line (codes "day outside 1")
+outside_text Second = line (codes "day outside 2")
+
+-- the day is not in the term of this book
+abbrev pub outside_reply : Outside → RunReply
+outside_reply which = record { text = outside_text which; status = statuses.Faulty; notes = [] }
+
+abbrev pub comparison_status : List CompareNote → RunStatus
+comparison_status notes =
+    if list_any is_finding notes then statuses.Refused else (if list_any is_undecided notes then statuses.Undecided else statuses.Done)
+
+abbrev pub comparison_reply : List CompareNote → RunReply
+comparison_reply notes = record { text = compare_text notes; status = comparison_status notes; notes = map Compare notes }
+
+pub record IsComparisonReply (one other : Contents) (day budget : ℕ) (reply : RunReply) : Type 0 where
+  pub notes : List CompareNote
+  pub is_right : IsComparison one other day budget notes
+  pub answer : reply ≡ comparison_reply notes
+
+-- by the book in whose term the day is not, if there is one
+abbrev pub RepliesByDay : Option Outside → Contents → Contents → ℕ → ℕ → RunReply → Type 0
+RepliesByDay None one other day budget reply = IsComparisonReply one other day budget reply
+RepliesByDay (Some which) one other day budget reply = reply ≡ outside_reply which
+
+-- the second text's book can be released too
+pub record Compares (one : Contents) (text : List ℕ) (day budget : ℕ) (reply : RunReply) : Type 0 where
+  pub book : Contents
+  pub released : IsReleased text book
+  pub answer : RepliesByDay (outside one book day) one book day budget reply
+
+-- of a second text that is too long there is nothing
+abbrev pub RepliesToSecond : Contents → Option (List ℕ) → ℕ → ℕ → RunReply → Type 0
+RepliesToSecond one None day budget reply = reply ≡ book_fault_reply text_too_large
+RepliesToSecond one (Some text) day budget reply = IsKeptBack text budget reply ⊎ Compares one text day budget reply
+
+-- the first text's book can be released
+pub record ComparesFrom (first : List ℕ) (second : Option (List ℕ)) (day budget : ℕ) (reply : RunReply) : Type 0 where
+  pub book : Contents
+  pub released : IsReleased first book
+  pub answer : RepliesToSecond book second day budget reply
+
+abbrev pub RepliesToTexts : List ℕ → Option (List ℕ) → ℕ → ℕ → RunReply → Type 0
+RepliesToTexts first second day budget reply = IsKeptBack first budget reply ⊎ ComparesFrom first second day budget reply
+
+-- the second text is the content of the file
+pub record RepliesToCompare (first : List ℕ) (day : ℕ) (file : List ℕ) (budget : ℕ) (files files' : FilesTold) (reply : RunReply) : Type 0 where
+  pub content : Option (List ℕ)
+  pub read : ReadsFile file MOST_TEXT_BYTES files.files content
+  pub answer : RepliesToTexts first content day budget reply
+  pub count : files'.faults.count ≡ files.faults.count
+
+-- the text is that of a book that keeps the limits of a check, and has the day in its term
+pub record IsBookOn (day : ℕ) (text : List ℕ) : Type 0 where
+  pub limit : IsTrue (nat_le (length text) MOST_TEXT_BYTES)
+  pub checkable : IsCheckable (book_of text)
+  pub term : IfOk (book_of text) (λ b. is_within b.first b.last day ≡ true)
+
+abbrev pub HasBookOn : ℕ → Option (List NamedBytes) → List ℕ → Type 0
+HasBookOn day files file = IsSomeAnd files (λ all. IsSomeAnd (content_of all file) (IsBookOn day))
+
+-- so is the input, and the file is told, there and has such a text
+pub record IsValidCompare (input : List ℕ) (files : Option (List NamedBytes)) (file : List ℕ) (day : ℕ) : Type 0 where
+  pub first : IsBookOn day input
+  pub second : HasBookOn day files file
