@@ -1,5 +1,5 @@
 -- What was asked was done.
-use Rattle.std.proofs.Common.{refl, subst, inl, inr, arith}
+use Rattle.std.proofs.Common.{◌≡◌, refl, subst, inl, inr, arith}
 use Rattle.command_words.specs.Parts.{Words}
 use Rattle.pb_base.specs.declared.answer.Fail.TheVariants as fails
 use Rattle.desk_run.specs.declared.end.DeskEnd.TheVariants.{NotStarted}
@@ -9,11 +9,14 @@ use Rattle.book_commands.specs.RunReply.{memory_reply}
 use Rattle.book_commands.specs.Tells.{Outputs, IsWritten}
 use Rattle.book_commands.proofs.DueLaws.{KeepsFiles-same, LosesFront-none}
 use Rattle.book_commands.specs.declared.run_status.RunStatus.{RunStatus}
-use Rattle.commands.specs.Outside.{KeeperTold, Outside}
+use Rattle.commands.specs.Outside.{KeeperTold, DoorSaid, Outside}
+use Rattle.commands.specs.Rejudged.{unjudged}
+use Rattle.commands.specs.Service.{Service}
+use Rattle.commands.specs.Serves.{unstarted, RunsService}
 use Rattle.commands.specs.Does.{AnswersUsage, DoesTask, Does}
 use Rattle.commands.specs.Words.{Asks, AsksNothing}
 use Rattle.commands.specs.declared.task.Task.{Task}
-use Rattle.commands.specs.declared.task.Task.TheVariants.{Book, Desk, Sample}
+use Rattle.commands.specs.declared.task.Task.TheVariants.{Book, Desk, Serve, Rejudge, Sample}
 use Rattle.commands.proofs.Tasks.{one_task}
 
 pub Does-of_task : (words : Words) (task : Task) (before after : Outside) (status : RunStatus) → Asks words task
@@ -28,29 +31,55 @@ pub Does-of_usage : (words : Words) (before after : Outside) (status : RunStatus
 Does-of_usage words before after status none h = record { asked = λ task asks. absurd (none task asks); nothing = λ _. h }
 
 -- memory was wanting before anything was read
-wanting : (task : Task) (reads : Inputs) (kept : KeeperTold) (writes writes' : Outputs) (status : RunStatus) → IsWritten memory_reply writes writes' status
-    → DoesTask task (record { reads = reads; writes = writes; keeper = kept }) (record { reads = reads; writes = writes'; keeper = kept }) status
-wanting (Book command) reads kept writes writes' status h = record {
+wanting : (task : Task) (reads : Inputs) (kept : KeeperTold) (door : DoorSaid) (writes writes' : Outputs) (status : RunStatus) → IsWritten memory_reply writes writes' status
+    → DoesTask task (record { reads = reads; writes = writes; keeper = kept; door = door }) (record { reads = reads; writes = writes'; keeper = kept; door = door }) status
+wanting (Book command) reads kept door writes writes' status h = record {
   reply = memory_reply;
   due = no_memory (LosesFront-none reads.source.left) refl;
   told = inl h;
   source_later = record { never_falls = omega arith; kept = λ k. k };
   files_kept = KeepsFiles-same command reads.files;
   kept = refl;
+  door = refl;
 }
-wanting (Desk store) reads kept writes writes' status h = record {
+wanting (Desk store) reads kept door writes writes' status h = record {
   how = NotStarted fails.Memory;
   middle = writes.sink;
   run = record { cause = tt; left = inl refl; link = refl; later = record { never_falls = omega arith; kept = λ k. k } };
   told = h;
   files = refl;
+  door = refl;
 }
-wanting (Sample size) reads kept writes writes' status h =
-    record { tells = record { reply = memory_reply; due = inr refl; told = inl h }; nothing = record { untouched = refl; kept = refl } }
+wanting (Serve service) reads kept door writes writes' status h = record {
+  how = unstarted fails.Memory;
+  runs = record {
+    run = record { cause = tt; left = inl refl; link = refl; later = record { never_falls = omega arith; kept = λ k. k } };
+    told = h;
+    untouched = refl;
+    door = refl;
+  };
+}
+wanting (Rejudge r) reads kept door writes writes' status h = record {
+  how = unjudged fails.Memory;
+  runs = record {
+    run = record { cause = tt; left = inl refl; link = refl; later = record { never_falls = omega arith; kept = λ k. k } };
+    told = h;
+    untouched = refl;
+    door = refl;
+  };
+}
+wanting (Sample size) reads kept door writes writes' status h =
+    record { tells = record { reply = memory_reply; due = inr refl; told = inl h }; nothing = record { untouched = refl; kept = refl; door = refl } }
 
-pub Does-of_memory : (words : Words) (reads : Inputs) (kept : KeeperTold) (writes writes' : Outputs) (status : RunStatus) → IsWritten memory_reply writes writes' status
-    → Does words (record { reads = reads; writes = writes; keeper = kept }) (record { reads = reads; writes = writes'; keeper = kept }) status
-Does-of_memory words reads kept writes writes' status h = record {
-  asked = λ task _. wanting task reads kept writes writes' status h;
-  nothing = λ _. record { told = inr h; nothing = record { untouched = refl; kept = refl } };
+pub Does-of_memory : (words : Words) (reads : Inputs) (kept : KeeperTold) (door : DoorSaid) (writes writes' : Outputs) (status : RunStatus) → IsWritten memory_reply writes writes' status
+    → Does words (record { reads = reads; writes = writes; keeper = kept; door = door }) (record { reads = reads; writes = writes'; keeper = kept; door = door }) status
+Does-of_memory words reads kept door writes writes' status h = record {
+  asked = λ task _. wanting task reads kept door writes writes' status h;
+  nothing = λ _. record { told = inr h; nothing = record { untouched = refl; kept = refl; door = refl } };
 }
+
+-- a service that began where nothing was touched before
+pub Does-of_service : (words : Words) (service : Service) (middle before after : Outside) (status : RunStatus) → Asks words (Serve service)
+    → middle ≡ before → RunsService service middle after status → Does words before after status
+Does-of_service words service middle before after status asks same runs =
+    Does-of_task words (Serve service) before after status asks (subst (λ (o : Outside). RunsService service o after status) same runs)

@@ -6,13 +6,16 @@ use Rattle.command_words.specs.Parts.{Words}
 use Rattle.pb_base.specs.declared.answer.Fail.TheVariants.{Refused as RefusedStart, Memory as NoMemory}
 use Rattle.pb_outside.specs.Sink.{SinkTold}
 use Rattle.session.specs.declared.end.SessionEnd.TheVariants.{Done, Broken, ReadFault, WriteFault, Memory}
+use Rattle.pb_outside.specs.declared.error.OutError.TheVariants as out
+use Rattle.serve_work.specs.declared.end.WorkEnd.TheVariants.{Over, Fault, Memory as WantsMemory}
+use Rattle.serve_run.specs.declared.end.ServeEnd.TheVariants.{Closed, NoWorkers, Worked}
 use Rattle.desk_run.specs.declared.end.DeskEnd.{DeskEnd}
 use Rattle.desk_run.specs.declared.end.DeskEnd.TheVariants.{NotStarted, Served}
 use Rattle.book_commands.specs.Due.{Due, answer, source_fault, file_fault, no_memory}
 use Rattle.book_commands.specs.Ends.{IsReplyStatus, IsSampleStatus}
 use Rattle.book_commands.specs.RunReply.{RunReply, usage_reply, memory_reply, read_fault_reply}
 use Rattle.book_commands.specs.Size.{Size}
-use Rattle.book_commands.specs.Tells.{IsTold, outputs}
+use Rattle.book_commands.specs.Tells.{Outputs, IsTold, outputs, Tells}
 use Rattle.book_commands.specs.declared.command.BookCommand.{BookCommand}
 use Rattle.book_commands.specs.declared.object.Object.TheVariants.{Source}
 use Rattle.book_commands.specs.declared.run_status.RunStatus.{RunStatus}
@@ -22,12 +25,17 @@ use Rattle.book_commands.proofs.Statuses.{replies-kind, sample-kind}
 use Rattle.book_commands.proofs.Told.{IsFailed, Ends-of_tells}
 use Rattle.commands.specs.DeskEnds.{RunsDesk, start_reply}
 use Rattle.commands.specs.Outside.{Outside}
-use Rattle.commands.specs.Causes.{IsDeskStatus, IsUsageStatus, IsCaused, by_words, by_inputs, by_sink, by_memory, by_reply, by_sample, by_desk}
+use Rattle.commands.specs.Rejudged.{RejudgeEnd, unjudged, judged, JudgesBy, RunsRejudge}
+use Rattle.commands.specs.Rejudging.{Rejudging}
+use Rattle.commands.specs.Service.{Service}
+use Rattle.commands.specs.Serves.{ServiceEnd, unstarted, served, ServesBy, RunsService, told_of}
+use Rattle.commands.specs.Causes.{IsDeskStatus, IsServiceStatus, IsRejudgeStatus, IsUsageStatus, IsCaused, by_words, by_inputs, by_sink, by_memory, by_reply, by_sample, by_desk, by_door, by_service, by_rejudge}
 use Rattle.commands.specs.Does.{AnswersBook, AnswersSample, AnswersUsage, DoesTask, Does}
 use Rattle.commands.specs.Words.{Asks, AsksNothing}
 use Rattle.commands.specs.declared.task.Task.{Task}
-use Rattle.commands.specs.declared.task.Task.TheVariants.{Book, Desk, Sample}
+use Rattle.commands.specs.declared.task.Task.TheVariants.{Book, Desk, Serve, Rejudge, Sample}
 use Rattle.commands.proofs.DeskTold.{Ran, ToldFrom, same_count, start_status}
+use Rattle.commands.proofs.Rejudges.{reply_status}
 use Rattle.commands.proofs.Tasks.{asked_or_nothing}
 
 -- a command that was answered
@@ -117,6 +125,78 @@ of_desk : (words : Words) (store : List ℕ) (before after : Outside) (status : 
     → RunsDesk before after status → IsCaused words before after status
 of_desk words store before after status asked h = by_end h.how words store before after status asked h refl h.run h.told
 
+-- a service whose end was told, or the sink failed, or memory was wanting
+by_told_end : (words : Words) (reply : RunReply) (first : Outputs) (before after : Outside) (status : RunStatus) → first.sink ≡ before.writes.sink
+    → Tells reply first after.writes status → (status ≡ reply.status → IsCaused words before after status) → IsCaused words before after status
+by_told_end words reply first before after status same told caused = elim (Ends-of_tells reply first after.writes status told) [
+  | inl whole ↦ caused whole.ends
+  | inr failed ↦ elim failed [
+    | inl sink ↦ by_sink sink.ends (subst (λ (s : SinkTold). Rose s.faults after.writes.sink.faults) same sink.rose)
+    | inr nine ↦ by_memory nine
+  ]
+]
+
+-- a service, by how it ended
+by_service_end : (how : ServiceEnd) (words : Words) (service : Service) (before after : Outside) (status : RunStatus) → Asks words (Serve service)
+    → (h : RunsService service before after status) → h.how ≡ how → ServesBy how service before after status → IsCaused words before after status
+by_service_end (unstarted (RefusedStart fault)) words service before after status asked h e run =
+    by_told_end words (start_reply fault) before.writes before after status refl run.told (λ ends. by_service (record {
+      service = service;
+      asked = asked;
+      runs = h;
+      statuses = subst (λ (k : ServiceEnd). IsServiceStatus k status) (sym e) (ends ∙ start_status fault);
+    }))
+by_service_end (unstarted NoMemory) words service before after status asked h e run =
+    by_told_end words memory_reply before.writes before after status refl (inl run.told) by_memory
+by_service_end (served (Worked Over)) words service before after status asked h e run =
+    by_told_end words _ _ before after status refl run.serves.told (λ ends. by_service (record {
+      service = service;
+      asked = asked;
+      runs = h;
+      statuses = subst (λ (k : ServiceEnd). IsServiceStatus k status) (sym e) ends;
+    }))
+by_service_end (served (Worked Fault)) words service before after status asked h e run =
+    by_told_end words _ _ before after status refl run.serves.told (λ ends. by_door ends (run.serves.run.cause refl))
+by_service_end (served (Worked WantsMemory)) words service before after status asked h e run =
+    by_told_end words memory_reply _ before after status refl run.serves.told by_memory
+by_service_end (served NoWorkers) words service before after status asked h e run =
+    by_told_end words memory_reply _ before after status refl run.serves.told by_memory
+by_service_end (served (Closed out.Failed)) words service before after status asked h e run =
+    by_told_end words _ _ before after status refl run.serves.told (λ ends. by_door ends (run.serves.run.2 refl))
+by_service_end (served (Closed out.Memory)) words service before after status asked h e run =
+    by_told_end words memory_reply _ before after status refl run.serves.told by_memory
+
+of_service : (words : Words) (service : Service) (before after : Outside) (status : RunStatus) → Asks words (Serve service)
+    → RunsService service before after status → IsCaused words before after status
+of_service words service before after status asked h = by_service_end h.how words service before after status asked h refl h.runs
+
+-- kept orders that were judged again, by how that ended
+by_rejudge_end : (how : RejudgeEnd) (words : Words) (r : Rejudging) (before after : Outside) (status : RunStatus) → Asks words (Rejudge r)
+    → (h : RunsRejudge r before after status) → h.how ≡ how → JudgesBy how r before after status → IsCaused words before after status
+by_rejudge_end (unjudged (RefusedStart fault)) words r before after status asked h e run =
+    by_told_end words (start_reply fault) before.writes before after status refl run.told (λ ends. by_rejudge (record {
+      rejudging = r;
+      asked = asked;
+      runs = h;
+      statuses = subst (λ (k : RejudgeEnd). IsRejudgeStatus k status) (sym e) (ends ∙ start_status fault);
+    }))
+by_rejudge_end (unjudged NoMemory) words r before after status asked h e run =
+    by_told_end words memory_reply before.writes before after status refl (inl run.told) by_memory
+by_rejudge_end judged words r before after status asked h e run =
+    by_told_end words run.judges.reply before.writes before after status refl run.judges.told (λ ends. elim run.judges.due [
+      | inl replies ↦ by_rejudge (record {
+        rejudging = r;
+        asked = asked;
+        runs = h;
+        statuses = subst (λ (k : RejudgeEnd). IsRejudgeStatus k status) (sym e) (reply_status r run.old.tables run.judges.reply status replies ends);
+      })
+      | inr is ↦ by_memory (ends ∙ ap (λ (reply : RunReply). reply.status) is)
+    ])
+
+of_rejudge : (words : Words) (r : Rejudging) (before after : Outside) (status : RunStatus) → Asks words (Rejudge r)
+    → RunsRejudge r before after status → IsCaused words before after status
+of_rejudge words r before after status asked h = by_rejudge_end h.how words r before after status asked h refl h.runs
+
 of_usage : (words : Words) (before after : Outside) (status : RunStatus) → AsksNothing words
     → AnswersUsage before after status → IsCaused words before after status
 of_usage words before after status none h = elim (Ends-of_tells usage_reply before.writes after.writes status h.told) [
@@ -128,6 +208,8 @@ of_task : (words : Words) (task : Task) (before after : Outside) (status : RunSt
     → DoesTask task before after status → IsCaused words before after status
 of_task words (Book command) before after status asked h = of_book words command before after status asked h
 of_task words (Desk store) before after status asked h = of_desk words store before after status asked h
+of_task words (Serve service) before after status asked h = of_service words service before after status asked h
+of_task words (Rejudge r) before after status asked h = of_rejudge words r before after status asked h
 of_task words (Sample size) before after status asked h = of_sample words size before after status asked h
 
 pub Does-caused : (words : Words) (before after : Outside) (status : RunStatus) → Does words before after status → IsCaused words before after status

@@ -33,10 +33,10 @@ pub record IsShort (how : DeskEnd) (before : DeskOutside) : Type 0 where
   pub no_room : IfSome before.link.output.room (λ bytes. bytes < length out)
 
 -- what is ruled out doesn't come
-never_fails : (before after : Faults) → before.faultless ≡ true → Fails before after → ⊥
+pub never_fails : (before after : Faults) → before.faultless ≡ true → Fails before after → ⊥
 never_fails before after faultless fails = let clash : true ≡ false = sym faultless ∙ fails.possible in cc
 
-no_bad_row : (rows : Option Kept) (place : ℕ × ℕ) → IsSomeAnd rows (λ r. first_bad (begun r) ≡ None)
+pub no_bad_row : (rows : Option Kept) (place : ℕ × ℕ) → IsSomeAnd rows (λ r. first_bad (begun r) ≡ None)
     → IfSome rows (λ r. first_bad (begun r) ≡ Some place) → ⊥
 no_bad_row None place right bad = right
 no_bad_row (Some r) place right bad = let clash : None ≡ Some place = sym right ∙ bad in cc

@@ -1,5 +1,9 @@
 pub mod Ranges
 pub mod Tasks
+pub mod Stocked
+pub mod Rejudges
+pub mod Told
+pub mod Dealt
 pub mod DeskTold
 pub mod Asked
 pub mod Caused
@@ -7,4 +11,6 @@ pub mod Releasable
 pub mod DeskSure
 pub mod Sure
 pub mod Traded
+pub mod Decided
 pub mod Runs
+pub mod Weaker

@@ -64,13 +64,28 @@ file_fits command fits budget operands = by_word (only_one budget operands)
     by_word None = tt
     by_word (Some file) = fits file
 
+-- one worker at least
+abbrev HasWorkers : ℕ × ℕ × ℕ → Type 0
+HasWorkers d = 1 ≤ d.1
+
+door_within : (port workers links : Option ℕ) → IfSome workers (IsWithin 1 16)
+    → IfSome (option_and_then (λ p. option_and_then (λ w. option_map (λ l. (p, w, l)) links) workers) port) HasWorkers
+door_within None workers links h = tt
+door_within (Some p) None links h = tt
+door_within (Some p) (Some w) None h = tt
+door_within (Some p) (Some w) (Some l) h = h.0
+
+door_fits : (operands : Words) → IfSome (door_of operands) HasWorkers
+door_fits [] = tt
+door_fits (port ∷ []) = tt
+door_fits (port ∷ workers ∷ []) = tt
+door_fits (port ∷ workers ∷ links ∷ []) =
+    door_within (number_in 1 65535 port) (number_in 1 16 workers) (number_in 1 1000000 links) (number_within_range 1 16 (number_within 10 workers))
+door_fits (port ∷ workers ∷ links ∷ word ∷ words) = tt
+
 serve_fits : (budget : Option (List ℕ)) (operands : Words) → AllInRange (serve_of budget operands)
 serve_fits None [] = tt
-serve_fits None (store ∷ numbers) = by_door (door_of numbers)
-  where
-    by_door : (door : Option (ℕ × ℕ × ℕ)) → AllInRange (option_map (λ d. Serve store d.0 d.1 d.2) door)
-    by_door None = tt
-    by_door (Some d) = tt
+serve_fits None (store ∷ numbers) = mapped HasWorkers (λ d. Serve store d.0 d.1 d.2) (door_of numbers) (λ d h. h) (door_fits numbers)
 serve_fits (Some text) operands = tt
 
 whole_codes : (n : ℕ) (t : Bool) → (n % 4 == 0) ≡ t → IsWithin 8 2000 n → IfSome (if t then Some n else None) MaySample
@@ -109,16 +124,18 @@ compare_fits budget (day ∷ []) = tt
 compare_fits budget (day ∷ file ∷ []) = compared_fits (short_number day) (budget_of budget) file (budget_fits budget)
 compare_fits budget (day ∷ file ∷ word ∷ words) = tt
 
-rejudged_fits : (store : List ℕ) (book workers : Option ℕ) → AllInRange (option_and_then (λ b. option_map (Rejudge store b) workers) book)
-rejudged_fits store None workers = tt
-rejudged_fits store (Some b) None = tt
-rejudged_fits store (Some b) (Some w) = tt
+rejudged_fits : (store : List ℕ) (book workers : Option ℕ) → IfSome workers (IsWithin 1 16)
+    → AllInRange (option_and_then (λ b. option_map (Rejudge store b) workers) book)
+rejudged_fits store None workers h = tt
+rejudged_fits store (Some b) None h = tt
+rejudged_fits store (Some b) (Some w) h = h.0
 
 rejudge_fits : (budget : Option (List ℕ)) (operands : Words) → AllInRange (rejudge_of budget operands)
 rejudge_fits None [] = tt
 rejudge_fits None (store ∷ []) = tt
 rejudge_fits None (store ∷ book ∷ []) = tt
-rejudge_fits None (store ∷ book ∷ workers ∷ []) = rejudged_fits store (number_in 1 4294967295 book) (number_in 1 16 workers)
+rejudge_fits None (store ∷ book ∷ workers ∷ []) =
+    rejudged_fits store (number_in 1 4294967295 book) (number_in 1 16 workers) (number_within_range 1 16 (number_within 10 workers))
 rejudge_fits None (store ∷ book ∷ workers ∷ word ∷ words) = tt
 rejudge_fits (Some text) operands = tt
 

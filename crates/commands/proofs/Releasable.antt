@@ -9,7 +9,7 @@ use Rattle.command_words.specs.Parts.{Words}
 use Rattle.pb_outside.specs.Sink.{SinkTold}
 use Rattle.desk_run.specs.declared.end.DeskEnd.{DeskEnd}
 use Rattle.desk_run.specs.declared.end.DeskEnd.TheVariants.{NotStarted, Served}
-use Rattle.desk_run.proofs.Released.{run_released}
+use Rattle.desk_run.proofs.Released.{run_released, told_released}
 use Rattle.book_commands.specs.Checks.{IsUnreleasable}
 use Rattle.book_commands.specs.Inputs.{input_limit}
 use Rattle.book_commands.specs.Replies.{asks_check, asks_release}
@@ -20,11 +20,13 @@ use Rattle.book_commands.proofs.Blocked.{command-blocked}
 use Rattle.book_commands.proofs.Releasable.{command-releasable}
 use Rattle.commands.specs.DeskEnds.{desk_outside, RunsDesk}
 use Rattle.commands.specs.Outside.{Outside}
-use Rattle.commands.specs.Causes.{GivesReply, IsCaused, by_words, by_inputs, by_sink, by_memory, by_reply, by_sample, by_desk}
+use Rattle.commands.specs.Causes.{GivesReply, IsCaused, by_words, by_inputs, by_sink, by_memory, by_reply, by_sample, by_desk, by_door, by_service, by_rejudge}
 use Rattle.commands.specs.Does.{Does}
-use Rattle.commands.specs.Released.{AskRelease, AskCheck, AskDesk, IsReleasableInput, IsBlockedInput, KeepsBooks, KeepsReleased}
+use Rattle.commands.specs.Service.{Service}
+use Rattle.commands.specs.Serves.{ServiceEnd, unstarted, served, ServesBy, RunsService}
+use Rattle.commands.specs.Released.{AskRelease, AskCheck, AskDesk, AskService, IsReleasableInput, IsBlockedInput, KeepsBooks, KeepsReleased, KeepsServed, ServesReleased}
 use Rattle.commands.specs.Words.{Asks}
-use Rattle.commands.specs.declared.task.Task.TheVariants.{Book, Desk, Sample}
+use Rattle.commands.specs.declared.task.Task.TheVariants.{Book, Desk, Serve, Rejudge, Sample}
 use Rattle.commands.proofs.DeskTold.{Ran, ToldFrom, same_reads, unstarted_status}
 use Rattle.commands.proofs.Tasks.{one_task}
 
@@ -33,7 +35,7 @@ of_input : (IsRight : Contents → Type 0) (left left' : Option (List ℕ)) (inp
 of_input IsRight None left' input read h = tt
 of_input IsRight (Some all) left' input read h = subst (λ (i : List ℕ). IsOkAnd (book_of i) IsRight) read.0 h
 
-same_command : (c c' : BookCommand) → Book c ≡ Book c' → c ≡ c'
+pub same_command : (c c' : BookCommand) → Book c ≡ Book c' → c ≡ c'
 same_command c c' e = cc
 
 -- a reply that says done, or refused
@@ -77,6 +79,15 @@ by_reply_alone words command before after status P asked decided shown (by_sampl
     let clash : Book command ≡ Sample h.size = one_task words (Book command) (Sample h.size) asked h.asked in cc
 by_reply_alone words command before after status P asked decided shown (by_desk h) =
     let clash : Book command ≡ Desk h.store = one_task words (Book command) (Desk h.store) asked h.asked in cc
+by_reply_alone words command before after status P asked decided shown (by_door ten rose) =
+    elim decided [
+      | inl done ↦ let clash : statuses.Done ≡ statuses.DoorFault = sym done ∙ ten in cc
+      | inr refused ↦ let clash : statuses.Refused ≡ statuses.DoorFault = sym refused ∙ ten in cc
+    ]
+by_reply_alone words command before after status P asked decided shown (by_service h) =
+    let clash : Book command ≡ Serve h.service = one_task words (Book command) (Serve h.service) asked h.asked in cc
+by_reply_alone words command before after status P asked decided shown (by_rejudge h) =
+    let clash : Book command ≡ Rejudge h.rejudging = one_task words (Book command) (Rejudge h.rejudging) asked h.asked in cc
 
 pub IsCaused-released : (words : Words) (before after : Outside) (status : RunStatus) → IsCaused words before after status
     → status ≡ statuses.Done → AskRelease words → IsReleasableInput before.reads.source.left
@@ -107,3 +118,16 @@ desk_released before after status h = record { runs = h; books = by_end h.how be
 pub Does-released : (words : Words) (before after : Outside) (status : RunStatus) → Does words before after status → AskDesk words
     → KeepsReleased before after status
 Does-released words before after status does asks = desk_released before after status (does.asked (Desk asks.store) asks.asked)
+
+-- what a service keeps whose desk was started
+keeps_served : (how : ServiceEnd) (service : Service) (before after : Outside) (status : RunStatus) → ServesBy how service before after status
+    → KeepsServed how before after status
+keeps_served (served how) service before after status run = told_released run.serves.new.tables after.keeper.rows run.serves.valid run.serves.rows
+keeps_served (unstarted why) service before after status run =
+    record { untouched = run.untouched; statuses = unstarted_status why before after before.writes.sink status run.told }
+
+pub Does-served : (words : Words) (before after : Outside) (status : RunStatus) → Does words before after status → AskService words
+    → ServesReleased words before after status
+Does-served words before after status does asks =
+    let h = does.asked (Serve asks.service) asks.asked in
+    record { service = asks.service; asked = asks.asked; runs = h; books = keeps_served h.how asks.service before after status h.runs }

@@ -1,11 +1,18 @@
 -- Valid words and inputs have their answer where nothing fails, memory and the sink's room allowing.
-use Rattle.std.proofs.Common.{◌≡◌, ◌∙◌, ℕ, List, true, false, refl, sym, subst, ap, inl, inr}
-use Rattle.std.specs.Prelude.{◌⊎◌, IsSome}
+use Rattle.std.proofs.Common.{◌≡◌, ◌∙◌, ◌<◌, ℕ, List, true, false, length, refl, sym, subst, ap, inl, inr}
+use Rattle.std.specs.Prelude.{◌⊎◌, IsSome, IsSomeAnd}
 use Rattle.command_words.specs.Parts.{Words}
-use Rattle.pb_base.specs.declared.answer.Fail.TheVariants.{Memory as NoMemory}
+use Rattle.pb_base.specs.declared.answer.Fail.TheVariants.{Refused, Memory as NoMemory}
 use Rattle.pb_outside.specs.Faults.{Rose}
 use Rattle.pb_outside.specs.Sink.{SinkTold}
+use Rattle.pb_outside.specs.declared.error.OutError.TheVariants as out
+use Rattle.order_desk.specs.Tables.{State, Tables}
+use Rattle.order_desk.specs.declared.start.StartFault.TheVariants.{BadRow, Store}
+use Rattle.serve_work.specs.declared.end.WorkEnd.TheVariants.{Over, Fault, Memory as WantsMemory}
+use Rattle.serve_run.specs.ServeRun.{IsOverOrMemory}
+use Rattle.serve_run.specs.declared.end.ServeEnd.TheVariants.{Closed, NoWorkers, Worked}
 use Rattle.session.specs.declared.end.SessionEnd.TheVariants.{Done, WriteFault, Memory}
+use Rattle.desk_run.specs.DeskRun.{IsStarted}
 use Rattle.desk_run.specs.Sure.{IsDoneOrMemory}
 use Rattle.desk_run.proofs.Sure.{run_unfailing}
 use Rattle.desk_run.specs.declared.end.DeskEnd.{DeskEnd}
@@ -17,7 +24,7 @@ use Rattle.book_commands.specs.Replies.{FailsAtFile}
 use Rattle.book_commands.specs.RunReply.{RunReply, memory_reply, memory_text}
 use Rattle.book_commands.specs.Sample.{RepliesToSample}
 use Rattle.book_commands.specs.Size.{Size}
-use Rattle.book_commands.specs.Tells.{IsTold, IsWritten, outputs}
+use Rattle.book_commands.specs.Tells.{Outputs, IsTold, IsWritten, outputs, Tells}
 use Rattle.book_commands.specs.declared.command.BookCommand.{BookCommand}
 use Rattle.book_commands.specs.declared.log.Note.{Note}
 use Rattle.book_commands.specs.declared.run_status.RunStatus.{RunStatus}
@@ -26,15 +33,20 @@ use Rattle.book_commands.proofs.DueLaws.{file_rose}
 use Rattle.book_commands.proofs.Statuses.{sample-answered}
 use Rattle.book_commands.proofs.Told.{LacksRoomFor, Ends-of_tells, told_room, told_or_lacks, written_or_lacks}
 use Rattle.book_commands.proofs.Valid.{same_input, valid_answer, no_file_fault}
-use Rattle.commands.specs.Complete.{IsValidRead, IsValidTask, IsValidInput, CannotFailToRead, CannotFailToServe, CannotFailAt, CannotFail, NoCountRose, EndsNoted, EndsTask, IsAnswered, IsDueText, of_reply, of_sample, of_link, of_memory, LacksRoom}
+use Rattle.commands.specs.Complete.{IsValidRead, IsValidTask, IsValidInput, CannotFailToRead, CannotFailToServe, CannotFailToOpen, CannotFailAt, CannotFail, NoCountRose, EndsNoted, EndsTask, IsAnswered, IsDueText, of_reply, of_sample, of_link, of_service, of_rejudge, of_memory, LacksRoom}
 use Rattle.commands.specs.DeskEnds.{RunsDesk, desk_outside}
 use Rattle.commands.specs.Does.{AnswersBook, AnswersSample, DoesTask, Does}
 use Rattle.commands.specs.Outside.{Outside}
+use Rattle.commands.specs.Rejudged.{RejudgeEnd, unjudged, judged, JudgesBy, RepliesToRejudge}
+use Rattle.commands.specs.Rejudging.{Rejudging}
+use Rattle.commands.specs.Service.{Service}
+use Rattle.commands.specs.Serves.{ServiceEnd, unstarted, served, ServesBy, RunsService}
 use Rattle.commands.specs.Words.{Asks}
 use Rattle.commands.specs.declared.task.Task.{Task}
-use Rattle.commands.specs.declared.task.Task.TheVariants.{Book, Desk, Sample}
-use Rattle.commands.proofs.DeskSure.{IsShort, sure_or_short}
+use Rattle.commands.specs.declared.task.Task.TheVariants.{Book, Desk, Serve, Rejudge, Sample}
+use Rattle.commands.proofs.DeskSure.{IsShort, sure_or_short, never_fails, no_bad_row}
 use Rattle.commands.proofs.DeskTold.{Ran, ToldFrom, same_sink, desk_rose}
+use Rattle.commands.proofs.Rejudges.{reply_status}
 
 -- the task was answered, or memory was wanting
 abbrev EndsAt : Task → Outside → Outside → RunStatus → Type 0
@@ -126,10 +138,10 @@ desk_done : (store : List ℕ) (how : DeskEnd) (before after : Outside) (middle 
     → (how ≡ NotStarted NoMemory → IsWritten memory_reply (outputs middle before.writes.log) after.writes status → (status ≡ statuses.WantOfMemory) ⊎ P)
     → EndsAt (Desk store) before after status ⊎ P
 desk_done store how before after middle status P done told memory = elim done [
-  | inl served ↦ let ends : ToldFrom (Served Done) before after middle status = told_as (Served Done) served in inl (inl ends.ends)
+  | inl at_end ↦ let ends : ToldFrom (Served Done) before after middle status = told_as (Served Done) at_end in inl (inl ends.ends)
   | inr wanting ↦ elim wanting [
-    | inl served ↦ let ends : ToldFrom (Served Memory) before after middle status = told_as (Served Memory) served in inl (inr ends.ends)
-    | inr unstarted ↦ elim (memory unstarted (told_as (NotStarted NoMemory) unstarted)) [ inl nine ↦ inl (inr nine) | inr p ↦ inr p ]
+    | inl at_want ↦ let ends : ToldFrom (Served Memory) before after middle status = told_as (Served Memory) at_want in inl (inr ends.ends)
+    | inr at_start ↦ elim (memory at_start (told_as (NotStarted NoMemory) at_start)) [ inl nine ↦ inl (inr nine) | inr p ↦ inr p ]
   ]
 ]
   where
@@ -180,10 +192,101 @@ sure_desk words store before after status asked v calls room h =
       | inr short ↦ short_link words store h.how before after h.middle status asked room short h.told
     ]
 
+-- a service's end was told, or the sink lacks room for that, or memory was wanting
+end_told : (words : Words) (task : Task) (reply : RunReply) (first : Outputs) (before after : Outside) (status : RunStatus)
+    → first.sink ≡ before.writes.sink → IsSome before.writes.sink.room → Tells reply first after.writes status
+    → (status ≡ reply.status → EndsAt task before after status) → IsDueText words before after reply.text
+    → EndsOrLacks words task before after status
+end_told words task reply first before after status same room told ends due =
+    elim (told_or_lacks reply first after.writes status (subst (λ (s : SinkTold). IsSome s.room) (sym same) room) told) [
+      | inl whole ↦ inl (ends whole.ends)
+      | inr other ↦ elim other [
+        | inl short ↦ inr (short_of reply.text due short)
+        | inr rest ↦ elim rest [ inl short ↦ inr (short_of memory_text (of_memory refl) short) | inr nine ↦ inl (inr nine) ]
+      ]
+    ]
+  where
+    short_of : (text : List ℕ) → IsDueText words before after text → LacksRoomFor text first status → LacksRoom words before after status
+    short_of text is_due short = record {
+      ends = short.ends;
+      text = text;
+      due = is_due;
+      room = subst (λ (s : SinkTold). IsSomeAnd s.room (λ bytes. bytes < length text)) same short.room;
+    }
+
+-- no port failed, and the door gave them
+not_over : IsOverOrMemory (Worked Fault) → ⊥
+not_over h = elim h [
+  | inl over ↦ cc
+  | inr other ↦ elim other [ inl memory ↦ cc | inr rest ↦ elim rest [ inl workers ↦ cc | inr closed ↦ cc ] ]
+]
+
+not_given : IsOverOrMemory (Closed out.Failed) → ⊥
+not_given h = elim h [
+  | inl over ↦ cc
+  | inr other ↦ elim other [ inl memory ↦ cc | inr rest ↦ elim rest [ inl workers ↦ cc | inr closed ↦ cc ] ]
+]
+
+sure_service_end : (how : ServiceEnd) (words : Words) (service : Service) (before after : Outside) (status : RunStatus) → Asks words (Serve service)
+    → IsValidTask (Serve service) before → CannotFailToOpen before → IsSome before.writes.sink.room → ServesBy how service before after status
+    → EndsOrLacks words (Serve service) before after status
+sure_service_end (unstarted (Refused (BadRow table place))) words service before after status asked v calls room run =
+    absurd (no_bad_row before.keeper.rows (table, place) v run.run.cause.first)
+sure_service_end (unstarted (Refused (Store first last))) words service before after status asked v calls room run =
+    absurd (never_fails before.keeper.faults after.keeper.faults calls.keeper run.run.cause.fails)
+sure_service_end (unstarted NoMemory) words service before after status asked v calls room run =
+    end_told words (Serve service) memory_reply before.writes before after status refl room (inl run.told) inr (of_memory refl)
+sure_service_end (served (Worked Over)) words service before after status asked v calls room run =
+    let history = run.serves.run.served in
+    end_told words (Serve service) _ _ before after status refl room run.serves.told inl
+    (of_service service run.old run.serves.new asked run.started (history.history, history.legal, history.reached) refl)
+sure_service_end (served (Worked Fault)) words service before after status asked v calls room run = absurd (not_over (run.serves.sure calls.door))
+sure_service_end (served (Worked WantsMemory)) words service before after status asked v calls room run =
+    end_told words (Serve service) memory_reply _ before after status refl room run.serves.told inr (of_memory refl)
+sure_service_end (served NoWorkers) words service before after status asked v calls room run =
+    end_told words (Serve service) memory_reply _ before after status refl room run.serves.told inr (of_memory refl)
+sure_service_end (served (Closed out.Failed)) words service before after status asked v calls room run = absurd (not_given (run.serves.sure calls.door))
+sure_service_end (served (Closed out.Memory)) words service before after status asked v calls room run =
+    end_told words (Serve service) memory_reply _ before after status refl room run.serves.told inr (of_memory refl)
+
+-- kept orders that were judged again, or whose judging found no memory
+judged_ends : (r : Rejudging) (t : Tables) (reply : RunReply) (before after : Outside) (status : RunStatus)
+    → RepliesToRejudge r t reply ⊎ (reply ≡ memory_reply) → status ≡ reply.status → EndsAt (Rejudge r) before after status
+judged_ends r t reply before after status due ends = elim due [
+  | inl replies ↦ inl (reply_status r t reply status replies ends)
+  | inr is ↦ inr (ends ∙ ap (λ (k : RunReply). k.status) is)
+]
+
+rejudge_text_due : (words : Words) (r : Rejudging) (old : State) (reply : RunReply) (before after : Outside) → Asks words (Rejudge r)
+    → IsStarted (desk_outside before before.writes.sink) old → RepliesToRejudge r old.tables reply ⊎ (reply ≡ memory_reply)
+    → IsDueText words before after reply.text
+rejudge_text_due words r old reply before after asked started due = elim due [
+  | inl replies ↦ of_rejudge r old reply asked started replies refl
+  | inr is ↦ of_memory (ap (λ (k : RunReply). k.text) is)
+]
+
+sure_rejudge_end : (how : RejudgeEnd) (words : Words) (r : Rejudging) (before after : Outside) (status : RunStatus) → Asks words (Rejudge r)
+    → IsValidTask (Rejudge r) before → CannotFailAt (Rejudge r) before → IsSome before.writes.sink.room → JudgesBy how r before after status
+    → EndsOrLacks words (Rejudge r) before after status
+sure_rejudge_end (unjudged (Refused (BadRow table place))) words r before after status asked v keeper room run =
+    absurd (no_bad_row before.keeper.rows (table, place) v run.run.cause.first)
+sure_rejudge_end (unjudged (Refused (Store first last))) words r before after status asked v keeper room run =
+    absurd (never_fails before.keeper.faults after.keeper.faults keeper run.run.cause.fails)
+sure_rejudge_end (unjudged NoMemory) words r before after status asked v keeper room run =
+    end_told words (Rejudge r) memory_reply before.writes before after status refl room (inl run.told) inr (of_memory refl)
+sure_rejudge_end judged words r before after status asked v keeper room run =
+    end_told words (Rejudge r) run.judges.reply before.writes before after status refl room run.judges.told
+    (judged_ends r run.old.tables run.judges.reply before after status run.judges.due)
+    (rejudge_text_due words r run.old run.judges.reply before after asked run.started run.judges.due)
+
 sure_task : (words : Words) (task : Task) (before after : Outside) (status : RunStatus) → Asks words task → IsValidTask task before
     → CannotFailAt task before → IsSome before.writes.sink.room → DoesTask task before after status → EndsOrLacks words task before after status
 sure_task words (Book command) before after status asked v calls room h = sure_book words command before after status asked v calls room h
 sure_task words (Desk store) before after status asked v calls room h = sure_desk words store before after status asked v calls room h
+sure_task words (Serve service) before after status asked v calls room h =
+    sure_service_end h.how words service before after status asked v calls room h.runs
+sure_task words (Rejudge r) before after status asked v calls room h =
+    sure_rejudge_end h.how words r before after status asked v calls room h.runs
 sure_task words (Sample size) before after status asked v calls room h = sure_sample words size before after status asked room h
 
 pub Does-sure : (words : Words) (before after : Outside) (status : RunStatus) → Does words before after status → CannotFail words before
@@ -244,10 +347,52 @@ unfailing_desk store before after status v none h =
       | inr never ↦ absurd never
     ]
 
+-- a service's end was told, or memory was wanting
+unrisen_end : (task : Task) (reply : RunReply) (first : Outputs) (before after : Outside) (status : RunStatus) → first.sink ≡ before.writes.sink
+    → NoCountRose before after → Tells reply first after.writes status → (status ≡ reply.status → EndsAt task before after status)
+    → EndsAt task before after status
+unrisen_end task reply first before after status same none told ends = elim (Ends-of_tells reply first after.writes status told) [
+  | inl whole ↦ ends whole.ends
+  | inr failed ↦ elim failed [
+    | inl sink ↦ absurd (none.sink (subst (λ (s : SinkTold). Rose s.faults after.writes.sink.faults) same sink.rose))
+    | inr nine ↦ inr nine
+  ]
+]
+
+unfailing_service : (how : ServiceEnd) (service : Service) (before after : Outside) (status : RunStatus) → IsValidTask (Serve service) before
+    → NoCountRose before after → ServesBy how service before after status → EndsAt (Serve service) before after status
+unfailing_service (unstarted (Refused (BadRow table place))) service before after status v none run =
+    absurd (no_bad_row before.keeper.rows (table, place) v run.run.cause.first)
+unfailing_service (unstarted (Refused (Store first last))) service before after status v none run = absurd (none.keeper run.run.cause.fails.rose)
+unfailing_service (unstarted NoMemory) service before after status v none run =
+    unrisen_end (Serve service) memory_reply before.writes before after status refl none (inl run.told) inr
+unfailing_service (served (Worked Over)) service before after status v none run = unrisen_end (Serve service) _ _ before after status refl none run.serves.told inl
+unfailing_service (served (Worked Fault)) service before after status v none run = absurd (none.door (run.serves.run.cause refl))
+unfailing_service (served (Worked WantsMemory)) service before after status v none run =
+    unrisen_end (Serve service) memory_reply _ before after status refl none run.serves.told inr
+unfailing_service (served NoWorkers) service before after status v none run =
+    unrisen_end (Serve service) memory_reply _ before after status refl none run.serves.told inr
+unfailing_service (served (Closed out.Failed)) service before after status v none run = absurd (none.door (run.serves.run.2 refl))
+unfailing_service (served (Closed out.Memory)) service before after status v none run =
+    unrisen_end (Serve service) memory_reply _ before after status refl none run.serves.told inr
+
+unfailing_rejudge : (how : RejudgeEnd) (r : Rejudging) (before after : Outside) (status : RunStatus) → IsValidTask (Rejudge r) before
+    → NoCountRose before after → JudgesBy how r before after status → EndsAt (Rejudge r) before after status
+unfailing_rejudge (unjudged (Refused (BadRow table place))) r before after status v none run =
+    absurd (no_bad_row before.keeper.rows (table, place) v run.run.cause.first)
+unfailing_rejudge (unjudged (Refused (Store first last))) r before after status v none run = absurd (none.keeper run.run.cause.fails.rose)
+unfailing_rejudge (unjudged NoMemory) r before after status v none run =
+    unrisen_end (Rejudge r) memory_reply before.writes before after status refl none (inl run.told) inr
+unfailing_rejudge judged r before after status v none run =
+    unrisen_end (Rejudge r) run.judges.reply before.writes before after status refl none run.judges.told
+    (judged_ends r run.old.tables run.judges.reply before after status run.judges.due)
+
 unfailing_task : (task : Task) (before after : Outside) (status : RunStatus) → IsValidTask task before → NoCountRose before after
     → DoesTask task before after status → EndsAt task before after status
 unfailing_task (Book command) before after status v none h = unfailing_book command before after status v none h
 unfailing_task (Desk store) before after status v none h = unfailing_desk store before after status v none h
+unfailing_task (Serve service) before after status v none h = unfailing_service h.how service before after status v none h.runs
+unfailing_task (Rejudge r) before after status v none h = unfailing_rejudge h.how r before after status v none h.runs
 unfailing_task (Sample size) before after status v none h = unfailing_sample size before after status none h
 
 pub Does-unfailing : (words : Words) (before after : Outside) (status : RunStatus) → Does words before after status → IsValidInput words before

@@ -18,8 +18,14 @@ use Rattle.book_commands.specs.declared.run_status.RunStatus.{RunStatus}
 use Rattle.book_commands.specs.declared.run_status.RunStatus.TheVariants as statuses
 use Rattle.commands.specs.DeskEnds.{RunsDesk}
 use Rattle.commands.specs.Outside.{Outside}
+use Rattle.commands.specs.Rejudged.{RejudgeEnd, unjudged, judged, RunsRejudge}
+use Rattle.commands.specs.Rejudging.{Rejudging}
+use Rattle.commands.specs.Service.{Service}
+use Rattle.commands.specs.Serves.{ServiceEnd, unstarted, served, RunsService}
+use Rattle.serve_work.specs.declared.end.WorkEnd.TheVariants.{Over}
+use Rattle.serve_run.specs.declared.end.ServeEnd.TheVariants.{Worked}
 use Rattle.commands.specs.Words.{Asks, AsksNothing}
-use Rattle.commands.specs.declared.task.Task.TheVariants.{Book, Desk, Sample}
+use Rattle.commands.specs.declared.task.Task.TheVariants.{Book, Desk, Serve, Rejudge, Sample}
 
 -- the text, the notes and the status are those of a reply to the words and to what was read
 pub record GivesReply (words : Words) (before after : Outside) (status : RunStatus) : Type 0 where
@@ -55,6 +61,32 @@ pub record GivesDesk (words : Words) (before after : Outside) (status : RunStatu
   pub runs : RunsDesk before after status
   pub statuses : IsDeskStatus runs.how status
 
+-- each port is over, or no desk was started: the keeper failed, or this row that is kept is not right
+abbrev pub IsServiceStatus : ServiceEnd → RunStatus → Type 0
+IsServiceStatus (served (Worked Over)) status = status ≡ statuses.Done
+IsServiceStatus (unstarted (RefusedStart fault)) status = status ≡ statuses.NotStarted
+IsServiceStatus how status = ⊥
+
+-- they are those of a service that ended so
+pub record GivesService (words : Words) (before after : Outside) (status : RunStatus) : Type 0 where
+  pub service : Service
+  pub asked : Asks words (Serve service)
+  pub runs : RunsService service before after status
+  pub statuses : IsServiceStatus runs.how status
+
+-- the orders were judged again, or there is no book of that number; or no desk was started, as above
+abbrev pub IsRejudgeStatus : RejudgeEnd → RunStatus → Type 0
+IsRejudgeStatus judged status = (status ≡ statuses.Done) ⊎ (status ≡ statuses.Faulty)
+IsRejudgeStatus (unjudged (RefusedStart fault)) status = status ≡ statuses.NotStarted
+IsRejudgeStatus how status = ⊥
+
+-- they are those of orders that were judged again
+pub record GivesRejudge (words : Words) (before after : Outside) (status : RunStatus) : Type 0 where
+  pub rejudging : Rejudging
+  pub asked : Asks words (Rejudge rejudging)
+  pub runs : RunsRejudge rejudging before after status
+  pub statuses : IsRejudgeStatus runs.how status
+
 -- the source or the files failed
 abbrev pub FailsToReadFrom : Inputs → Inputs → Type 0
 FailsToReadFrom before after = Fails before.source.faults after.source.faults ⊎ Rose before.files.faults.count after.files.faults.count
@@ -68,6 +100,9 @@ pub data IsCaused (words : Words) (before after : Outside) (status : RunStatus) 
   by_reply : GivesReply words before after status → IsCaused words before after status
   by_sample : GivesSample words before after status → IsCaused words before after status
   by_desk : GivesDesk words before after status → IsCaused words before after status
+  by_door : status ≡ statuses.DoorFault → Rose before.door.told.faults after.door.told.faults → IsCaused words before after status
+  by_service : GivesService words before after status → IsCaused words before after status
+  by_rejudge : GivesRejudge words before after status → IsCaused words before after status
 
 -- the statuses of a run whose words are of no form
 abbrev pub IsUsageStatus : RunStatus → Type 0

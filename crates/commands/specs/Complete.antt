@@ -4,9 +4,12 @@
 --     NoCountRose before after             no count of faults rose
 --     IsAnswered words before after status the task was answered, memory allowing
 --     LacksRoom words before after status  the sink failed, which told less room than a text that was due has bytes
-use Rattle.std.specs.Prelude.{◌≡◌, ◌⊎◌, ℕ, ◌<◌, true, List, ◌++◌, IsSome, IsSomeAnd, length, take}
+use Rattle.std.specs.Prelude.{◌≡◌, ◌⊎◌, ℕ, ◌<◌, true, List, None, ◌++◌, IsSome, IsSomeAnd, length, take}
 use Rattle.pb_outside.specs.Faults.{Rose}
 use Rattle.command_words.specs.Parts.{Words}
+use Rattle.keeper.specs.Rows.{begun}
+use Rattle.order_desk.specs.History.{Reaches}
+use Rattle.order_desk.specs.RightRows.{first_bad}
 use Rattle.order_desk.specs.Tables.{State}
 use Rattle.answering.specs.Hand.{Hand}
 use Rattle.session.specs.Reading.{Stop}
@@ -26,9 +29,13 @@ use Rattle.book_commands.specs.declared.run_status.RunStatus.{RunStatus}
 use Rattle.book_commands.specs.declared.run_status.RunStatus.TheVariants as statuses
 use Rattle.commands.specs.DeskEnds.{desk_outside}
 use Rattle.commands.specs.Outside.{Outside}
+use Rattle.commands.specs.Rejudged.{RepliesToRejudge}
+use Rattle.commands.specs.Rejudging.{Rejudging}
+use Rattle.commands.specs.Service.{Service}
+use Rattle.commands.specs.Serves.{counts_text}
 use Rattle.commands.specs.Words.{Asks}
 use Rattle.commands.specs.declared.task.Task.{Task}
-use Rattle.commands.specs.declared.task.Task.TheVariants.{Book, Desk, Sample}
+use Rattle.commands.specs.declared.task.Task.TheVariants.{Book, Desk, Serve, Rejudge, Sample}
 
 -- ---- what is handed in
 
@@ -38,10 +45,13 @@ pub record IsValidRead (command : BookCommand) (reads : Inputs) : Type 0 where
   pub given : IsSomeAnd reads.source.left (λ all. input ≡ take input_limit all)
   pub valid : IsValidCommand command input reads.files.files
 
--- of a desk, the rows are right, and nothing in the stream is refused or cut; a sample reads nothing
+-- of a desk, the rows are right, and nothing in the stream is refused or cut; of a service and of a
+-- judging of kept orders the rows are right; a sample reads nothing
 abbrev pub IsValidTask : Task → Outside → Type 0
 IsValidTask (Book command) before = IsValidRead command before.reads
 IsValidTask (Desk store) before = IsOrderly (desk_outside before before.writes.sink)
+IsValidTask (Serve service) before = IsSomeAnd before.keeper.rows (λ rows. first_bad (begun rows) ≡ None)
+IsValidTask (Rejudge r) before = IsSomeAnd before.keeper.rows (λ rows. first_bad (begun rows) ≡ None)
 IsValidTask (Sample size) before = Unit {0}
 
 pub record IsValidInput (words : Words) (before : Outside) : Type 0 where
@@ -59,9 +69,16 @@ pub record CannotFailToServe (before : Outside) : Type 0 where
   pub source : before.reads.source.faults.faultless ≡ true
   pub keeper : before.keeper.faults.faultless ≡ true
 
+-- and so do the keeper of a service and its door
+pub record CannotFailToOpen (before : Outside) : Type 0 where
+  pub keeper : before.keeper.faults.faultless ≡ true
+  pub door : before.door.faultless ≡ true
+
 abbrev pub CannotFailAt : Task → Outside → Type 0
 CannotFailAt (Book command) before = CannotFailToRead before.reads
 CannotFailAt (Desk store) before = CannotFailToServe before
+CannotFailAt (Serve service) before = CannotFailToOpen before
+CannotFailAt (Rejudge r) before = before.keeper.faults.faultless ≡ true
 CannotFailAt (Sample size) before = Unit {0}
 
 pub record CannotFail (words : Words) (before : Outside) : Type 0 where
@@ -76,6 +93,7 @@ pub record NoCountRose (before after : Outside) : Type 0 where
   pub files : ¬ Rose before.reads.files.faults.count after.reads.files.faults.count
   pub sink : ¬ Rose before.writes.sink.faults after.writes.sink.faults
   pub keeper : ¬ Rose before.keeper.faults.count after.keeper.faults.count
+  pub door : ¬ Rose before.door.told.faults after.door.told.faults
 
 -- the run ended so, with the notes that it put into the log
 pub record EndsNoted (IsEnd : RunStatus → List Note → Type 0) (before after : Outside) (status : RunStatus) : Type 0 where
@@ -84,10 +102,13 @@ pub record EndsNoted (IsEnd : RunStatus → List Note → Type 0) (before after 
   pub is_end : IsEnd status notes
 
 -- an order is accepted or refused; a check or a proof says so of the book, or leaves a question; a certificate and a desk's
--- link come to their end, and a sample does so or leaves a question
+-- link come to their end, and so do the ports of a service; kept orders are judged again, or there is no book of that number; a
+-- sample comes to its end or leaves a question
 abbrev pub EndsTask : Task → Outside → Outside → RunStatus → Type 0
 EndsTask (Book command) before after status = EndsNoted (EndsCommand command) before after status
 EndsTask (Desk store) before after status = status ≡ statuses.Done
+EndsTask (Serve service) before after status = status ≡ statuses.Done
+EndsTask (Rejudge r) before after status = (status ≡ statuses.Done) ⊎ (status ≡ statuses.Faulty)
 EndsTask (Sample size) before after status = EndsNoted EndsSample before after status
 
 pub record IsAnswered (words : Words) (before after : Outside) (status : RunStatus) : Type 0 where
@@ -96,7 +117,7 @@ pub record IsAnswered (words : Words) (before after : Outside) (status : RunStat
   pub ends : EndsTask task before after status ⊎ (status ≡ statuses.WantOfMemory)
 
 -- a text that is due: that of a reply to what was read, or to a sample, or all that a desk has to write to its link wherever
--- reading stops, or the line of want of memory
+-- reading stops, or the counts of a desk that a service has come to, or what kept orders come to, or the line of want of memory
 pub data IsDueText (words : Words) (before after : Outside) (text : List ℕ) : Type 0 where
   of_reply : (command : BookCommand) (reply : RunReply) → Asks words (Book command) → Due command before.reads after.reads reply
       → text ≡ reply.text → IsDueText words before after text
@@ -105,6 +126,11 @@ pub data IsDueText (words : Words) (before after : Outside) (text : List ℕ) : 
   of_link : (store : List ℕ) (old : State) (stop : Stop) (new : Hand) → Asks words (Desk store)
       → IsStarted (desk_outside before before.writes.sink) old → IsDue stop before.reads.source.left (hand_at old) text new
       → IsDueText words before after text
+  of_service : (service : Service) (old new : State) → Asks words (Serve service) → IsStarted (desk_outside before before.writes.sink) old
+      → Reaches old new → text ≡ counts_text (length new.tables.drafts) (length new.tables.books) (length new.tables.orders)
+      → IsDueText words before after text
+  of_rejudge : (r : Rejudging) (old : State) (reply : RunReply) → Asks words (Rejudge r) → IsStarted (desk_outside before before.writes.sink) old
+      → RepliesToRejudge r old.tables reply → text ≡ reply.text → IsDueText words before after text
   of_memory : text ≡ memory_text → IsDueText words before after text
 
 pub record LacksRoom (words : Words) (before after : Outside) (status : RunStatus) : Type 0 where

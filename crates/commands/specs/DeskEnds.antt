@@ -54,7 +54,7 @@ abbrev pub EndsDesk : DeskEnd → Outputs → Outputs → RunStatus → Type 0
 EndsDesk (Served end) before after status = EndsSession end before after status
 EndsDesk (NotStarted why) before after status = EndsStart why before after status
 
--- the desk was run, which left the sink in the middle, and its end was told from there; no file was touched.
+-- the desk was run, which left the sink in the middle, and its end was told from there; neither a file nor the door was touched.
 -- A desk releases a book only where on every day of its term each set of codes that meets its rules selects exactly one variant
 -- at every mandatory position and nowhere two. Memory and store allowing, it accepts a new order to a book in force exactly
 -- where its completed codes meet every rule, and the parts list that it prints is then the book's one complete list.
@@ -64,3 +64,4 @@ pub record RunsDesk (before after : Outside) (status : RunStatus) : Type 0 where
   pub run : IsDeskRun how (desk_outside before before.writes.sink) (desk_outside after middle)
   pub told : EndsDesk how (outputs middle before.writes.log) after.writes status
   pub files : after.reads.files ≡ before.reads.files
+  pub door : after.door ≡ before.door

@@ -14,11 +14,13 @@ use Rattle.book_commands.specs.declared.command.BookCommand.{BookCommand}
 use Rattle.book_commands.specs.declared.run_status.RunStatus.{RunStatus}
 use Rattle.commands.specs.DeskEnds.{RunsDesk}
 use Rattle.commands.specs.Outside.{Outside}
+use Rattle.commands.specs.Rejudged.{RunsRejudge}
+use Rattle.commands.specs.Serves.{RunsService}
 use Rattle.commands.specs.Words.{Asks, AsksNothing}
 use Rattle.commands.specs.declared.task.Task.{Task}
-use Rattle.commands.specs.declared.task.Task.TheVariants.{Book, Desk, Sample}
+use Rattle.commands.specs.declared.task.Task.TheVariants.{Book, Desk, Serve, Rejudge, Sample}
 
--- a command was answered: its reply is due, and was told; the keeper was not touched
+-- a command was answered: its reply is due, and was told; neither the keeper nor the door was touched
 pub record AnswersBook (command : BookCommand) (before after : Outside) (status : RunStatus) : Type 0 where
   pub reply : RunReply
   pub due : Due command before.reads after.reads reply
@@ -26,11 +28,13 @@ pub record AnswersBook (command : BookCommand) (before after : Outside) (status 
   pub source_later : IsLater before.reads.source.faults after.reads.source.faults
   pub files_kept : KeepsFiles command before.reads.files after.reads.files
   pub kept : after.keeper ≡ before.keeper
+  pub door : after.door ≡ before.door
 
--- nothing was read, and the keeper was not touched
+-- nothing was read, and neither the keeper nor the door was touched
 pub record ReadsNothing (before after : Outside) : Type 0 where
   pub untouched : after.reads ≡ before.reads
   pub kept : after.keeper ≡ before.keeper
+  pub door : after.door ≡ before.door
 
 -- the words are of no form
 pub record AnswersUsage (before after : Outside) (status : RunStatus) : Type 0 where
@@ -56,6 +60,8 @@ pub record AnswersSample (size : Size) (before after : Outside) (status : RunSta
 abbrev pub DoesTask : Task → Outside → Outside → RunStatus → Type 0
 DoesTask (Book command) = AnswersBook command
 DoesTask (Desk store) = RunsDesk
+DoesTask (Serve service) = RunsService service
+DoesTask (Rejudge r) = RunsRejudge r
 DoesTask (Sample size) = AnswersSample size
 
 -- whatever the words ask was done, and where they ask for nothing, the usage was told

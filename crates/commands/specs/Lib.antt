@@ -1,10 +1,16 @@
 pub mod Words
+pub mod Service
+pub mod Rejudging
 pub mod Outside
+pub mod Begun
 pub mod DeskEnds
+pub mod Serves
+pub mod Rejudged
 pub mod Does
 pub mod Causes
 pub mod Released
 pub mod Complete
 pub mod Traded
+pub mod Ample
 pub mod Run
 pub mod Limits

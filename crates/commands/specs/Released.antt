@@ -14,8 +14,10 @@ use Rattle.book_commands.specs.declared.run_status.RunStatus.{RunStatus}
 use Rattle.book_commands.specs.declared.run_status.RunStatus.TheVariants as statuses
 use Rattle.commands.specs.DeskEnds.{RunsDesk}
 use Rattle.commands.specs.Outside.{Outside}
+use Rattle.commands.specs.Service.{Service}
+use Rattle.commands.specs.Serves.{ServiceEnd, unstarted, served, RunsService}
 use Rattle.commands.specs.Words.{Asks}
-use Rattle.commands.specs.declared.task.Task.TheVariants.{Book, Desk}
+use Rattle.commands.specs.declared.task.Task.TheVariants.{Book, Desk, Serve}
 
 -- the words ask whether the book can be released
 pub record AskRelease (words : Words) : Type 0 where
@@ -57,3 +59,19 @@ KeepsBooks (NotStarted why) before after status = IsUnstarted before after statu
 pub record KeepsReleased (before after : Outside) (status : RunStatus) : Type 0 where
   pub runs : RunsDesk before after status
   pub books : KeepsBooks runs.how before after status
+
+-- the words ask for a service
+pub record AskService (words : Words) : Type 0 where
+  pub service : Service
+  pub asked : Asks words (Serve service)
+
+-- by how a service ended, in the same way
+abbrev pub KeepsServed : ServiceEnd → Outside → Outside → RunStatus → Type 0
+KeepsServed (served how) before after status = IfSome after.keeper.rows (λ kept. All IsReleasedRow kept.books)
+KeepsServed (unstarted why) before after status = IsUnstarted before after status
+
+pub record ServesReleased (words : Words) (before after : Outside) (status : RunStatus) : Type 0 where
+  pub service : Service
+  pub asked : Asks words (Serve service)
+  pub runs : RunsService service before after status
+  pub books : KeepsServed runs.how before after status

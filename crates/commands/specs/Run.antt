@@ -1,14 +1,15 @@
 -- What a run is: all that is promised of it, in one record.
-use Rattle.std.specs.Prelude.{◌≡◌, ◌⊎◌}
+use Rattle.std.specs.Prelude.{◌≡◌, ◌≢◌, ◌⊎◌}
 use Rattle.command_words.specs.Parts.{Words}
 use Rattle.book_commands.specs.declared.run_status.RunStatus.{RunStatus}
 use Rattle.book_commands.specs.declared.run_status.RunStatus.TheVariants as statuses
+use Rattle.commands.specs.Ample.{AskAmple}
 use Rattle.commands.specs.Causes.{IsCaused, IsUsageStatus}
 use Rattle.commands.specs.Complete.{IsValidInput, CannotFail, NoCountRose, IsAnswered, LacksRoom}
 use Rattle.commands.specs.Does.{Does}
 use Rattle.commands.specs.Outside.{Outside}
-use Rattle.commands.specs.Released.{AskRelease, AskCheck, AskDesk, IsReleasableInput, IsBlockedInput, KeepsReleased}
-use Rattle.commands.specs.Traded.{Trades}
+use Rattle.commands.specs.Released.{AskRelease, AskCheck, AskDesk, AskService, IsReleasableInput, IsBlockedInput, KeepsReleased, ServesReleased}
+use Rattle.commands.specs.Traded.{Trades, ServesTrades}
 use Rattle.commands.specs.Words.{AsksNothing}
 
 pub record IsRun (words : Words) (before after : Outside) (status : RunStatus) : Type 0 where
@@ -21,10 +22,16 @@ pub record IsRun (words : Words) (before after : Outside) (status : RunStatus) :
   pub released : status ≡ statuses.Done → AskRelease words → IsReleasableInput before.reads.source.left
   -- where they ask what keeps it from its release, refused says that it can't be released
   pub blocked : status ≡ statuses.Refused → AskCheck words → IsBlockedInput before.reads.source.left
+  -- where the budget is above the number of clauses that can be new, no question is left
+  pub decided : AskAmple words before → status ≢ statuses.Undecided
   -- whatever the status, each book that a desk keeps can be released, those that it found at its start included
   pub kept_released : AskDesk words → KeepsReleased before after status
+  -- and so it is with the desk of a service
+  pub served_released : AskService words → ServesReleased words before after status
   -- a desk that was started deals with each order and each release as the words of the trade say
   pub trades : AskDesk words → Trades before after status
+  -- and so does a service with those of each of its links
+  pub service_trades : AskService words → ServesTrades words before after status
   -- where no call fails from here on, valid words and inputs have their answer, memory and the sink's room allowing
   pub complete : CannotFail words before → IsAnswered words before after status ⊎ LacksRoom words before after status
   -- and they have it where no count rose, memory allowing

@@ -3,7 +3,7 @@ ghost use Rattle.std.specs.Prelude.{◌≡◌, IfOk};
 ghost use Rattle.pb_outside.specs.Files.{FilesTold};
 ghost use Rattle.book_commands.specs.Tells.{outputs};
 ghost use Rattle.commands.specs.DeskEnds.{EndsDesk, EndsSession, EndsStart, RunsDesk, start_reply};
-ghost use Rattle.commands.specs.Outside.{keeps, outside};
+ghost use Rattle.commands.specs.Outside.{DoorSaid, keeps, outside};
 
 use crate::run_end::RunEnd;
 use book_commands::{
@@ -31,11 +31,11 @@ pub fn run_store<S: Source, K: Sink, P: Keeper, G: Gate>(
     log: &mut RunLog,
 ) -> RunEnd<P>
     requires named { P.may_begin keeper store.now }
-    ensures { (files : FilesTold) →
+    ensures { (files : FilesTold) → (door : DoorSaid) →
         let kept = keeps (P.told keeper) (P.failures keeper) in
         let kept' = keeps (P.told result.keeper) (P.failures result.keeper) in
-        let before = outside (S.input source.old) files (K.output sink.old) log.old kept in
-        let after = outside (S.input source.new) files (K.output sink.new) log.new kept' in
+        let before = outside (S.input source.old) files (K.output sink.old) log.old kept door in
+        let after = outside (S.input source.new) files (K.output sink.new) log.new kept' door in
         RunsDesk before after result.status }
 {
     let ended = run_desk(alloc, store.as_str(), source, sink, keeper, gate);
@@ -57,7 +57,8 @@ fn tell_end<K: Sink>(alloc: Global, how: &DeskEnd, sink: &mut K, log: &mut RunLo
     }
 }
 
-fn tell_start<K: Sink>(
+/// Tells why a desk was not started, and gives the status.
+pub fn tell_start<K: Sink>(
     alloc: Global,
     why: &Fail<StartFault>,
     sink: &mut K,

@@ -1,5 +1,7 @@
 //! What a command line asks of the program.
 
+use crate::rejudging::Rejudging;
+use crate::service::Service;
 use book_commands::{BookCommand, SampleSize};
 use command_words::FileName;
 
@@ -10,6 +12,10 @@ pub enum Task {
     Book(BookCommand),
     /// The order desk over the rows that this store keeps. It answers the messages that are read.
     Desk { store: FileName },
+    /// The order desk at a port of the machine.
+    Serve(Service),
+    /// The orders that a store keeps, judged again by one of its books.
+    Rejudge(Rejudging),
     /// The release of a generated book, and what its orders come to.
     Sample(SampleSize),
 }

@@ -1,135 +1,60 @@
-//! The top call: words, an input and files in, a text and a status out.
-ghost use Rattle.std.specs.Prelude.{◌≡◌, ℕ, List};
+//! The top call: words, an input, files and a door in, a text and a status out.
+ghost use Rattle.std.specs.Prelude.{ℕ, List};
 ghost use Rattle.command_words.specs.Prepared.{texts_of};
-ghost use Rattle.book_commands.specs.Tells.{outputs};
-ghost use Rattle.commands.specs.Outside.{KeeperTold, keeps, outside};
-ghost use Rattle.commands.specs.Does.{AnswersBook, TellsSample, DoesTask, Does};
+ghost use Rattle.commands.specs.Outside.{keeps, opens, outside};
 ghost use Rattle.commands.specs.Run.{IsRun};
 ghost use Rattle.commands.specs.Words.{NamesStore};
-ghost use Rattle.commands.specs.declared.task.Task.TheVariants.{Desk};
 
-use crate::desk::run_store;
+use crate::beginning::begin;
+use crate::begun::Begun;
 use crate::run_end::RunEnd;
-use crate::task::Task;
-use crate::words::task_in;
-use book_commands::{
-    BookCommand, RunLog, RunStatus, SampleSize, due_reply, sample_reply, tell_made, tell_usage,
-    tell_want_of_memory,
-};
+use crate::serving::run_service;
+use book_commands::RunLog;
 use keeper::Keeper;
-use pb_base::Memory;
+use pb_door::Door;
 use pb_gate::Gate;
 use pb_outside::{Files, Sink, Source};
 use std::alloc::Global;
+use std::sync::Wait;
+use std::thread::Threads;
 
 /// Does what the words ask, and gives the status with which the program ends, and the keeper. `words` are those after the
-/// program's name; the log starts empty. The keeper may begin by the store's name in the words, and need not by another.
-pub fn run<S: Source, K: Sink, F: Files, P: Keeper, G: Gate>(
+/// program's name; the log starts empty. The keeper may begin by the store's name in the words, and need not by another. Only a
+/// service waits for others, so that of it all is said if it returns; what else the words may ask is done by `begin`, which
+/// returns.
+pub fn run<
+    R: Threads + Wait + Sync,
+    S: Source,
+    K: Sink,
+    F: Files,
+    P: Keeper + Send,
+    D: Door,
+    G: Gate + Sync,
+>(
+    rt: &R,
     alloc: Global,
     words: &[String],
     source: &mut S,
     sink: &mut K,
     files: &mut F,
     keeper: P,
+    door: &mut D,
     gate: &G,
     log: &mut RunLog,
 ) -> RunEnd<P>
     requires named { (store : List ℕ) → NamesStore (texts_of words.now) store → P.may_begin keeper store }
     ensures { let kept = keeps (P.told keeper) (P.failures keeper) in
         let kept' = keeps (P.told result.keeper) (P.failures result.keeper) in
-        let before = outside (S.input source.old) (F.told files.old) (K.output sink.old) log.old kept in
-        let after = outside (S.input source.new) (F.told files.new) (K.output sink.new) log.new kept' in
+        let door' = opens (D.told door.new) (D.faultless door.new) in
+        let before = outside (S.input source.old) (F.told files.old) (K.output sink.old) log.old kept
+        (opens (D.told door.old) (D.faultless door.old)) in
+        let after = outside (S.input source.new) (F.told files.new) (K.output sink.new) log.new kept' door' in
         IsRun (texts_of words.now) before after result.status }
 {
-    do_words(alloc, words, source, sink, files, keeper, gate, log)
-}
-
-fn do_words<S: Source, K: Sink, F: Files, P: Keeper, G: Gate>(
-    alloc: Global,
-    words: &[String],
-    source: &mut S,
-    sink: &mut K,
-    files: &mut F,
-    keeper: P,
-    gate: &G,
-    log: &mut RunLog,
-) -> RunEnd<P>
-    requires named { (store : List ℕ) → NamesStore (texts_of words.now) store → P.may_begin keeper store }
-    ensures { let kept = keeps (P.told keeper) (P.failures keeper) in
-        let kept' = keeps (P.told result.keeper) (P.failures result.keeper) in
-        let before = outside (S.input source.old) (F.told files.old) (K.output sink.old) log.old kept in
-        let after = outside (S.input source.new) (F.told files.new) (K.output sink.new) log.new kept' in
-        Does (texts_of words.now) before after result.status }
-{
-    match task_in(alloc, words) {
-        Ok(Some(task)) => do_task(alloc, &task, source, sink, files, keeper, gate, log),
-        Ok(None) => RunEnd {
-            status: tell_usage(sink, log),
-            keeper,
-        },
-        Err(Memory) => RunEnd {
-            status: tell_want_of_memory(sink, log),
-            keeper,
-        },
+    match begin(rt, alloc, words, source, sink, files, keeper, gate, log) {
+        Begun::Ended(end) => end,
+        Begun::Awaited(service, keeper) => {
+            run_service(rt, alloc, &service, sink, keeper, door, gate, log)
+        }
     }
-}
-
-fn do_task<S: Source, K: Sink, F: Files, P: Keeper, G: Gate>(
-    alloc: Global,
-    task: &Task,
-    source: &mut S,
-    sink: &mut K,
-    files: &mut F,
-    keeper: P,
-    gate: &G,
-    log: &mut RunLog,
-) -> RunEnd<P>
-    requires named { (store : List ℕ) → task.now ≡ Desk store → P.may_begin keeper store }
-    ensures { let kept = keeps (P.told keeper) (P.failures keeper) in
-        let kept' = keeps (P.told result.keeper) (P.failures result.keeper) in
-        let before = outside (S.input source.old) (F.told files.old) (K.output sink.old) log.old kept in
-        let after = outside (S.input source.new) (F.told files.new) (K.output sink.new) log.new kept' in
-        DoesTask task.now before after result.status }
-{
-    match task {
-        Task::Book(command) => RunEnd {
-            status: answer(alloc, command, source, sink, files, log),
-            keeper,
-        },
-        Task::Desk { store } => run_store(alloc, store, source, sink, keeper, gate, log),
-        Task::Sample(size) => RunEnd {
-            status: tell_sample(alloc, size, sink, log),
-            keeper,
-        },
-    }
-}
-
-// Whatever the keeper tells, which is not touched.
-fn answer<S: Source, K: Sink, F: Files>(
-    alloc: Global,
-    command: &BookCommand,
-    source: &mut S,
-    sink: &mut K,
-    files: &mut F,
-    log: &mut RunLog,
-) -> RunStatus
-    ensures { (kept : KeeperTold) →
-        let before = outside (S.input source.old) (F.told files.old) (K.output sink.old) log.old kept in
-        let after = outside (S.input source.new) (F.told files.new) (K.output sink.new) log.new kept in
-        AnswersBook command.now before after result }
-{
-    tell_made(due_reply(alloc, command, source, files), sink, log)
-}
-
-fn tell_sample<K: Sink>(
-    alloc: Global,
-    size: &SampleSize,
-    sink: &mut K,
-    log: &mut RunLog,
-) -> RunStatus
-    ensures { let before = outputs (K.output sink.old) log.old in
-        let after = outputs (K.output sink.new) log.new in
-        TellsSample size.now before after result }
-{
-    tell_made(sample_reply(alloc, size), sink, log)
 }

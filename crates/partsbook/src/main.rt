@@ -15,17 +15,41 @@ use crate::store_name::store_of;
 use commands::{RunEnd, RunLog, RunStatus, run_given};
 use journal_keeper::{FileDisk, JournalKeeper};
 use keeper::Keeper;
-use keeper_sql::{FileKeeper, SqlKeeper};
+use keeper_sql::FileKeeper;
 use pb_gate::NoGate;
 use pb_outside::{StreamSink, StreamSource, SystemFiles};
+use std::alloc::Global;
+use std::net::{Net, TcpListener, TcpStream};
 use std::process::ExitCode;
+use std::rt::Runtime;
+use std::sync::Wait;
+use std::thread::Threads;
 use std::{env, io};
+use tcp_door::TcpDoor;
+
+// A file of SQLite, or a journal in a file.
+type FileStore = Store<FileKeeper, JournalKeeper<FileDisk>>;
 
 fn main(rt: HostRuntime) -> ExitCode {
-    let words = given_words(&rt);
-    match journal_path(&rt, &words) {
-        Ok(path) => run_over(rt, words, path.as_deref()),
-        Err(error) => run_over(rt, Err(error), None),
+    let Given { words, journal } = read_given(&rt);
+    closed(run_with(&rt, rt.alloc(), words, keeper_of(rt, journal)))
+}
+
+// The words after the program's name, and the name of the journal where they name one.
+struct Given {
+    words: io::Result<Vec<String>>,
+    journal: Option<String>,
+}
+
+// Where the name finds no memory, the words are refused for it.
+fn read_given(rt: &HostRuntime) -> Given {
+    let words = given_words(rt);
+    match journal_path(rt, &words) {
+        Ok(journal) => Given { words, journal },
+        Err(error) => Given {
+            words: Err(error),
+            journal: None,
+        },
     }
 }
 
@@ -56,27 +80,24 @@ fn journal_path(rt: &HostRuntime, given: &io::Result<Vec<String>>) -> io::Result
     }
 }
 
-// Runs over the journal of this path, or over a file of SQLite where there is none, and closes the store.
-fn run_over(rt: HostRuntime, words: io::Result<Vec<String>>, journal: Option<&str>) -> ExitCode {
-    let end = run_with(rt, words, keeper_of(rt, journal));
+// The status of a run, whose store is closed.
+fn closed(end: RunEnd<FileStore>) -> ExitCode {
     close(end.keeper);
     exit_code(end.status)
 }
 
-// The keeper of the store of the system.
-type SystemStore<'a> = Store<FileKeeper, JournalKeeper<FileDisk<'a>>>;
-
-fn keeper_of<'a>(rt: HostRuntime, journal: Option<&'a str>) -> SystemStore<'a>
-    ensures { (name : List ℕ) → ⟦<SystemStore<'a> as Keeper>⟧.may_begin result name }
+// The keeper of the journal of this path, or of a file of SQLite where there is none.
+fn keeper_of(rt: HostRuntime, journal: Option<String>) -> FileStore
+    ensures { (name : List ℕ) → ⟦<FileStore as Keeper>⟧.may_begin result name }
 {
     match journal {
         Some(path) => Store::Journal(JournalKeeper::new(rt.alloc(), FileDisk::new(rt, path))),
-        None => Store::Sql(SqlKeeper::new(rt)),
+        None => Store::Sql(FileKeeper::new(rt)),
     }
 }
 
 // What a store that can't be closed has in its log is there for the next run, so the status stays what it is.
-fn close(store: SystemStore<'_>) {
+fn close(store: FileStore) {
     match store {
         Store::Sql(keeper) => {
             let _closed = keeper.close();
@@ -85,23 +106,28 @@ fn close(store: SystemStore<'_>) {
     }
 }
 
-// Runs between the streams and over the files of the system.
-fn run_with<P: Keeper>(rt: HostRuntime, words: io::Result<Vec<String>>, keeper: P) -> RunEnd<P>
+// Runs between the streams and over the files and the ports of the system.
+fn run_with<
+    R: Runtime + Net<Listener = TcpListener, Stream = TcpStream> + Threads + Wait + Sync,
+    P: Keeper + Send,
+>(rt: &R, alloc: Global, words: io::Result<Vec<String>>, keeper: P) -> RunEnd<P>
     requires { IfOk words (λ words. (store : List ℕ) → NamesStore (texts_of words.items) store
         → P.may_begin keeper store) }
 {
-    let alloc = rt.alloc();
     let mut source = StreamSource::new(rt.reader());
-    let mut sink = StreamSink::new(io::writer(&rt));
-    let mut files = SystemFiles::new(&rt);
+    let mut sink = StreamSink::new(io::writer(rt));
+    let mut files = SystemFiles::new(rt);
+    let mut door = TcpDoor::new(alloc, rt);
     let mut log = RunLog::new(alloc);
     run_given(
+        rt,
         alloc,
         words,
         &mut source,
         &mut sink,
         &mut files,
         keeper,
+        &mut door,
         &NoGate,
         &mut log,
     )

@@ -1,5 +1,15 @@
+use Rattle.commands.proofs.Asked.{Does-of_service}
 use Rattle.commands.proofs.Runs.{Does-run}
 use Rattle.commands.proofs.top_call.run.Goals as goal
 
-pub returns : goal.returns
-returns g c = Does-run _ _ _ _ c.do_words.ensures
+pub returns-in-Ended : goal.returns-in-Ended
+returns-in-Ended g c = (rw c.in-Ended.is at c.begin.ensures.ended) _
+
+pub run_service-requires-clause-named : goal.run_service-requires-clause-named
+run_service-requires-clause-named g c κs within = rw c.in-Awaited.is at c.begin.ensures.startable
+
+pub returns-in-Awaited : goal.returns-in-Awaited
+returns-in-Awaited g c =
+    Does-run _ _ _ _
+    (Does-of_service _ c.in-Awaited.service _ _ _ _ (rw c.in-Awaited.is at c.begin.ensures.asked)
+    ((rw c.in-Awaited.is at c.begin.ensures.untouched) _) (c.run_service.ensures _ _))

@@ -1,0 +1,42 @@
+-- A check or a proof whose budget is ample leaves no question.
+use Rattle.std.proofs.Common.{◌≡◌, ◌∙◌, ℕ, List, sym, subst}
+use Rattle.command_words.specs.Parts.{Words}
+use Rattle.book_commands.specs.Ample.{IsAmpleCommand}
+use Rattle.book_commands.specs.declared.command.BookCommand.{BookCommand}
+use Rattle.book_commands.specs.declared.run_status.RunStatus.{RunStatus}
+use Rattle.book_commands.specs.declared.run_status.RunStatus.TheVariants as statuses
+use Rattle.book_commands.proofs.Decided.{command-decided}
+use Rattle.book_commands.proofs.Valid.{same_input}
+use Rattle.commands.specs.Ample.{AskAmple}
+use Rattle.commands.specs.Causes.{GivesReply, IsCaused, by_words, by_inputs, by_sink, by_memory, by_reply, by_sample, by_desk, by_door, by_service, by_rejudge}
+use Rattle.commands.specs.Outside.{Outside}
+use Rattle.commands.specs.Words.{Asks}
+use Rattle.commands.specs.declared.task.Task.TheVariants.{Book, Desk, Serve, Rejudge, Sample}
+use Rattle.commands.proofs.Tasks.{one_task}
+use Rattle.commands.proofs.Releasable.{same_command}
+
+reply_decided : (words : Words) (before after : Outside) (status : RunStatus) → AskAmple words before → GivesReply words before after status
+    → status ≡ statuses.Undecided → ⊥
+reply_decided words before after status asks h left =
+    let same : asks.command ≡ h.command = same_command asks.command h.command (one_task words (Book asks.command) (Book h.command) asks.asked h.asked) in
+    let read : asks.input ≡ h.input = same_input before.reads.source.left after.reads.source.left asks.input h.input asks.given h.read.text in
+    command-decided h.command h.input before.reads.files after.reads.files h.reply
+    (subst (λ (i : List ℕ). IsAmpleCommand h.command i) read (subst (λ (c : BookCommand). IsAmpleCommand c asks.input) same asks.ample))
+    h.replies (sym left ∙ h.told.ends)
+
+pub IsCaused-decided : (words : Words) (before after : Outside) (status : RunStatus) → IsCaused words before after status → AskAmple words before
+    → status ≡ statuses.Undecided → ⊥
+IsCaused-decided words before after status (by_words two none) asks left = absurd (none (Book asks.command) asks.asked)
+IsCaused-decided words before after status (by_inputs four fails) asks left = let clash : statuses.Undecided ≡ statuses.ReadFault = sym left ∙ four in cc
+IsCaused-decided words before after status (by_sink five rose) asks left = let clash : statuses.Undecided ≡ statuses.WriteFault = sym left ∙ five in cc
+IsCaused-decided words before after status (by_memory nine) asks left = let clash : statuses.Undecided ≡ statuses.WantOfMemory = sym left ∙ nine in cc
+IsCaused-decided words before after status (by_reply h) asks left = reply_decided words before after status asks h left
+IsCaused-decided words before after status (by_sample h) asks left =
+    let clash : Book asks.command ≡ Sample h.size = one_task words (Book asks.command) (Sample h.size) asks.asked h.asked in cc
+IsCaused-decided words before after status (by_desk h) asks left =
+    let clash : Book asks.command ≡ Desk h.store = one_task words (Book asks.command) (Desk h.store) asks.asked h.asked in cc
+IsCaused-decided words before after status (by_door ten rose) asks left = let clash : statuses.Undecided ≡ statuses.DoorFault = sym left ∙ ten in cc
+IsCaused-decided words before after status (by_service h) asks left =
+    let clash : Book asks.command ≡ Serve h.service = one_task words (Book asks.command) (Serve h.service) asks.asked h.asked in cc
+IsCaused-decided words before after status (by_rejudge h) asks left =
+    let clash : Book asks.command ≡ Rejudge h.rejudging = one_task words (Book asks.command) (Rejudge h.rejudging) asks.asked h.asked in cc

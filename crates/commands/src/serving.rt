@@ -1,0 +1,206 @@
+//! The run of a desk whose connections come from a door.
+ghost use Rattle.std.specs.Prelude.{◌≡◌, [], ◌∷◌, ◌++◌, IfOk, OnOk, map};
+ghost use Rattle.pb_outside.specs.Files.{FilesTold};
+ghost use Rattle.pb_outside.specs.Source.{SourceTold};
+ghost use Rattle.commands.specs.Outside.{KeeperTold, keeps, opens, outside};
+ghost use Rattle.commands.specs.Serves.{NotesLinks, RunsService, ServesDoor, count_notes, counts_reply, counts_text, door_fault_reply, end_reply, link_notes, port_notes};
+ghost use Rattle.book_commands.specs.declared.log.Note.TheVariants.{Count};
+ghost use Rattle.serve_run.specs.declared.end.ServeEnd.{ServeEnd};
+
+use crate::desk::tell_start;
+use crate::run_end::RunEnd;
+use crate::service::Service;
+use book_commands::{Note, Object, RunLog, RunReply, RunStatus, tell_made};
+use desk_run::MOST_STEPS;
+use desk_words::put_number;
+use keeper::Keeper;
+use order_desk::{Desk, DeskCounts, NotStarted};
+use pb_base::{Memory, Text};
+use pb_door::Door;
+use pb_gate::Gate;
+use pb_outside::{OutError, Sink};
+use serve_run::{ServeEnd, Served, serve};
+use serve_work::WorkEnd;
+use session::SessionEnd;
+use std::alloc::Global;
+use std::sync::Wait;
+use std::thread::Threads;
+
+/// Starts the desk whose rows the keeper has in the service's store, has the workers serve the links of the door, and tells how
+/// that ended. The source and the files are not touched.
+pub fn run_service<R: Threads + Wait + Sync, K: Sink, P: Keeper + Send, D: Door, G: Gate + Sync>(
+    rt: &R,
+    alloc: Global,
+    service: &Service,
+    sink: &mut K,
+    keeper: P,
+    door: &mut D,
+    gate: &G,
+    log: &mut RunLog,
+) -> RunEnd<P>
+    requires named { P.may_begin keeper service.now.store }
+    ensures { (source : SourceTold) → (files : FilesTold) →
+        let kept = keeps (P.told keeper) (P.failures keeper) in
+        let kept' = keeps (P.told result.keeper) (P.failures result.keeper) in
+        let door' = opens (D.told door.new) (D.faultless door.new) in
+        let before = outside source files (K.output sink.old) log.old kept
+        (opens (D.told door.old) (D.faultless door.old)) in
+        let after = outside source files (K.output sink.new) log.new kept' door' in
+        RunsService service.now before after result.status }
+{
+    match Desk::start(alloc, keeper, service.store()) {
+        Ok(desk) => serve_door(rt, alloc, service, desk, sink, door, gate, log),
+        Err(NotStarted { why, keeper }) => RunEnd {
+            status: tell_start(alloc, &why, sink, log),
+            keeper,
+        },
+    }
+}
+
+// Serves the door by a desk, tells how that ended, and finishes the desk.
+fn serve_door<R: Threads + Wait + Sync, K: Sink, P: Keeper + Send, D: Door, G: Gate + Sync>(
+    rt: &R,
+    alloc: Global,
+    service: &Service,
+    desk: Desk<P>,
+    sink: &mut K,
+    door: &mut D,
+    gate: &G,
+    log: &mut RunLog,
+) -> RunEnd<P>
+    ensures { (source : SourceTold) → (files : FilesTold) → (kept : KeeperTold) →
+        let kept' = keeps (P.told result.keeper) (P.failures result.keeper) in
+        let door' = opens (D.told door.new) (D.faultless door.new) in
+        let before = outside source files (K.output sink.old) log.old kept
+        (opens (D.told door.old) (D.faultless door.old)) in
+        let after = outside source files (K.output sink.new) log.new kept' door' in
+        (how : ServeEnd) × ServesDoor how desk service.now before after result.status }
+{
+    let first = door.faults();
+    let Served { how, desk, faults } = serve(
+        rt,
+        alloc,
+        desk,
+        MOST_STEPS,
+        door,
+        service.port(),
+        service.workers(),
+        service.links(),
+        gate,
+    );
+    note_links(alloc, &faults, log);
+    let reply = end_reply(alloc, how, desk.counts(), first, door.faults());
+    RunEnd {
+        status: tell_made(reply, sink, log),
+        keeper: desk.finish(),
+    }
+}
+
+// Notes the counts of the links that failed, if there is memory for all of them.
+fn note_links(alloc: Global, faults: &[Vec<SessionEnd>], log: &mut RunLog)
+    ensures { NotesLinks (map (λ f. f.items) faults.now) log.old log.new }
+{
+    if let Ok(notes) = notes_of(alloc, faults) {
+        let _noted = log.append(notes);
+    }
+}
+
+fn notes_of(alloc: Global, faults: &[Vec<SessionEnd>]) -> Result<Vec<Note>, Memory>
+    ensures { IfOk result (λ notes. notes.items ≡ link_notes (map (λ f. f.items) faults.now)) }
+{
+    let mut notes = Vec::new(alloc);
+    for ends in faults {
+        put_notes(&mut notes, ends)?;
+    }
+    Ok(notes)
+}
+
+fn put_notes(notes: &mut Vec<Note>, ends: &[SessionEnd]) -> Result<(), Memory>
+    ensures { OnOk result (notes.new.items ≡ notes.old.items ++ port_notes ends.now) }
+{
+    for end in ends {
+        put_note(notes, *end)?;
+    }
+    Ok(())
+}
+
+fn put_note(notes: &mut Vec<Note>, end: SessionEnd) -> Result<(), Memory>
+    ensures { OnOk result (notes.new.items ≡ notes.old.items ++ count_notes end) }
+{
+    match end {
+        SessionEnd::ReadFault(fault) => {
+            put_count(notes, Object::Source, fault.before, fault.after)
+        }
+        SessionEnd::WriteFault(fault) => put_count(notes, Object::Sink, fault.before, fault.after),
+        SessionEnd::Done => Ok(()),
+        SessionEnd::Broken => Ok(()),
+        SessionEnd::Memory => Ok(()),
+    }
+}
+
+fn put_count(notes: &mut Vec<Note>, which: Object, before: u64, after: u64) -> Result<(), Memory>
+    ensures { let note = Count which before after in
+        OnOk result (notes.new.items ≡ notes.old.items ++ note ∷ []) }
+{
+    notes.push(Note::Count {
+        which,
+        before,
+        after,
+    })?;
+    Ok(())
+}
+
+// What is told of the end, with what the desk keeps then and the door's counts of faults.
+fn end_reply(
+    alloc: Global,
+    how: ServeEnd,
+    kept: DeskCounts,
+    first: u64,
+    last: u64,
+) -> Result<RunReply, Memory>
+    ensures { IfOk result (λ reply. reply
+        ≡ end_reply how kept.drafts kept.books kept.orders first last) }
+{
+    match how {
+        ServeEnd::Closed(OutError::Failed) => door_fault_reply(alloc, first, last),
+        ServeEnd::Closed(OutError::Memory) => Err(Memory),
+        ServeEnd::NoWorkers => Err(Memory),
+        ServeEnd::Worked(WorkEnd::Over) => counts_reply(alloc, kept),
+        ServeEnd::Worked(WorkEnd::Fault) => door_fault_reply(alloc, first, last),
+        ServeEnd::Worked(WorkEnd::Memory) => Err(Memory),
+    }
+}
+
+fn door_fault_reply(alloc: Global, first: u64, last: u64) -> Result<RunReply, Memory>
+    ensures { IfOk result (λ reply. reply ≡ door_fault_reply first last) }
+{
+    let mut text = Text::new(alloc);
+    text.put(b"door fault\n")?;
+    let note = Note::Count {
+        which: Object::Door,
+        before: first,
+        after: last,
+    };
+    RunReply::noted(alloc, text.into_body(), RunStatus::DoorFault, note)
+}
+
+fn counts_reply(alloc: Global, kept: DeskCounts) -> Result<RunReply, Memory>
+    ensures { IfOk result (λ reply. reply ≡ counts_reply kept.drafts kept.books kept.orders) }
+{
+    let mut text = Text::new(alloc);
+    put_counts(&mut text, kept)?;
+    Ok(RunReply::plain(alloc, text.into_body(), RunStatus::Done))
+}
+
+// `drafts D books B orders O`.
+fn put_counts(text: &mut Text, kept: DeskCounts) -> Result<(), Memory>
+    ensures { OnOk result (text.new ≡ text.old ++ counts_text kept.drafts kept.books kept.orders) }
+{
+    text.put(b"drafts")?;
+    put_number(text, u64::from(kept.drafts))?;
+    text.put(b" books")?;
+    put_number(text, u64::from(kept.books))?;
+    text.put(b" orders")?;
+    put_number(text, u64::from(kept.orders))?;
+    text.put(b"\n")
+}
