@@ -1,6 +1,7 @@
 //! Goes through the sections of a text of cases, and does the runs of each case.
 
 use crate::case::Case;
+use crate::door::SaidLink;
 use crate::line::put_lines;
 use crate::named_text::{NamedText, has_name};
 use crate::piece::put_piece;
@@ -13,6 +14,8 @@ use keeper::{MemoryKeeper, Rows};
 use pb_base::{Memory, Text};
 use std::alloc::Global;
 use std::mem;
+use std::sync::Wait;
+use std::thread::Threads;
 
 /// What was read of the cases so far, and what is to be told of them.
 #[derive(Drop)]
@@ -49,9 +52,13 @@ impl<'a> Bench<'a> {
     }
 
     /// Does all cases of a text, also where one alone is told of, since it may take up what those before it leave.
-    pub fn take_cases(&mut self, cases: &'a str) -> Result<(), Memory> {
+    pub fn take_cases<R: Threads + Wait + Sync>(
+        &mut self,
+        rt: &R,
+        cases: &'a str,
+    ) -> Result<(), Memory> {
         let sections = sections_of(self.alloc, cases)?;
-        self.take_all(&sections)
+        self.take_all(rt, &sections)
     }
 
     /// What is told of the cases.
@@ -59,17 +66,25 @@ impl<'a> Bench<'a> {
         &self.report
     }
 
-    fn take_all(&mut self, sections: &[Section<'a>]) -> Result<(), Memory> {
+    fn take_all<R: Threads + Wait + Sync>(
+        &mut self,
+        rt: &R,
+        sections: &[Section<'a>],
+    ) -> Result<(), Memory> {
         for section in sections {
-            self.take(section)?;
+            self.take(rt, section)?;
         }
-        self.end_case()?;
+        self.end_case(rt)?;
         self.report.put_end()
     }
 
-    fn take(&mut self, section: &Section<'a>) -> Result<(), Memory> {
+    fn take<R: Threads + Wait + Sync>(
+        &mut self,
+        rt: &R,
+        section: &Section<'a>,
+    ) -> Result<(), Memory> {
         if section.opens_case {
-            return self.open_case(section.head);
+            return self.open_case(rt, section.head);
         }
         match said_by(section.head) {
             Some(said) => self.take_said(&said, &section.lines),
@@ -77,8 +92,8 @@ impl<'a> Bench<'a> {
         }
     }
 
-    fn open_case(&mut self, name: &'a str) -> Result<(), Memory> {
-        self.end_case()?;
+    fn open_case<R: Threads + Wait + Sync>(&mut self, rt: &R, name: &'a str) -> Result<(), Memory> {
+        self.end_case(rt)?;
         self.case = Case::new(self.alloc, name);
         self.rows = no_rows(self.alloc);
         Ok(())
@@ -122,6 +137,20 @@ impl<'a> Bench<'a> {
                 Ok(())
             }
             Some(Goal::File(name)) => Ok(self.case.files.push(NamedText { name, text })?),
+            Some(
+                Goal::Link {
+                    port,
+                    read_fails,
+                    write_fails,
+                },
+            ) => Ok(
+                self.case.links.push(SaidLink {
+                    port,
+                    read_fails,
+                    write_fails,
+                    text,
+                })?,
+            ),
             None => Ok(()),
         }
     }
@@ -134,7 +163,7 @@ impl<'a> Bench<'a> {
     }
 
     // Does the runs of the case, and tells of what came out of them.
-    fn end_case(&mut self) -> Result<(), Memory> {
+    fn end_case<R: Threads + Wait + Sync>(&mut self, rt: &R) -> Result<(), Memory> {
         self.end_text()?;
         if self.case.is_blank() {
             return Ok(());
@@ -142,11 +171,16 @@ impl<'a> Bench<'a> {
         let rows = mem::replace(&mut self.rows, no_rows(self.alloc));
         let mut store = MemoryKeeper::new(rows, Vec::new(self.alloc));
         let mut came = Text::new(self.alloc);
-        self.run_case(&mut store, &mut came)
+        self.run_case(rt, &mut store, &mut came)
     }
 
-    fn run_case(&mut self, store: &mut MemoryKeeper, came: &mut Text) -> Result<(), Memory> {
-        put_runs(self.alloc, came, &self.case, store, &mut self.taken)?;
+    fn run_case<R: Threads + Wait + Sync>(
+        &mut self,
+        rt: &R,
+        store: &mut MemoryKeeper,
+        came: &mut Text,
+    ) -> Result<(), Memory> {
+        put_runs(rt, self.alloc, came, &self.case, store, &mut self.taken)?;
         self.kept = rows_of(self.alloc, store)?;
         self.report.put_case(&self.case, came.bytes())
     }

@@ -1,5 +1,6 @@
 //! What is said of a case.
 
+use crate::door::{PortFails, SaidLink};
 use crate::named_text::NamedText;
 use crate::said::number_in;
 use crate::setting::Setting;
@@ -29,6 +30,9 @@ pub struct Case<'a> {
     pub files_fails: Vec<u64>,
     pub sink_fails: Vec<u64>,
     pub keeper_fails: Vec<u64>,
+    pub links: Vec<SaidLink<'a>>,
+    pub door_fails: Vec<u64>,
+    pub port_fails: Vec<PortFails<'a>>,
     /// How many bytes of what the sink took are shown.
     pub shown: u64,
     /// Whether the sets of findings are shown.
@@ -47,6 +51,8 @@ pub enum Inputs {
     CutEverywhere,
     /// Each front of the input.
     EndedEverywhere,
+    /// Each front of each message of the input, over the rows that the messages before it left.
+    MessagesEnded,
 }
 
 impl<'a> Case<'a> {
@@ -65,6 +71,9 @@ impl<'a> Case<'a> {
             files_fails: Vec::new(alloc),
             sink_fails: Vec::new(alloc),
             keeper_fails: Vec::new(alloc),
+            links: Vec::new(alloc),
+            door_fails: Vec::new(alloc),
+            port_fails: Vec::new(alloc),
             shown: AMPLE_ROOM,
             shows_sets: true,
             shows_rest: true,
@@ -86,9 +95,17 @@ impl<'a> Case<'a> {
     }
 
     /// Takes what holds for all its runs.
-    pub fn set(&mut self, setting: &Setting<'_>) -> Result<(), Memory> {
+    pub fn set(&mut self, setting: &Setting<'a>) -> Result<(), Memory> {
         match setting {
             Setting::Fails(object, numbers) => return self.fail(*object, numbers),
+            Setting::PortFails { port, fails } => {
+                return Ok(
+                    self.port_fails.push(PortFails {
+                        port: *port,
+                        fails: *fails,
+                    })?,
+                );
+            }
             Setting::Pieces(lengths) => return self.part(lengths),
             Setting::Room(room) => self.room = *room,
             Setting::Shown(count) => self.shown = *count,
@@ -96,6 +113,7 @@ impl<'a> Case<'a> {
             Setting::AnyRest => self.shows_rest = false,
             Setting::CutEverywhere => self.inputs = Inputs::CutEverywhere,
             Setting::EndedEverywhere => self.inputs = Inputs::EndedEverywhere,
+            Setting::MessagesEnded => self.inputs = Inputs::MessagesEnded,
         }
         Ok(())
     }
@@ -107,8 +125,7 @@ impl<'a> Case<'a> {
             Object::Files => put_numbers(&mut self.files_fails, numbers),
             Object::Sink => put_numbers(&mut self.sink_fails, numbers),
             Object::Keeper => put_numbers(&mut self.keeper_fails, numbers),
-            // No command has a door yet.
-            Object::Door => Ok(()),
+            Object::Door => put_numbers(&mut self.door_fails, numbers),
         }
     }
 
@@ -123,7 +140,8 @@ impl<'a> Case<'a> {
     }
 }
 
-fn put_numbers(numbers: &mut Vec<u64>, words: &str) -> Result<(), Memory> {
+/// Puts the numbers that these words are behind others.
+pub fn put_numbers(numbers: &mut Vec<u64>, words: &str) -> Result<(), Memory> {
     for word in words.split(' ') {
         if let Some(number) = number_in(word) {
             numbers.push(number)?;

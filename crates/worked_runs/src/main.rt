@@ -3,8 +3,11 @@
 
 mod bench;
 mod case;
+mod compare_line;
+mod door;
 mod escape;
 mod line;
+mod messages;
 mod named_text;
 mod note_line;
 mod outcome;
@@ -25,6 +28,8 @@ use crate::bench::Bench;
 use pb_outside::{OutError, Sink, Source, StreamSink, StreamSource, read_up_to};
 use std::alloc::Global;
 use std::process::ExitCode;
+use std::sync::Wait;
+use std::thread::Threads;
 use std::{env, io};
 
 // The text of all cases is far shorter.
@@ -37,7 +42,7 @@ fn main(rt: HostRuntime) -> ExitCode {
     let Ok(name) = asked_name(&rt) else {
         return ExitCode::FAILURE;
     };
-    match tell(alloc, &name, &mut source, &mut sink) {
+    match tell(&rt, alloc, &name, &mut source, &mut sink) {
         Ok(true) => ExitCode::SUCCESS,
         Ok(false) | Err(_) => ExitCode::FAILURE,
     }
@@ -58,7 +63,8 @@ fn asked_name(rt: &HostRuntime) -> io::Result<String> {
 }
 
 // Tells of the cases that a source gives, and says whether each came out as it says.
-fn tell<S: Source, K: Sink>(
+fn tell<R: Threads + Wait + Sync, S: Source, K: Sink>(
+    rt: &R,
     alloc: Global,
     name: &str,
     source: &mut S,
@@ -68,15 +74,16 @@ fn tell<S: Source, K: Sink>(
     let cases = read_up_to(alloc, source, MOST_BYTES)?;
     let cases = str::from_utf8(&cases).unwrap_or("");
     let mut bench = Bench::new(alloc, only);
-    tell_of(&mut bench, cases, sink)
+    tell_of(rt, &mut bench, cases, sink)
 }
 
-fn tell_of<'a, K: Sink>(
+fn tell_of<'a, R: Threads + Wait + Sync, K: Sink>(
+    rt: &R,
     bench: &mut Bench<'a>,
     cases: &'a str,
     sink: &mut K,
 ) -> Result<bool, OutError> {
-    bench.take_cases(cases)?;
+    bench.take_cases(rt, cases)?;
     sink.write(bench.report().bytes())?;
     Ok(bench.report().is_good())
 }

@@ -1,5 +1,6 @@
 //! The notes of a run, a line each.
 
+use crate::compare_line::put_compare;
 use crate::supplement_line::put_supplement;
 use clausify::Question;
 use commands::Note;
@@ -43,6 +44,7 @@ pub fn put_note(text: &mut Text, note: &Note) -> Result<(), Memory> {
         }
         Note::Cert(fault) => put_numbers(text, "certificate", &[fault.line]),
         Note::Supplement(told) => put_supplement(text, told),
+        Note::Compare(told) => put_compare(text, told),
         Note::Count {
             which,
             before,

@@ -1,6 +1,7 @@
 //! A run of a case, and what came out of it.
 
 use crate::case::Case;
+use crate::door::put_links;
 use crate::escape::put_shown;
 use crate::note_line::put_note;
 use crate::outside::{Outside, bytes_left, outside_of};
@@ -9,9 +10,16 @@ use crate::run_words::words_of;
 use commands::{Note, RunEnd, RunStatus, run_given};
 use keeper::{Keeper, MemoryKeeper, Rows};
 use pb_base::{Memory, Text};
+use pb_door::Door;
 use pb_gate::NoGate;
 use pb_outside::{Files, Sink, Source};
 use std::alloc::Global;
+use std::sync::Wait;
+use std::thread::Threads;
+
+// How a message is answered that ends inside its head.
+const BAD_REQUEST: &[u8] =
+    b"HTTP/1.1 400 Bad Request\r\nContent-Type: text/plain\r\nContent-Length: 12\r\nConnection: close\r\n\r\nbad request\n";
 
 /// What came out of a run: its status, how often its keeper failed, the rows of the store, and how what it was handed is left.
 #[derive(Drop)]
@@ -23,7 +31,8 @@ pub struct Outcome {
 }
 
 /// Does a run of the case with the words of this line, on this input in these pieces, over the rows of the store.
-pub fn outcome_of(
+pub fn outcome_of<R: Threads + Wait + Sync>(
+    rt: &R,
     alloc: Global,
     case: &Case<'_>,
     line: &str,
@@ -32,11 +41,12 @@ pub fn outcome_of(
     store: &mut MemoryKeeper,
 ) -> Result<Outcome, Memory> {
     let mut outside = outside_of(alloc, case, input, pieces)?;
-    let end = end_of(alloc, case, line, &mut outside, store)?;
+    let end = end_of(rt, alloc, case, line, &mut outside, store)?;
     outcome_from(alloc, outside, end)
 }
 
-fn end_of(
+fn end_of<R: Threads + Wait + Sync>(
+    rt: &R,
     alloc: Global,
     case: &Case<'_>,
     line: &str,
@@ -46,12 +56,14 @@ fn end_of(
     let words = words_of(alloc, line)?;
     let keeper = keeper_of(alloc, case, store)?;
     Ok(run_given(
+        rt,
         alloc,
         words,
         &mut outside.source,
         &mut outside.sink,
         &mut outside.files,
         keeper,
+        &mut outside.door,
         &NoGate,
         &mut outside.log,
     ))
@@ -91,6 +103,7 @@ pub fn put_outcome(
     let taken = outcome.taken();
     let shown = taken.get(..case.shown as usize).unwrap_or(taken);
     put_taken(text, case, shown)?;
+    put_links(text, &outcome.outside.door)?;
     put_notes(text, outcome.outside.log.notes())?;
     put_status(text, outcome.status)?;
     put_faults(text, &outcome.faults())?;
@@ -101,10 +114,37 @@ pub fn put_outcome(
     put_rows_line(text, &outcome.rows)
 }
 
+/// How a run on a front of a message came out.
+#[derive(Clone, Copy)]
+pub enum Front {
+    /// It is done: the front is the whole message.
+    Whole,
+    /// It ended with 3 and the answer 400 alone.
+    InHead,
+    /// It ended with 3 and no answer.
+    InBody,
+    Otherwise,
+}
+
 impl Outcome {
     /// What the sink took.
     pub fn taken(&self) -> &[u8] {
         self.outside.sink.taken()
+    }
+
+    /// How the run came out, where its input was a front of a message.
+    pub fn front(&self) -> Front {
+        match self.status {
+            RunStatus::Done => Front::Whole,
+            RunStatus::Faulty if self.taken() == BAD_REQUEST => Front::InHead,
+            RunStatus::Faulty if self.taken().is_empty() => Front::InBody,
+            _ => Front::Otherwise,
+        }
+    }
+
+    /// The rows of the store.
+    pub fn rows(&self) -> &Rows {
+        &self.rows
     }
 
     /// The rows of the store.
@@ -112,13 +152,14 @@ impl Outcome {
         self.rows
     }
 
-    // How often source, files, sink and keeper failed.
-    fn faults(&self) -> [u64; 4] {
+    // How often source, files, sink, keeper and door failed.
+    fn faults(&self) -> [u64; 5] {
         [
             self.outside.source.read_faults(),
             self.outside.files.faults(),
             self.outside.sink.write_faults(),
             self.keeper_faults,
+            self.outside.door.faults(),
         ]
     }
 }
@@ -159,12 +200,13 @@ fn put_without_sets(text: &mut Text, report: &str) -> Result<(), Memory> {
     Ok(())
 }
 
-fn put_faults(text: &mut Text, faults: &[u64; 4]) -> Result<(), Memory> {
-    let [source, files, sink, keeper] = *faults;
+fn put_faults(text: &mut Text, faults: &[u64; 5]) -> Result<(), Memory> {
+    let [source, files, sink, keeper, door] = *faults;
     put_count(text, "source failed ", source)?;
     put_count(text, "files failed ", files)?;
     put_count(text, "sink failed ", sink)?;
-    put_count(text, "keeper failed ", keeper)
+    put_count(text, "keeper failed ", keeper)?;
+    put_count(text, "door failed ", door)
 }
 
 // Puts a line with this front and a count, where the count isn't 0.

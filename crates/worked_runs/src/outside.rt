@@ -1,9 +1,11 @@
 //! What a run is handed from outside.
 
 use crate::case::Case;
+use crate::door::door_of;
 use crate::named_text::NamedText;
 use commands::RunLog;
 use pb_base::Memory;
+use pb_door::MemoryDoor;
 use pb_outside::{MemoryFiles, MemorySink, MemorySource, NamedFile, OutError, read_up_to};
 use std::alloc::Global;
 
@@ -16,6 +18,7 @@ pub struct Outside {
     pub source: MemorySource,
     pub files: MemoryFiles,
     pub sink: MemorySink,
+    pub door: MemoryDoor,
     pub log: RunLog,
 }
 
@@ -30,6 +33,7 @@ pub fn outside_of(
         source: source_of(alloc, case, input, pieces)?,
         files: files_of(alloc, case)?,
         sink: sink_of(alloc, case)?,
+        door: door_of(alloc, case)?,
         log: RunLog::new(alloc),
     })
 }

@@ -1,6 +1,8 @@
 //! The rows of a store, as a case says them.
 
+use crate::line::put_line;
 use crate::named_text::{NamedText, text_of};
+use crate::note_line::put_numbers;
 use crate::said::{cut, number_in};
 use keeper::{BookRow, DraftRow, Keeper, MemoryKeeper, OrderRow, Rows};
 use pb_base::{Body, Memory, Text};
@@ -271,6 +273,44 @@ pub fn rows_of(alloc: Global, keeper: &mut MemoryKeeper) -> Result<Rows, Memory>
         Err(OutError::Failed) => Ok(no_rows(alloc)),
         Err(OutError::Memory) => Err(Memory),
     }
+}
+
+/// Puts all that the rows of a store have behind a text.
+pub fn put_all_rows(text: &mut Text, rows: &Rows) -> Result<(), Memory> {
+    put_rows_line(text, rows)?;
+    for draft in &rows.drafts {
+        put_draft_row(text, draft)?;
+    }
+    for book in &rows.books {
+        put_book_row(text, book)?;
+    }
+    for order in &rows.orders {
+        put_order_row(text, order)?;
+    }
+    for number in &rows.withdrawn {
+        put_numbers(text, "withdrawn", &[*number])?;
+    }
+    Ok(())
+}
+
+fn put_draft_row(text: &mut Text, row: &DraftRow) -> Result<(), Memory> {
+    put_numbers(text, "draft", &[row.revision])?;
+    put_line(text, row.name.as_slice())?;
+    put_line(text, row.owner.as_slice())?;
+    put_line(text, row.text.as_slice())
+}
+
+fn put_book_row(text: &mut Text, row: &BookRow) -> Result<(), Memory> {
+    put_numbers(text, "book", &[row.number, row.revision])?;
+    put_line(text, row.draft.as_slice())?;
+    put_line(text, row.text.as_slice())?;
+    put_line(text, row.cert.as_slice())
+}
+
+fn put_order_row(text: &mut Text, row: &OrderRow) -> Result<(), Memory> {
+    put_numbers(text, "order", &[row.number, row.book, row.day])?;
+    put_line(text, row.caller.as_slice())?;
+    put_line(text, row.codes.as_slice())
 }
 
 /// Puts a line with the form of a store and how many rows each table has, where it has a form.

@@ -2,15 +2,19 @@
 
 use crate::case::{Case, Inputs};
 use crate::line::put_line_with;
+use crate::messages::put_messages;
 use crate::outcome::{Outcome, outcome_of, put_outcome};
 use crate::series::put_series;
 use keeper::MemoryKeeper;
 use pb_base::{Memory, Text};
 use std::alloc::Global;
+use std::sync::Wait;
+use std::thread::Threads;
 
 /// Does the runs of a case, each over the rows that the one before it left in the store, and puts what came out of them behind a
 /// text. `taken` is what the sink took in the last run.
-pub fn put_runs(
+pub fn put_runs<R: Threads + Wait + Sync>(
+    rt: &R,
     alloc: Global,
     text: &mut Text,
     case: &Case<'_>,
@@ -20,16 +24,18 @@ pub fn put_runs(
     for line in &case.runs {
         put_line_with(text, "$ ", line.as_bytes())?;
         match case.inputs {
-            Inputs::Whole => put_run(alloc, text, case, line, store, taken)?,
+            Inputs::Whole => put_run(rt, alloc, text, case, line, store, taken)?,
             Inputs::CutEverywhere | Inputs::EndedEverywhere => {
-                put_series(alloc, text, case, line, store)?;
+                put_series(rt, alloc, text, case, line, store)?;
             }
+            Inputs::MessagesEnded => put_messages(rt, alloc, text, case, line, store)?,
         }
     }
     Ok(())
 }
 
-fn put_run(
+fn put_run<R: Threads + Wait + Sync>(
+    rt: &R,
     alloc: Global,
     text: &mut Text,
     case: &Case<'_>,
@@ -38,7 +44,7 @@ fn put_run(
     taken: &mut Vec<u8>,
 ) -> Result<(), Memory> {
     let input = case.input.bytes();
-    let mut outcome = outcome_of(alloc, case, line, input, &case.pieces, store)?;
+    let mut outcome = outcome_of(rt, alloc, case, line, input, &case.pieces, store)?;
     put_told(alloc, text, case, &mut outcome, taken)?;
     *store = MemoryKeeper::new(outcome.into_rows(), Vec::new(alloc));
     Ok(())

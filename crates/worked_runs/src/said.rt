@@ -34,6 +34,12 @@ pub enum Goal<'a> {
     Input,
     /// A file of the case has it.
     File(&'a str),
+    /// A link of this port gives it, of which these reads and these writes fail.
+    Link {
+        port: u64,
+        read_fails: &'a str,
+        write_fails: &'a str,
+    },
 }
 
 /// What a head says, or None where it is of no form.
@@ -43,11 +49,22 @@ pub fn said_by(head: &str) -> Option<Said<'_>> {
         "text" => Some(Said::Begins(Goal::Named(rest))),
         "input" => Some(Said::Begins(Goal::Input)),
         "file" => Some(Said::Begins(Goal::File(rest))),
+        "link" => link_in(rest),
         "words" => Some(Said::Words),
         "comes" => Some(Said::Comes),
         "kept_store" => Some(Said::KeptStore),
         _ => row_or_setting_in(key, rest),
     }
+}
+
+fn link_in(rest: &str) -> Option<Said<'_>> {
+    let (port, fails) = cut(rest);
+    let (read_fails, write_fails) = fails.split_once('/').unwrap_or((fails, ""));
+    Some(Said::Begins(Goal::Link {
+        port: number_in(port)?,
+        read_fails,
+        write_fails,
+    }))
 }
 
 fn row_or_setting_in<'a>(key: &str, rest: &'a str) -> Option<Said<'a>> {

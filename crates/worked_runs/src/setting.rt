@@ -8,6 +8,8 @@ use commands::Object;
 pub enum Setting<'a> {
     /// The calls of these numbers on this object fail, counted from 0.
     Fails(Object, &'a str),
+    /// The calls of these numbers for the next link fail at this port.
+    PortFails { port: u64, fails: &'a str },
     /// The source gives its bytes in pieces of these lengths, and then as many as it may.
     Pieces(&'a str),
     /// The sink has room for so many bytes.
@@ -22,6 +24,8 @@ pub enum Setting<'a> {
     CutEverywhere,
     /// Each run is made once for each front of the input.
     EndedEverywhere,
+    /// Each run is made once for each front of each message of the input, over the rows that the messages before it left.
+    MessagesEnded,
 }
 
 /// What a head sets, or None where it sets nothing.
@@ -35,18 +39,31 @@ pub fn setting_in<'a>(key: &str, rest: &'a str) -> Option<Setting<'a>> {
         "any_rest" => Some(Setting::AnyRest),
         "cut_everywhere" => Some(Setting::CutEverywhere),
         "ended_everywhere" => Some(Setting::EndedEverywhere),
+        "messages_ended" => Some(Setting::MessagesEnded),
         _ => None,
     }
 }
 
 fn fails_in(rest: &str) -> Option<Setting<'_>> {
     let (object, numbers) = cut(rest);
+    if object == "port" {
+        return port_in(numbers);
+    }
     let object = match object {
         "source" => Object::Source,
         "files" => Object::Files,
         "sink" => Object::Sink,
         "keeper" => Object::Keeper,
+        "door" => Object::Door,
         _ => return None,
     };
     Some(Setting::Fails(object, numbers))
+}
+
+fn port_in(rest: &str) -> Option<Setting<'_>> {
+    let (port, fails) = cut(rest);
+    Some(Setting::PortFails {
+        port: number_in(port)?,
+        fails,
+    })
 }
