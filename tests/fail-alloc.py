@@ -9,7 +9,8 @@ it gives with ample memory, or say that memory was wanting, and nothing else: no
 desk more is asked: each request has its own answer or that of want of memory; the rows that are left are those that the
 requests make of which none that was answered otherwise is left out, and of those that were answered by want of memory at most
 one is in them; and a desk starts over them. Which answers and rows these are is told by the program itself, run with ample
-memory over just those requests.
+memory over just those requests. A service has two workers and two links, and the requests come over both. Where the orders of
+a store are judged again, its rows are as before.
 
 It isn't part of the gate. It needs the built program, cc and python3. The status is 1 where a run gives something else."""
 
@@ -18,6 +19,7 @@ import collections
 import concurrent.futures
 import os
 import shutil
+import socket
 import subprocess
 import sys
 import tempfile
@@ -25,6 +27,7 @@ import threading
 import time
 
 from desk_stream import PROGRAM, TOP, NotWhole, example, request, rows_left, rows_of, split_messages, work_place
+from service import Broken, Gone, Service
 
 WANT = b"want of memory\n"
 WANT_STATUS = 9
@@ -37,12 +40,16 @@ def without(text, start):
     return b"".join(line for line in text.splitlines(True) if not line.startswith(start))
 
 
+def refusal_of(number, way):
+    return {"REFUSE_AT": str(number), **({"REFUSE_REST": "1"} if way == "rest" else {})}
+
+
 class Machine:
     """Runs the program with growths refused."""
 
     def __init__(self, program, work):
         self.program, self.work = program, work
-        self.library = os.path.join(work, "fail_alloc.so")
+        self.library, self.counter = os.path.join(work, "fail_alloc.so"), os.path.join(work, "count")
         source = os.path.join(TOP, "tests", "fail_alloc.c")
         subprocess.run(["cc", "-O2", "-Wall", "-shared", "-fPIC", "-o", self.library, source], check=True)
 
@@ -52,15 +59,16 @@ class Machine:
         return Run(done.returncode, done.stdout, done.stderr)
 
     def refused(self, words, given, number, way):
-        rest = {"REFUSE_REST": "1"} if way == "rest" else {}
-        return self.run(words, given, REFUSE_AT=str(number), **rest)
+        return self.run(words, given, **refusal_of(number, way))
 
     def count(self, words, given):
         """How many growths a run with ample memory asks for, and that run."""
-        path = os.path.join(self.work, "count")
-        run = self.run(words, given, REFUSE_COUNT=path)
-        with open(path) as file:
-            return int(file.read()), run
+        run = self.run(words, given, REFUSE_COUNT=self.counter)
+        return self.counted(), run
+
+    def counted(self):
+        with open(self.counter, "rb") as file:
+            return int.from_bytes(file.read(), sys.byteorder)
 
 
 class Command:
@@ -76,6 +84,36 @@ class Command:
 
     def try_one(self, number, way):
         run = self.machine.refused(self.words, self.given, number, way)
+        if run == self.whole:
+            return "as with ample memory"
+        if run == Run(WANT_STATUS, WANT, b""):
+            return "want of memory"
+        raise Wrong(run)
+
+
+class Rejudge(Command):
+    """A command over a store, which it leaves as it is."""
+
+    def __init__(self, machine, kept, words, status):
+        super().__init__(machine, words, b"", status)
+        self.kept, self.rows = kept, rows_of(kept)
+
+    def over_copy(self, run):
+        """What a run over a copy of the store gives, and then the rows of the copy."""
+        with tempfile.TemporaryDirectory(dir=self.machine.work) as folder:
+            store = os.path.join(folder, "desk.db")
+            shutil.copyfile(self.kept, store)
+            return run([self.words[0], store, *self.words[1:]]), rows_left(store)
+
+    def begin(self):
+        (self.calls, self.whole), rows = self.over_copy(lambda words: self.machine.count(words, b""))
+        if self.whole.status != self.status or rows != self.rows:
+            raise SystemExit(f"fail-alloc: {self.words} ends with {self.whole.status} when memory is ample")
+
+    def try_one(self, number, way):
+        run, rows = self.over_copy(lambda words: self.machine.refused(words, b"", number, way))
+        if rows != self.rows:
+            raise Wrong(run, "rows", rows)
         if run == self.whole:
             return "as with ample memory"
         if run == Run(WANT_STATUS, WANT, b""):
@@ -123,10 +161,13 @@ class Desk:
                 shutil.rmtree(folder)
             return self.references[done]
 
+    def run_refused(self, store, refusal):
+        return self.machine.run(["desk", store], self.stream, **refusal)
+
     def try_one(self, number, way):
         folder, store = self.folder()
         try:
-            run = self.machine.refused(["desk", store], self.stream, number, way)
+            run = self.run_refused(store, refusal_of(number, way))
             left = rows_left(store)
             again = self.machine.run(["desk", store], b"")
             if again != Run(0, b"", b""):
@@ -165,6 +206,81 @@ class Desk:
                 return "want of memory as an answer" + (", then the end" if run.status == WANT_STATUS else "") + (
                     ", and it was done" if done != kept else "")
         raise Wrong(run, "rows or answers", left, rows)
+
+
+class Serve(Desk):
+    """A service with two workers and two links: some of the messages come over the first, the others then over the second."""
+
+    def __init__(self, machine, messages, kept=None):
+        super().__init__(machine, messages, kept)
+        self.half = len(messages) // 2
+
+    def serve(self, store, **refusal):
+        """How the service ended, and the answers over each link."""
+        settings = dict(os.environ, LD_PRELOAD=self.machine.library, **refusal)
+        with Service(self.machine.program, store, 2, 2, settings=settings) as service:
+            parts = self.messages[: self.half], self.messages[self.half :]
+            heard = [split_messages(hear_over(service, b"".join(part))) for part in parts]
+            status, out, said = service.ended()
+        return Run(status, out.encode(), said.encode()), heard
+
+    def begin(self):
+        folder, store = self.folder()
+        run, (first, second) = self.serve(store, REFUSE_COUNT=self.machine.counter)
+        self.calls = self.machine.counted()
+        shutil.rmtree(folder)
+        if run.status != 0 or len(first) + len(second) != len(self.messages):
+            raise SystemExit(f"fail-alloc: the service ends with {run.status} when memory is ample")
+
+    def run_refused(self, store, refusal):
+        return self.serve(store, **refusal)
+
+    def judge(self, served, left, rows):
+        run, heard = served
+        counts = " ".join(f"{name} {len(rows.get(name, []))}" for name in ("drafts", "books", "orders"))
+        if run not in (Run(0, f"{counts}\n".encode(), b""), Run(WANT_STATUS, WANT, b"")):
+            raise Wrong(run, counts)
+        answers = {}
+        for first, last, part in ((0, self.half, heard[0]), (self.half, len(self.messages), heard[1])):
+            answers.update(zip(range(first, last), part, strict=False))
+            # Either all are answered; or the last answer says why not, and closes; or no worker had memory to take the link.
+            closed = part and is_wanting(part[-1]) and self.CLOSED in part[-1]
+            if len(part) != last - first and not closed and (part or run.status == 0):
+                raise Wrong(run, "an end without a word", part)
+        wanting = [i for i, answer in answers.items() if is_wanting(answer)]
+        kept = tuple(i for i in answers if i not in wanting)
+        for done in (kept, *(tuple(sorted((*kept, i))) for i in wanting)):
+            wanted, wanted_rows = self.reference(done)
+            # Before the tables of a new store are made it has no rows, and the next start makes them.
+            if rows != wanted_rows or left not in (rows, {}, self.kept and rows_of(self.kept)):
+                continue
+            if all(i in wanting or answer == wanted[i] for i, answer in answers.items()):
+                return self.kind(run, answers, wanting, done != kept)
+        raise Wrong(run, "rows or answers", left, rows, heard)
+
+    def kind(self, run, answers, wanting, done):
+        if not answers:
+            return "want of memory before a message was answered"
+        told = "want of memory as an answer" if wanting else "all answers as with ample memory"
+        if len(answers) < len(self.messages):
+            told = "want of memory on a link, which was closed" if wanting else "want of memory for a worker's link"
+        return told + (", and it was done" if done else "") + (", status 9" if run.status == WANT_STATUS else "")
+
+
+def hear_over(service, stream):
+    """What a service answers to a stream over a link of its own, as far as it comes."""
+    heard = b""
+    try:
+        with service.connect() as link:
+            link.sendall(stream)
+            link.shutdown(socket.SHUT_WR)
+            while piece := link.recv(65536):
+                heard += piece
+    except TimeoutError:
+        raise Wrong("no answer", heard)
+    except (Gone, OSError):
+        pass
+    return heard
 
 
 def is_wanting(answer):
@@ -208,9 +324,19 @@ def make_kept(machine):
     return store
 
 
+def write_file(machine, name, content):
+    path = os.path.join(machine.work, name)
+    with open(path, "wb") as file:
+        file.write(content)
+    return path
+
+
 def subjects(machine):
     text = example("engine.csv")
+    another_part = write_file(machine, "other.csv", text.replace(b"A100", b"A150"))
+    broken = without(text, b"construct,C3") + b"construct,C5,G5,M2,,\n"
     certificate = os.path.join(TOP, "examples", "engine.cert")
+    kept = make_kept(machine)
     return {
         "order": Command(machine, ["order", "1", "M1"], text, 0),
         "prove": Command(machine, ["prove"], text, 0),
@@ -219,8 +345,13 @@ def subjects(machine):
         "sample": Command(machine, ["sample", "1", "8", "3"], b"", 0),
         "fault": Command(machine, ["check"], text + b"group,G1,one,M1|M2,,\n", 3),
         "usage": Command(machine, ["order", "x"], b"", 2),
+        "supplements": Command(machine, ["supplements"], broken, 1),
+        "compare": Command(machine, ["compare", "1", another_part], text, 1),
+        "rejudge": Rejudge(machine, kept, ["rejudge", "2", "2"], 0),
         "desk": Desk(machine, morning()),
-        "again": Desk(machine, morning(), make_kept(machine)),
+        "again": Desk(machine, morning(), kept),
+        "serve": Serve(machine, morning()),
+        "serve-again": Serve(machine, morning(), kept),
     }
 
 
@@ -233,7 +364,7 @@ def try_all(name, subject, jobs):
     def one(case):
         try:
             kinds[subject.try_one(*case)] += 1
-        except (Wrong, NotWhole) as said:
+        except (Wrong, NotWhole, Broken) as said:
             wrong.append((case, said))
 
     cases = [(number, way) for way in WAYS for number in range(1, subject.calls + 1)]

@@ -9,7 +9,7 @@
 # begins with `$ `; what follows it, up to the next one or the end of the block, has to be its standard output. There `..` on a
 # line of its own stands for any lines, and blank lines at the end and the CR of lines that end in CR LF don't count.
 # Commands of the tools that prove and build (see `is_left_out`) are not typed. The status is 1 where a page differs.
-# It needs curl, sqlite3, python3, soffice (LibreOffice), haproxy and systemd-socket-activate, for the pages that use them.
+# It needs curl, sqlite3, python3, soffice (LibreOffice) and haproxy, for the pages that use them.
 top=$(cd "$(dirname "$0")/.." && pwd) || exit 1
 program=$(realpath "${1:-$top/crates/partsbook/out/partsbook}") || exit 1
 [ $# -gt 0 ] && shift
@@ -24,7 +24,7 @@ typed=0
 printf 'silent\nshow-error\n' > "$work/.curlrc"
 export CURL_HOME="$work" HOME="$work"
 
-for tool in curl sqlite3 python3 soffice haproxy systemd-socket-activate; do
+for tool in curl sqlite3 python3 soffice haproxy; do
     command -v "$tool" > /dev/null || echo "there is no $tool: pages that use it will differ"
 done
 
@@ -77,10 +77,11 @@ type_page() { # page
         fi
         typed=$((typed + 1))
         case $text in
-        *'&') # It goes on while the page is typed, which waits for its first line.
+        *'&') # It goes on while the page is typed, which waits for its first line, or for two seconds where none is shown.
             (cd "$folder/page" && exec sh -c "exec ${text%&}") > "$step.found" 2> "$step.said" < /dev/null &
             listeners="$listeners $!"
             tries=60
+            [ -s "$step.wanted" ] || tries=4
             while [ ! -s "$step.found" ] && [ $((tries -= 1)) -gt 0 ]; do sleep 0.5; done
             ;;
         *) (cd "$folder/page" && sh -c "$text") > "$step.found" 2> "$step.said" < /dev/null ;;

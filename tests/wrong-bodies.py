@@ -22,6 +22,7 @@ WOULD = {
     "positions_of_the_second_book_left_out": "a part at a place that only the other book knows would be overlooked",
     "codes_of_one_book_left_free": "a car would be shown that one of the two books can't order",
     "another_part_is_the_same_position": "a position whose parts changed under the same formulas would count as the same, with no search",
+    "the_first_book_compared_with_itself": "nothing would ever be told to change with the next book",
     "answers_in_another_order_by_two_workers": "what a kept order comes to would be told of another one where two workers judge",
     "judged_by_the_kept_book": "a kept order would be judged again by the book that it was accepted by, and so come out the same always",
     "a_start_from_another_store": "a desk would take up the rows of another store than the one that the words name",
