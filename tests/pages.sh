@@ -94,7 +94,7 @@ type_page() { # page
         fi
     done
     if [ -n "$listeners" ]; then
-        kill $listeners
+        kill $listeners 2> /dev/null
         wait $listeners 2> /dev/null
         listeners=
     fi
