@@ -4,12 +4,15 @@
     serve.py [--seconds N] [--runs N] [--place FOLDER] [--only SUBJECT] PROGRAM [OTHER]
 
 reads    requests in a second by wrk, for 1, 2 and 4 workers with a connection each: of a draft's owner, and of a kept order.
+workers  the reads of a kept order that 1, 2 and 4 workers answer in a second, each to a connection that sends sixteen ahead, so that
+         the callers take little of the processors: over the book of examples/engine.csv, and over that of examples/tarn.csv. A
+         run of a service has 1,000,000 steps, so SECONDS should be 1.
 links    the same with a connection for each request, one worker.
 orders   durable orders in a second, of one client and of eight, at a store in FOLDER, which should be on a disk.
 counted  instructions of a read, of a repeated order and of a new order, by valgrind's callgrind: a run with 200 of them and one
          with 700, over one link; the difference, divided.
 
-Of the first three the programs take turns, RUNS times each (5), and the median counts; where other work goes on, trust the ratio
+Of the first four the programs take turns, RUNS times each (5), and the median counts; where other work goes on, trust the ratio
 and the processor time more than the rate. The stores of all but `orders` are in memory (/dev/shm). It needs wrk and valgrind.
 """
 
@@ -28,25 +31,37 @@ from desk_stream import request, work_place
 from service import CODES, Service, at_once
 
 PATHS = {"owner": "/drafts/T/owner", "order": "/orders/1"}
+# A book's file, the name of its draft, and an order that it accepts.
+ENGINE = ("examples/engine.csv", "T", CODES)
+TARN = ("examples/tarn.csv", "TARN27", b'{"book":1,"day":60,"codes":["LIFE","MDE","P20","AWD","TOW","NAV","CGY"]}')
+# What tells wrk to send sixteen requests at once.
+AHEAD = """
+local sixteen
+init = function() sixteen = string.rep(wrk.format(), 16) end
+request = function() return sixteen end
+"""
 # Else a cleared byte counts as an instruction, which the machine doesn't take.
 CLEARED = {**os.environ, "GLIBC_TUNABLES": "glibc.cpu.x86_rep_stosb_threshold=100000000"}
 
 
-def begun(program, folder, workers, links):
+def begun(program, folder, workers, links, setting=ENGINE):
     """A service with a book and an order."""
+    file, draft, order = setting
     service = Service(program, os.path.join(folder, "desk.db"), workers, links)
     with service.client() as client:
         for method, path, caller, body in (
-            ("PUT", "/drafts/T", "ANNA", pathlib.Path("examples/engine.csv").read_bytes()),
-            ("POST", "/drafts/T/release", "ANNA", b'{"revision":1}'), ("PUT", "/orders/1", "HALL1", CODES),
+            ("PUT", f"/drafts/{draft}", "ANNA", pathlib.Path(file).read_bytes()),
+            ("POST", f"/drafts/{draft}/release", "ANNA", b'{"revision":1}'), ("PUT", "/orders/1", "HALL1", order),
         ):
             assert client.ask(method, path, caller, body)[0] == 201
     return service
 
 
-def by_wrk(program, workers, path, seconds, more=()):
+def by_wrk(program, workers, path, seconds, more=(), setting=ENGINE):
     """Requests in a second, and the microseconds of the processor that one takes."""
-    with tempfile.TemporaryDirectory(dir=work_place()) as folder, begun(program, folder, workers, 1_000_000) as service:
+    with (
+        tempfile.TemporaryDirectory(dir=work_place()) as folder, begun(program, folder, workers, 1_000_000, setting) as service,
+    ):
         threads = "1" if workers == 1 else "2"
         before = service.ticks()
         done = subprocess.run(
@@ -58,6 +73,22 @@ def by_wrk(program, workers, path, seconds, more=()):
         assert not re.search("Non-2xx" if more else "Non-2xx|Socket errors", done.stdout), done.stdout
         count = int(re.search(r"(\d+) requests in", done.stdout)[1])
         return float(re.search(r"Requests/sec: +(\S+)", done.stdout)[1]), ticks * 10_000 / count
+
+
+def by_workers(programs, runs, seconds):
+    """How reads grow with the workers that answer them."""
+    with tempfile.NamedTemporaryFile("w", suffix=".lua") as script:
+        script.write(AHEAD)
+        script.flush()
+        for setting in (ENGINE, TARN):
+            one = None
+            for workers in (1, 2, 4):
+                medians = by_turns(
+                    lambda program: by_wrk(program, workers, PATHS["order"], seconds, ("-s", script.name), setting), programs, runs
+                )
+                tell(f"sent ahead, {setting[0]}, workers {workers}", medians, programs)
+                one = one or medians
+                print("    times one worker:", *(f"{medians[program][0] / one[program][0]:.2f}" for program in programs))
 
 
 def by_orders(program, clients, seconds, place):
@@ -127,12 +158,14 @@ def main():
     given = reader.parse_args()
     programs = [os.path.abspath(program) for program in given.programs]
     os.chdir(pathlib.Path(__file__).resolve().parents[2])
-    wanted = [given.only] if given.only else ["reads", "links", "orders", "counted"]
+    wanted = [given.only] if given.only else ["reads", "workers", "links", "orders", "counted"]
     if "reads" in wanted:
         for name, path in PATHS.items():
             for workers in (1, 2, 4):
                 medians = by_turns(lambda program: by_wrk(program, workers, path, given.seconds), programs, given.runs)
                 tell(f"{name}, workers {workers}", medians, programs)
+    if "workers" in wanted:
+        by_workers(programs, given.runs, given.seconds)
     if "links" in wanted:
         close = ("-H", "Connection: close")
         medians = by_turns(lambda program: by_wrk(program, 1, PATHS["owner"], given.seconds, close), programs, given.runs)
