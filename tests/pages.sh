@@ -9,7 +9,7 @@
 # begins with `$ `; what follows it, up to the next one or the end of the block, has to be its standard output. There `..` on a
 # line of its own stands for any lines, and blank lines at the end and the CR of lines that end in CR LF don't count.
 # Commands of the tools that prove and build (see `is_left_out`) are not typed. The status is 1 where a page differs.
-# It needs curl, sqlite3, python3, soffice (LibreOffice) and haproxy, for the pages that use them.
+# It needs curl, sqlite3, xxd, python3, soffice (LibreOffice) and haproxy, for the pages that use them.
 top=$(cd "$(dirname "$0")/.." && pwd) || exit 1
 program=$(realpath "${1:-$top/crates/partsbook/out/partsbook}") || exit 1
 [ $# -gt 0 ] && shift
@@ -20,11 +20,11 @@ listeners=
 trap '[ -z "$listeners" ] || kill $listeners; rm -rf "$work"' EXIT
 failed=0
 typed=0
-# As at a terminal, curl shows no progress. No command finds settings of the user's.
+# Curl shows no progress, as at a terminal where it writes to it. No command finds settings of the user's.
 printf 'silent\nshow-error\n' > "$work/.curlrc"
 export CURL_HOME="$work" HOME="$work"
 
-for tool in curl sqlite3 python3 soffice haproxy; do
+for tool in curl sqlite3 xxd python3 soffice haproxy; do
     command -v "$tool" > /dev/null || echo "there is no $tool: pages that use it will differ"
 done
 
