@@ -37,13 +37,6 @@ abbrev after_all : Contents → List Slice → Stage → List CertLine → Resul
 after_all b slices stage [] = Ok stage
 after_all b slices stage (line ∷ lines) = and_then (after b slices stage line) (λ behind. after_all b slices behind lines)
 
-pub zip_at : {A B : Type 0} (R : A → B → Type 0) (xs : List A) (ys : List B) (i : ℕ) (y : B) → AllZip R xs ys → i < length ys → y ≡ get_or ys i y → (x : A) × (slice_get xs i ≡ Some x) × R x y
-zip_at R [] [] i y all below is = absurd (omega arith)
-zip_at R [] (z ∷ ys) i y all below is = absurd all
-zip_at R (x ∷ xs) [] i y all below is = absurd all
-zip_at R (x ∷ xs) (z ∷ ys) zero y all below is = (x, refl, subst (R x) (sym is) all.0)
-zip_at R (x ∷ xs) (z ∷ ys) (suc i) y all below is = zip_at R xs ys i y all.1 (omega arith) is
-
 -- one line, and those behind it
 after_one : (b : Contents) (slices : List Slice) (stage behind : Stage) (line : CertLine) (lines : List CertLine) (end : Result Stage CertKind) → after b slices stage line ≡ Ok behind
     → after_all b slices behind lines ≡ end → after_all b slices stage (line ∷ lines) ≡ end

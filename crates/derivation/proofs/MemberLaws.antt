@@ -1,11 +1,11 @@
 -- The names of a set's codes make that set.
-use Rattle.std.proofs.Common.{◌≡◌, ℕ, ◌+◌, ◌<◌, ◌≤◌, Bool, true, false, not, cond, ltb, leb, ◌&&◌, List, [], ◌∷◌, ◌++◌, None, Some, Ok, length, map, ◌||◌, drop, inl, inr, refl, sym, ap, ◌∙◌, arith}
+use Rattle.std.proofs.Common.{◌≡◌, ℕ, ◌+◌, ◌<◌, ◌≤◌, Bool, true, false, not, ltb, leb, ◌&&◌, List, [], ◌∷◌, Some, Ok, length, map, ◌||◌, drop, inl, inr, refl, ap, ◌∙◌, arith}
 use Rattle.std.specs.List.{list_all, list_any, slice_get, IsDistinct, AllByRecursion}
 use Rattle.std.specs.Cmp.Lexicographic.{nat_list_eq_equiv}
-use Rattle.std.proofs.lemmas.Bool.{cases_Bool, false≢true, true≢false, and_parts, and_from, or_cases, or_left, or_right, leb-true, lt-ltb}
+use Rattle.std.proofs.lemmas.Bool.{and_parts, and_from, or_cases, or_left, or_right, leb-true, lt-ltb}
 use Rattle.std.proofs.lemmas.List.{drop_more}
 use Rattle.std.proofs.lemmas.Option.{get_or_from_slice_get}
-use Rattle.pb_base.specs.Names.{same_name, is_name, is_name_byte, is_code_name, place_in, true_word, false_word}
+use Rattle.pb_base.specs.Names.{same_name, is_name, is_name_byte, is_code_name, true_word, false_word}
 use Rattle.pb_base.proofs.Faultless.{same_self, no_fault}
 use Rattle.pb_base.specs.NamedSet.{named, set_of_names}
 use Rattle.pb_base.specs.Results.{unless}

@@ -5,7 +5,7 @@ use Rattle.std.specs.List.{list_all, All, AllByRecursion}
 use Rattle.std.specs.Result.{OnOk}
 use Rattle.std.specs.Fmt.{decimal}
 use Rattle.std.proofs.lemmas.Grind.{flat_map-append}
-use Rattle.std.proofs.lemmas.List.{take_more, take_all}
+use Rattle.std.proofs.lemmas.List.{take_all}
 use Rattle.pb_base.specs.Names.{is_code_name}
 use Rattle.book_model.specs.Contents.{Contents}
 use Rattle.clause_pool.specs.Derivation.{Derivation, IsDerived}
@@ -14,7 +14,7 @@ use Rattle.clausify.proofs.ListLaws.{all-append}
 use Rattle.derivation.specs.declared.closing.Closing.{Closing}
 use Rattle.derivation.specs.declared.slice_proof.SliceProof.{SliceProof}
 use Rattle.derivation.specs.CertLine.{CertLine, book_line, slice_line, set_line, step_line, close_line, head_line, end_line}
-use Rattle.derivation.specs.Written.{PairFits, LineFits, keyword_of, words_of, line_of, members, pair_words, step_lines, close_lines, slice_lines, lines_from, cert_lines, written}
+use Rattle.derivation.specs.Written.{PairFits, LineFits, keyword_of, words_of, line_of, members, pair_words, step_lines, close_lines, slice_lines, lines_from, begun_lines, cert_lines, IsBegun, written}
 
 written_append : (xs ys : List CertLine) → written (xs ++ ys) ≡ written xs ++ written ys
 written_append xs ys = flat_map-append (λ l. line_of (keyword_of l) (words_of l)) xs ys
@@ -142,46 +142,36 @@ slice_told (Ok done) b number proof t₀ t₁ t₂ t₃ t₄ below first next na
     let whole = slice_put b number proof t₀ t₁ t₂ t₃ t₄ below first next names steps (record { text = text; fit = fit }) in
     record { text = whole.text; fit = whole.fit; derived = derived }
 
+-- ---- a certificate in the making
+pub cert_begun : (b : Contents) (count : ℕ) (t₀ t₁ t₂ : List ℕ) → t₀ ≡ [] → t₁ ≡ t₀ ++ codes "partsbook certificate 1\n" → t₂ ≡ t₁ ++ line_of (codes "book") (b.name ∷ decimal count ∷ [])
+    → LineFits (book_line b.name count) → IsBegun b count [] t₂
+cert_begun b count t₀ t₁ t₂ empty first second name =
+    let head_put : t₁ ≡ [] ++ written (head_line ∷ []) = first ∙ ap (λ t. t ++ codes "partsbook certificate 1\n") empty in
+    record { lines = one_line [] t₁ t₂ (head_line ∷ []) (book_line b.name count) head_put second; fit = (tt, (name, tt)); derived = tt }
+
 -- the lines of the first slices
-lines_more : (b : Contents) (k : ℕ) (proofs : List SliceProof) (i : ℕ) (p : SliceProof) → i < length proofs → p ≡ get_or proofs i p
-    → lines_from b k (take (i + 1) proofs) ≡ lines_from b k (take i proofs) ++ slice_lines b (k + i) p
-lines_more b k [] i p below is = absurd (omega arith)
-lines_more b k (x ∷ proofs) zero p below is =
-    append-nil (slice_lines b k x) ∙ ap (λ y. slice_lines b k y) (sym is) ∙ ap (λ n. slice_lines b n p) (let e : k ≡ k + 0 = omega arith in e)
-lines_more b k (x ∷ proofs) (suc i) p below is =
-    ap (λ n. lines_from b k (take n (x ∷ proofs))) (add-one (suc i))
-    ∙ ap (λ l. slice_lines b k x ++ l) (ap (λ n. lines_from b (suc k) (take n proofs)) (sym (add-one i)) ∙ lines_more b (suc k) proofs i p (omega arith) is)
-    ∙ sym (append_assoc (slice_lines b k x) (lines_from b (suc k) (take i proofs)) (slice_lines b (suc k + i) p))
-    ∙ ap (λ n. (slice_lines b k x ++ lines_from b (suc k) (take i proofs)) ++ slice_lines b n p) (let e : suc k + i ≡ k + suc i = omega arith in e)
+lines_more : (b : Contents) (k : ℕ) (proofs : List SliceProof) (p : SliceProof) → lines_from b k (proofs ++ p ∷ []) ≡ lines_from b k proofs ++ slice_lines b (k + length proofs) p
+lines_more b k [] p = append-nil (slice_lines b k p) ∙ ap (λ n. slice_lines b n p) (let e : k ≡ k + 0 = omega arith in e)
+lines_more b k (x ∷ proofs) p =
+    ap (λ l. slice_lines b k x ++ l) (lines_more b (suc k) proofs p)
+    ∙ sym (append_assoc (slice_lines b k x) (lines_from b (suc k) proofs) (slice_lines b (suc k + length proofs) p))
+    ∙ ap (λ n. (slice_lines b k x ++ lines_from b (suc k) proofs) ++ slice_lines b n p) (let e : suc k + length proofs ≡ k + suc (length proofs) = omega arith in e)
 
-pub record SlicesPut (b : Contents) (t₀ t₁ : List ℕ) (proofs : List SliceProof) : Type 0 where
-  pub put : TextPut t₀ t₁ (lines_from b 0 proofs)
-  pub derived : AllByRecursion (λ p. IsDerived p.kernel) proofs
-
-pub no_slice : (b : Contents) (t : List ℕ) → SlicesPut b t t []
-no_slice b t = record { put = record { text = sym (append-nil t); fit = tt }; derived = tt }
-
-pub one_slice : (b : Contents) (t₀ t₁ t₂ : List ℕ) (proofs : List SliceProof) (i : ℕ) (p : SliceProof) → i < length proofs → p ≡ get_or proofs i p → SlicesPut b t₀ t₁ (take i proofs)
-    → t₂ ≡ t₁ ++ written (slice_lines b i p) → AllByRecursion LineFits (slice_lines b i p) → IsDerived p.kernel → SlicesPut b t₀ t₂ (take (i + 1) proofs)
-one_slice b t₀ t₁ t₂ proofs i p below is so_far next fits derived =
-    let more : lines_from b 0 (take i proofs) ++ slice_lines b i p ≡ lines_from b 0 (take (i + 1) proofs) =
-    ap (λ n. lines_from b 0 (take i proofs) ++ slice_lines b n p) (let e : i ≡ 0 + i = omega arith in e) ∙ sym (lines_more b 0 proofs i p below is) in
-    let grown : take (i + 1) proofs ≡ take i proofs ++ p ∷ [] = take_more proofs i p below ∙ ap (λ x. take i proofs ++ x ∷ []) (sym is) in
+pub slice_begun : (b : Contents) (count number : ℕ) (proofs : List SliceProof) (p : SliceProof) (t₁ t₂ : List ℕ) → number ≡ length proofs → IsBegun b count proofs t₁
+    → t₂ ≡ t₁ ++ written (slice_lines b number p) → AllByRecursion LineFits (slice_lines b number p) → IsDerived p.kernel → IsBegun b count (proofs ++ p ∷ []) t₂
+slice_begun b count number proofs p t₁ t₂ is begun next fits derived =
+    let before : List CertLine = begun_lines b count proofs in
+    let more : before ++ slice_lines b number p ≡ begun_lines b count (proofs ++ p ∷ []) =
+    ap (λ ls. head_line ∷ book_line b.name count ∷ ls)
+    (ap (λ n. lines_from b 0 proofs ++ slice_lines b n p) (let e : number ≡ 0 + length proofs = omega (arith, is) in e) ∙ sym (lines_more b 0 proofs p)) in
     record {
-      put = record {
-        text = more_lines t₀ t₁ t₂ (lines_from b 0 (take i proofs)) (slice_lines b i p) so_far.put.text next ∙ ap (λ ls. t₀ ++ written ls) more;
-        fit = subst (AllByRecursion LineFits) more (all_fit (lines_from b 0 (take i proofs)) (slice_lines b i p) so_far.put.fit fits);
-      };
-      derived = subst (AllByRecursion (λ q. IsDerived q.kernel)) (sym grown) (all-append (λ q. IsDerived q.kernel) (take i proofs) (p ∷ []) so_far.derived (derived, tt));
+      lines = more_lines [] t₁ t₂ before (slice_lines b number p) begun.lines next ∙ ap written more;
+      fit = subst (AllByRecursion LineFits) more (all_fit before (slice_lines b number p) begun.fit fits);
+      derived = all-append (λ q. IsDerived q.kernel) proofs (p ∷ []) begun.derived (derived, tt);
     }
 
 -- the whole
-pub cert_put : (b : Contents) (proofs : List SliceProof) (t₀ t₁ t₂ t₃ t₄ : List ℕ) → t₀ ≡ [] → t₁ ≡ t₀ ++ codes "partsbook certificate 1\n" → t₂ ≡ t₁ ++ line_of (codes "book") (b.name ∷ decimal (length proofs) ∷ [])
-    → LineFits (book_line b.name (length proofs)) → SlicesPut b t₂ t₃ proofs → t₄ ≡ t₃ ++ codes "end\n" → (t₄ ≡ written (cert_lines b proofs)) × AllByRecursion LineFits (cert_lines b proofs)
-cert_put b proofs t₀ t₁ t₂ t₃ t₄ empty first second name slices last =
-    let book : CertLine = book_line b.name (length proofs) in
-    let head_put : t₁ ≡ [] ++ written (head_line ∷ []) = first ∙ ap (λ t. t ++ codes "partsbook certificate 1\n") empty in
-    let book_put : t₂ ≡ [] ++ written (head_line ∷ book ∷ []) = one_line [] t₁ t₂ (head_line ∷ []) book head_put second in
-    let end_put : t₄ ≡ t₃ ++ written (end_line ∷ []) = last in
-    let rest = more_lines t₂ t₃ t₄ (lines_from b 0 proofs) (end_line ∷ []) slices.put.text end_put in
-    (more_lines [] t₂ t₄ (head_line ∷ book ∷ []) (lines_from b 0 proofs ++ end_line ∷ []) book_put rest, (tt, (name, all_fit (lines_from b 0 proofs) (end_line ∷ []) slices.put.fit (tt, tt))))
+pub cert_ended : (b : Contents) (proofs : List SliceProof) (t₁ t₂ : List ℕ) → IsBegun b (length proofs) proofs t₁ → t₂ ≡ t₁ ++ codes "end\n" → (t₂ ≡ written (cert_lines b proofs)) × AllByRecursion LineFits (cert_lines b proofs)
+cert_ended b proofs t₁ t₂ begun last =
+    let before : List CertLine = begun_lines b (length proofs) proofs in
+    (more_lines [] t₁ t₂ before (end_line ∷ []) begun.lines last, all_fit before (end_line ∷ []) begun.fit (tt, tt))

@@ -1,11 +1,14 @@
 -- The text of a certificate as it is written, from the proofs of the slices.
 --     cert_lines b proofs     its lines
+--     IsBegun b count proofs text
+--                             the text so far of a certificate of so many slices, behind those of these proofs
 --     written lines           lines as a text: a keyword and further words, each behind one space, and a line feed
 use Rattle.std.specs.Prelude.{◌≡◌, ℕ, suc, ◌<◌, ◌^◌, ◌/◌, ◌%◌, ◌==◌, Bool, true, false, List, [], ◌∷◌, ◌++◌, codes, length, map, if◌then◌else◌}
-use Rattle.std.specs.List.{flat_map, list_all, All}
+use Rattle.std.specs.List.{flat_map, list_all, All, AllByRecursion}
 use Rattle.std.specs.Fmt.{decimal}
 use Rattle.pb_base.specs.Names.{is_name, is_code_name}
 use Rattle.book_model.specs.Contents.{Contents}
+use Rattle.clause_pool.specs.Derivation.{IsDerived}
 use Rattle.clause_pool.specs.declared.chain.Pair.{Pair}
 use Rattle.derivation.specs.declared.closing.Closing.{Closing}
 use Rattle.derivation.specs.declared.slice_proof.SliceProof.{SliceProof}
@@ -87,3 +90,12 @@ LineFits (set_line names) = list_all is_code_name names ≡ true
 LineFits (step_line start pairs) = (start < 2 ^ 64) × All PairFits pairs × (0 < length pairs)
 LineFits (close_line question clause) = (question < 2 ^ 64) × (clause < 2 ^ 64)
 LineFits end_line = Unit {0}
+
+-- its first lines, behind those of these proofs
+abbrev pub begun_lines : Contents → ℕ → List SliceProof → List CertLine
+begun_lines b count proofs = head_line ∷ book_line b.name count ∷ lines_from b 0 proofs
+
+pub record IsBegun (b : Contents) (count : ℕ) (proofs : List SliceProof) (text : List ℕ) : Type 0 where
+  pub lines : text ≡ written (begun_lines b count proofs)
+  pub fit : AllByRecursion LineFits (begun_lines b count proofs)
+  pub derived : AllByRecursion (λ p. IsDerived p.kernel) proofs

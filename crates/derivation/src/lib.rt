@@ -19,4 +19,4 @@ pub use closing::{Closing, ToClose, to_close};
 pub use fault::{CertFault, CertKind, Certified};
 pub use limits::slices_within;
 pub use slice_proof::SliceProof;
-pub use write::write_cert;
+pub use write::{begin_cert, end_cert, put_proof};

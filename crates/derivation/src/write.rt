@@ -1,37 +1,84 @@
 //! The writing of a certificate.
-ghost use Rattle.std.specs.Prelude.{◌≡◌, ◌-◌, ◌<◌, ◌≤◌, ◌^◌, ◌++◌, [], ◌∷◌, All, Ok, IfOk, OnOk, codes, length, slice_index, slice_index_or};
+ghost use Rattle.std.specs.Prelude.{◌≡◌, ℕ, ◌-◌, ◌<◌, ◌≤◌, ◌^◌, ◌++◌, List, [], ◌∷◌, All, Ok, IfOk, OnOk, codes, length, slice_index, slice_index_or};
 ghost use Rattle.std.specs.Fmt.{decimal};
 ghost use Rattle.std.specs.List.{AllByRecursion};
 ghost use Rattle.clause_pool.specs.Derivation.{IsDerived};
 ghost use Rattle.derivation.specs.Certificate.{cert_answer};
 ghost use Rattle.derivation.specs.CertLine.{book_line, slice_line, step_line};
 ghost use Rattle.derivation.specs.Showing.{ShowEach, shown_by};
-ghost use Rattle.derivation.specs.Written.{LineFits, PairFits, cert_lines, close_lines, line_of, literal_word, members, pair_words, slice_lines, spaced, step_lines, written};
+ghost use Rattle.derivation.specs.declared.slice_proof.SliceProof.{SliceProof};
+ghost use Rattle.derivation.specs.Written.{IsBegun, LineFits, PairFits, cert_lines, close_lines, line_of, literal_word, members, pair_words, slice_lines, spaced, step_lines, written};
 
 use crate::closing::Closing;
 use crate::laws::book_laws;
 use crate::slice_proof::SliceProof;
-use book_model::Book;
+use book_model::{Book, Slice};
 use clause_pool::{Kernel, Lit, Ref, ShortPair};
+use clausify::question_count;
 use pb_base::{Body, CodeSet, CodeTable, Id, Memory, Text};
 use std::alloc::Global;
 
-/// The certificate of a book, from one proof for each of its slices in order: a step for each clause that was derived, and
-/// a closing for each question that has to be closed.
-pub fn write_cert(alloc: Global, book: &Book, proofs: &[SliceProof]) -> Result<Body, Memory>
-    requires { ShowEach book.now proofs.now }
-    ensures text { IfOk result (λ text. text ≡ written (cert_lines book.now proofs.now)) }
-    ensures answer { IfOk result (λ text. cert_answer book.now text ≡ Ok (shown_by proofs.now)) }
+// A closing is a line, and mostly a step more: 60 to 130 bytes a question in the books that were measured.
+const QUESTION_BYTES: usize = 128;
+
+/// The beginning of the certificate of a book with these slices. Behind it come their proofs, in order, and then its end. It has
+/// room for what is to come, by the number of questions, so that a long text is not copied while it grows.
+pub fn begin_cert(alloc: Global, book: &Book, slices: &[Slice]) -> Result<Text, Memory>
+    ensures { IfOk result (IsBegun book.now (length slices.now) []) }
+{
+    let mut text = text_with_room(alloc, room_for(book, slices));
+    text.put(b"partsbook certificate 1\n")?;
+    put_book(&mut text, book.name(), slices.len() as u64)?;
+    Ok(text)
+}
+
+/// The proof of the next slice, which has this number: a step for each clause that was derived, and a closing for each
+/// question that has to be closed.
+pub fn put_proof(
+    text: &mut Text,
+    book: &Book,
+    number: usize,
+    proof: &SliceProof,
+) -> Result<(), Memory>
+    requires { length proof.now.set ≡ length book.now.codes }
+    ensures { (count : ℕ) (before : List SliceProof) → number ≡ length before
+        → IsBegun book.now count before text.old
+        → OnOk result (IsBegun book.now count (before ++ proof.now ∷ []) text.new) }
+{
+    put_slice(text, book, number, proof)?;
+    Ok(())
+}
+
+/// The certificate, once the proof of each slice is put down.
+pub fn end_cert(mut text: Text, book: &Book) -> Result<Body, Memory>
+    ensures text { (proofs : List SliceProof) → IsBegun book.now (length proofs) proofs text
+        → IfOk result (λ cert. cert ≡ written (cert_lines book.now proofs)) }
+    ensures answer { (proofs : List SliceProof) → ShowEach book.now proofs
+        → IsBegun book.now (length proofs) proofs text
+        → IfOk result (λ cert. cert_answer book.now cert ≡ Ok (shown_by proofs)) }
 {
     book_laws(book);
-    let mut text = Text::new(alloc);
-    text.put(b"partsbook certificate 1\n")?;
-    put_book(&mut text, book.name(), proofs.len() as u64)?;
-    for (number, proof) in proofs.iter().enumerate() {
-        put_slice(&mut text, book, number, proof)?;
-    }
     text.put(b"end\n")?;
     Ok(text.into_body())
+}
+
+// The bytes that a certificate of these slices may come to.
+fn room_for(book: &Book, slices: &[Slice]) -> usize {
+    let mut questions: usize = 0;
+    for slice in slices {
+        questions = questions.saturating_add(question_count(book, slice) as usize);
+    }
+    questions.saturating_mul(QUESTION_BYTES)
+}
+
+// The text without bytes, with this room where there is so much.
+fn text_with_room(alloc: Global, room: usize) -> Text
+    ensures { result ≡ [] }
+{
+    match Text::with_room(alloc, room) {
+        Ok(text) => text,
+        Err(Memory) => Text::new(alloc),
+    }
 }
 
 // The line with the name of the book and the number of its slices.

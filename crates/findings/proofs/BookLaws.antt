@@ -1,11 +1,12 @@
 -- What the notes of all slices come to.
-use Rattle.std.proofs.Common.{◌≡◌, ℕ, ◌≤◌, Bool, true, false, ◌||◌, cond, List, [], ◌∷◌, ◌++◌, Option, Some, None, Result, Ok, Err, All, refl, sym, ap, subst, ◌∙◌}
-use Rattle.std.specs.List.{AllZip, list_any}
+use Rattle.std.proofs.Common.{◌≡◌, ℕ, ◌≤◌, Bool, true, false, ◌||◌, cond, List, [], ◌∷◌, ◌++◌, Option, Some, None, Result, Ok, Err, All, length, refl, sym, ap, subst, ◌∙◌, arith}
+use Rattle.std.specs.List.{list_any}
 use Rattle.std.specs.Result.{IsErr, IsErrAnd}
-use Rattle.std.specs.Option.{is_none, option_to_list}
+use Rattle.std.specs.Prelude.{IfSome}
+use Rattle.std.specs.Option.{is_none}
 use Rattle.std.proofs.lemmas.List.Folds.{list_any-append}
-use Rattle.std.proofs.lemmas.Slice.Zip.{all_zipped_more}
-use Rattle.std.proofs.lemmas.Bool.{or_parts, true≢false, false≢true, cond-false}
+use Rattle.std.proofs.lemmas.Slice.Zip.{all_zipped_more, AllZip-long}
+use Rattle.std.proofs.lemmas.Bool.{or_parts, false≢true, cond-false}
 use Rattle.pb_base.specs.Answers.{Answers, IfRefused}
 use Rattle.pb_base.specs.declared.answer.Fail.{Fail}
 use Rattle.pb_base.specs.declared.answer.Fail.TheVariants.{Refused, Memory}
@@ -21,7 +22,8 @@ use Rattle.derivation.proofs.Released.{releasable_when_answered}
 use Rattle.findings.specs.Notes.{is_fault, is_left, verdict_of}
 use Rattle.derivation.specs.Showing.{ShowsSlice}
 use Rattle.derivation.specs.declared.slice_proof.SliceProof.{SliceProof}
-use Rattle.findings.specs.Answering.{ShowsUnlessStopped, stops}
+use Rattle.derivation.specs.Written.{IsBegun}
+use Rattle.findings.specs.Answering.{IsShownIn, ShowsUnlessStopped, stops}
 use Rattle.derivation.specs.Accepted.{IsAccepted}
 use Rattle.findings.specs.declared.report.Note.{Note}
 use Rattle.findings.specs.declared.report.Verdict.TheVariants as verdicts
@@ -78,9 +80,20 @@ stopped_more b s old own t (Some proof) are h =
 stopped_more b s old own t None are h =
     sym (list_any-append stops old own ∙ ap (λ (u : Bool). list_any stops old || u) h ∙ ap (λ (u : Bool). u || true) (sym are))
 
-pub proofs_more : (b : Contents) (slices : List Slice) (s : Slice) (proofs : List SliceProof) (own : List Note) (t : Bool) (proof : Option SliceProof)
-    → (t ≡ false → AllZip (ShowsSlice b) slices proofs) → ShowsUnlessStopped b s own proof → (t || is_none proof) ≡ false
-    → AllZip (ShowsSlice b) (slices ++ s ∷ []) (proofs ++ option_to_list proof)
-proofs_more b slices s proofs own t (Some proof) so_far h free =
-    all_zipped_more (ShowsSlice b) slices proofs s proof (so_far (or_parts t false free).0) h.1
-proofs_more b slices s proofs own t None so_far h free = absurd (true≢false (or_parts t true free).1)
+-- the set of what shows a slice is one of the book's codes
+pub codes_shown : (b : Contents) (s : Slice) (own : List Note) (proof : Option SliceProof) → ShowsUnlessStopped b s own proof → IfSome proof (λ p. length p.set ≡ length b.codes)
+codes_shown b s own (Some proof) h = h.1.codes
+codes_shown b s own None h = tt
+
+pub shown_none : (b : Contents) (text : List ℕ) (count : ℕ) → IsBegun b count [] text → IsShownIn b [] count text
+shown_none b text count begun = record { proofs = []; each = tt; begun = begun }
+
+pub shown_more : (b : Contents) (slices : List Slice) (s : Slice) (count number : ℕ) (own : List Note) (old new : List ℕ) (p : SliceProof) → number ≡ length slices
+    → ShowsUnlessStopped b s own (Some p) → IsShownIn b slices count old
+    → ((before : List SliceProof) → number ≡ length before → IsBegun b count before old → IsBegun b count (before ++ p ∷ []) new)
+    → IsShownIn b (slices ++ s ∷ []) count new
+shown_more b slices s count number own old new p is shows h put = record {
+  proofs = h.proofs ++ p ∷ [];
+  each = all_zipped_more (ShowsSlice b) slices h.proofs s p h.each shows.1;
+  begun = put h.proofs (omega (arith, is, AllZip-long (ShowsSlice b) slices h.proofs h.each)) h.begun;
+}

@@ -9,8 +9,10 @@
 --                             the same of some questions behind Void, of which the first has the number 1
 --     ShowsUnlessStopped b s notes proof
 --                             what shows that no note keeps the book from its release, unless one does
+--     IsShownIn b slices count text
+--                             the text so far of a certificate of so many slices, with a proof of each of these
 use Rattle.std.specs.Prelude.{◌≡◌, ◌↔◌, ℕ, ◌*◌, ◌<◌, ◌≤◌, Bool, true, false, ◌||◌, List, [], ◌∷◌, Option, Some, None, IsTrue, filter, length, slice_get}
-use Rattle.std.specs.List.{list_any}
+use Rattle.std.specs.List.{AllZip, list_any}
 use Rattle.pb_base.specs.declared.limits.TheConstants.{MOST_BUDGET}
 use Rattle.book_model.specs.Activity.{is_within}
 use Rattle.book_model.specs.Contents.{Contents}
@@ -23,6 +25,7 @@ use Rattle.clausify.specs.declared.question.Asked.{Asked}
 use Rattle.chains.specs.Growth.{Refutes}
 use Rattle.derivation.specs.Showing.{AllClosed, ShowsSlice, StandsOver}
 use Rattle.derivation.specs.Stage.{to_close}
+use Rattle.derivation.specs.Written.{IsBegun}
 use Rattle.derivation.specs.declared.slice_proof.SliceProof.{SliceProof}
 use Rattle.solver.specs.Solver.{Solving}
 use Rattle.findings.specs.Notes.{Inquiry, InParts, OwnNotes, is_asked, is_fault, is_left}
@@ -83,6 +86,11 @@ pub record AreTold (i : Inquiry) (s : Slice) (asked : List Asked) (told : Told) 
 abbrev pub ShowsUnlessStopped : Contents → Slice → List Note → Option SliceProof → Type 0
 ShowsUnlessStopped b s notes (Some proof) = (list_any stops notes ≡ false) × ShowsSlice b s proof
 ShowsUnlessStopped b s notes None = list_any stops notes ≡ true
+
+pub record IsShownIn (b : Contents) (slices : List Slice) (count : ℕ) (text : List ℕ) : Type 0 where
+  pub proofs : List SliceProof
+  pub each : AllZip (ShowsSlice b) slices proofs
+  pub begun : IsBegun b count proofs text
 
 -- what is shown, with the kernel that it stands in
 abbrev pub proof_in : Derivation → Option Shown → Option SliceProof

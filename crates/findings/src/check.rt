@@ -1,15 +1,17 @@
 //! The check of a book.
-ghost use Rattle.std.specs.Prelude.{◌≡◌, ◌↔◌, ◌<◌, ◌≤◌, [], All, IfOk, IfSome, IsSome, OnOk, Err, false, ◌++◌, ◌||◌};
-ghost use Rattle.std.specs.List.{AllZip, list_any};
-ghost use Rattle.std.specs.Option.{is_none, option_to_list};
+ghost use Rattle.std.specs.Prelude.{◌≡◌, ◌↔◌, ℕ, ◌<◌, ◌≤◌, List, [], ◌∷◌, All, IfOk, IfSome, IsSome, OnOk, Err, false, length, ◌++◌, ◌||◌};
+ghost use Rattle.std.specs.List.{list_any};
+ghost use Rattle.std.specs.Option.{is_none};
 ghost use Rattle.pb_base.specs.Answers.{IfRefused};
 ghost use Rattle.book_model.specs.Slices.{IsOrdered, IsSteady};
 ghost use Rattle.book_model.specs.Sound.{IsReleasable};
 ghost use Rattle.derivation.specs.Limits.{AreWithin, asked_of, slices_within};
-ghost use Rattle.derivation.specs.Showing.{ShowsSlice};
+ghost use Rattle.derivation.specs.Written.{IsBegun};
+ghost use Rattle.derivation.specs.declared.slice_proof.SliceProof.{SliceProof};
+ghost use Rattle.book_model.specs.declared.record.Slice.{Slice};
 ghost use Rattle.findings.specs.Notes.{InParts, IsReport, SliceNotes, verdict_of};
 ghost use Rattle.slice_hints.specs.Found.{KnowsUsages};
-ghost use Rattle.findings.specs.Answering.{ShowsUnlessStopped, inquiry, stops};
+ghost use Rattle.findings.specs.Answering.{IsShownIn, ShowsUnlessStopped, inquiry, stops};
 ghost use Rattle.derivation.specs.Accepted.{IsAccepted};
 ghost use Rattle.pb_base.specs.declared.limits.TheConstants.{MOST_BUDGET, MOST_QUESTIONS};
 
@@ -19,8 +21,8 @@ use crate::report::{Ask, Note, Report, Verdict};
 use crate::slice::{SliceCheck, check_slice};
 use crate::task::{Effort, SliceTask};
 use book_model::{Book, LimitFault, Slice};
-use derivation::{SliceProof, slices_within, write_cert};
-use pb_base::{Body, Fail, Memory};
+use derivation::{SliceProof, begin_cert, end_cert, put_proof, slices_within};
+use pb_base::{Body, Fail, Memory, Text};
 use slice_chains::shorten;
 use std::alloc::Global;
 
@@ -53,12 +55,16 @@ pub fn check_book(
     let slices = slices_within(alloc, book)?;
     let effort = Effort { ask, budget };
     let checked = check_slices(alloc, book, slices.as_slice(), effort)?;
-    let stopped = checked.stopped;
-    let report = Report::of(checked.notes);
+    let SliceChecks {
+        notes,
+        text,
+        stopped,
+    } = checked;
+    let report = Report::of(notes);
     if stopped {
         return Ok(Checked { report, cert: None });
     }
-    let cert = write_cert(alloc, book, &checked.proofs)?;
+    let cert = end_cert(text, book)?;
     Ok(Checked {
         report,
         cert: Some(cert),
@@ -140,11 +146,12 @@ fn report_each(
     Ok(())
 }
 
-// What a check of slices tells: their notes, and where none of these keeps the book from its release, a proof for each slice.
+// What a check of slices tells: their notes, and where none of these keeps the book from its release, a certificate with a proof
+// of each of them.
 #[derive(Drop)]
 struct SliceChecks {
     notes: Vec<Note>,
-    proofs: Vec<SliceProof>,
+    text: Text,
     stopped: bool,
 }
 
@@ -162,12 +169,13 @@ fn check_slices(
     ensures notes { IfOk result (λ c.
         InParts (SliceNotes (inquiry book.now effort)) slices.now c.notes.items) }
     ensures stopped { IfOk result (λ c. c.stopped ≡ list_any stops c.notes.items) }
-    ensures proofs { IfOk result (λ c.
-        c.stopped ≡ false → AllZip (ShowsSlice book.now) slices.now c.proofs.items) }
+    ensures shown { IfOk result (λ c.
+        c.stopped ≡ false → IsShownIn book.now slices.now (length slices.now) c.text) }
 {
+    let text = begin_cert(alloc, book, slices)?;
     let mut all = SliceChecks {
         notes: Vec::new(alloc),
-        proofs: Vec::new(alloc),
+        text,
         stopped: false,
     };
     let mut earlier = Earlier::none(alloc);
@@ -190,23 +198,23 @@ fn check_each(
     requires some { 0 < effort.budget }
     requires budget { effort.budget ≤ MOST_BUDGET }
     requires notes { all.old.notes.items ≡ [] }
-    requires proofs { all.old.proofs.items ≡ [] }
+    requires text { IsBegun book.now (length slices.now) [] all.old.text }
     requires stopped { all.old.stopped ≡ false }
     requires earlier { All (KnowsUsages book.now) earlier.old.sets.items }
     ensures notes { OnOk result
         (InParts (SliceNotes (inquiry book.now effort)) slices.now all.new.notes.items) }
     ensures stopped { OnOk result (all.new.stopped ≡ list_any stops all.new.notes.items) }
-    ensures proofs { OnOk result
-        (all.new.stopped ≡ false → AllZip (ShowsSlice book.now) slices.now all.new.proofs.items) }
+    ensures shown { OnOk result
+        (all.new.stopped ≡ false → IsShownIn book.now slices.now (length slices.now) all.new.text) }
 {
-    for slice in slices {
+    for (number, slice) in slices.iter().enumerate() {
         let task = SliceTask {
             slice: *slice,
             effort,
         };
         let checked = check_slice(alloc, book, task, earlier)?;
         let checked = with_short_proof(alloc, book, slice, checked)?;
-        all.put(checked)?;
+        all.put(book, number, checked)?;
     }
     Ok(())
 }
@@ -232,19 +240,40 @@ fn with_short_proof(
 }
 
 impl SliceChecks {
-    // Puts down what the check of a further slice tells.
-    fn put(&mut self, checked: SliceCheck) -> Result<(), Memory>
+    // Puts down what the check of a further slice tells, which has this number.
+    fn put(&mut self, book: &Book, number: usize, checked: SliceCheck) -> Result<(), Memory>
+        requires { IfSome checked.proof (λ p. length p.set ≡ length book.now.codes) }
         ensures notes { OnOk result (self.new.notes.items ≡ self.old.notes.items ++ checked.notes.items) }
         ensures stopped { OnOk result (self.new.stopped ≡ (self.old.stopped || is_none checked.proof)) }
-        ensures proofs { OnOk result (self.new.proofs.items
-            ≡ self.old.proofs.items ++ option_to_list checked.proof) }
+        ensures shown { (slices : List Slice) (slice : Slice) (count : ℕ) → number ≡ length slices
+            → ShowsUnlessStopped book.now slice checked.notes.items checked.proof
+            → (self.old.stopped ≡ false → IsShownIn book.now slices count self.old.text)
+            → OnOk result (self.new.stopped ≡ false
+            → IsShownIn book.now (slices ++ slice ∷ []) count self.new.text) }
     {
         let SliceCheck { mut notes, proof } = checked;
         self.notes.append(&mut notes)?;
         match proof {
-            Some(proof) => self.proofs.push(proof)?,
+            Some(proof) => self.put_shown(book, number, &proof)?,
             None => self.stopped = true,
         }
+        Ok(())
+    }
+
+    // Puts down the proof of a further slice, unless a note of another one keeps the book from its release.
+    fn put_shown(&mut self, book: &Book, number: usize, proof: &SliceProof) -> Result<(), Memory>
+        requires { length proof.now.set ≡ length book.now.codes }
+        ensures notes { self.new.notes ≡ self.old.notes }
+        ensures stopped { self.new.stopped ≡ self.old.stopped }
+        ensures text { (count : ℕ) (before : List SliceProof) → self.old.stopped ≡ false
+            → number ≡ length before → IsBegun book.now count before self.old.text
+            → OnOk result (IsBegun book.now count (before ++ proof.now ∷ []) self.new.text) }
+    {
+        let stopped = self.stopped;
+        if stopped {
+            return Ok(());
+        }
+        put_proof(&mut self.text, book, number, proof)?;
         Ok(())
     }
 }

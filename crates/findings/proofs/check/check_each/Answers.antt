@@ -1,38 +1,64 @@
-use Rattle.std.proofs.Common.{◌≡◌, List, [], ◌∷◌, ◌++◌, ◌+◌, ◌<◌, get_or, length, take, sym, ap, subst, ◌∙◌, arith}
-use Rattle.std.proofs.lemmas.List.{take_more}
-use Rattle.std.specs.List.{AllZip, list_any}
+use Rattle.std.proofs.Common.{◌≡◌, List, [], ◌∷◌, ◌++◌, ◌+◌, ◌<◌, ◌≤◌, get_or, length, take, sym, ap, subst, ◌∙◌, arith}
+use Rattle.std.proofs.lemmas.List.{take_all, take_more, length-take-le}
+use Rattle.std.specs.List.{list_any}
 use Rattle.book_model.specs.declared.record.Slice.{Slice}
-use Rattle.derivation.specs.Showing.{ShowsSlice}
 use Rattle.findings.specs.Notes.{InParts, SliceNotes}
-use Rattle.findings.specs.Answering.{inquiry, stops}
-use Rattle.findings.proofs.BookLaws.{stopped_more, proofs_more}
+use Rattle.findings.specs.Answering.{IsShownIn, inquiry, stops}
+use Rattle.findings.proofs.BookLaws.{stopped_more, codes_shown, shown_none}
 use Rattle.findings.proofs.ToldLaws.{parts_more}
 use Rattle.findings.proofs.check.check_each.Goals as goal
 
-pub loop-slice-preserved : goal.loop-slice-preserved
-loop-slice-preserved c =
+pub loop-number-init : goal.loop-number-init
+loop-number-init c = record {
+  notes = c.requires.notes;
+  stopped = c.requires.stopped ∙ sym (ap (list_any stops) c.requires.notes);
+  shown = λ free. shown_none c.args.book.now c.args.all.now.text (length c.args.slices.now) c.requires.text;
+  earlier = c.requires.earlier;
+}
+
+pub put-requires : goal.put-requires
+put-requires c =
+    let s : Slice = get_or c.args.slices.now c.loop-number.number (record { first = 0; last = 0 }) in
+    let own = c.in_ok-checked-2.checked in
+    codes_shown c.args.book.now s own.notes.items own.proof c.in_ok-checked-2.ensures.proof
+
+pub loop-number-preserved : goal.loop-number-preserved
+loop-number-preserved c =
     let b = c.args.book.now in
     let slices = c.args.slices.now in
-    let k = c.loop-slice.slice-index in
+    let k = c.loop-number.number in
     let i = inquiry b c.args.effort in
     let none : Slice = record { first = 0; last = 0 } in
     let s : Slice = get_or slices k none in
     let below : k < length slices = omega arith in
     let next : take (k + 1) slices ≡ take k slices ++ s ∷ [] = take_more slices k none below in
-    let all = c.loop-slice.all in
+    let all = c.loop-number.all in
     let own = c.in_ok-checked-2.checked in
-    let so_far = c.loop-slice.invariant in
-    let stopped = c.in_ok-put.ensures.stopped in
+    let so_far = c.loop-number.invariant in
+    let count : k ≡ length (take k slices) = sym (length-take-le k slices (omega arith)) in
     record {
       notes =
           subst (λ (ss : List Slice). InParts (SliceNotes i) ss c.put.new.self.notes.items) (sym next)
           (subst (InParts (SliceNotes i) (take k slices ++ s ∷ [])) (sym c.in_ok-put.ensures.notes)
           (parts_more (SliceNotes i) (take k slices) s all.notes.items own.notes.items so_far.notes
           (subst (SliceNotes i s) (sym c.in_ok-checked-2.ensures.notes) c.in_ok-checked.ensures.notes)));
-      stopped = stopped ∙ stopped_more b s all.notes.items own.notes.items all.stopped own.proof so_far.stopped c.in_ok-checked-2.ensures.proof ∙ ap (list_any stops) (sym c.in_ok-put.ensures.notes);
-      proofs = λ free.
-          subst (λ (ss : List Slice). AllZip (ShowsSlice b) ss c.put.new.self.proofs.items) (sym next)
-          (subst (AllZip (ShowsSlice b) (take k slices ++ s ∷ [])) (sym c.in_ok-put.ensures.proofs)
-          (proofs_more b (take k slices) s all.proofs.items own.notes.items all.stopped own.proof so_far.proofs c.in_ok-checked-2.ensures.proof (sym stopped ∙ free)));
+      stopped = c.in_ok-put.ensures.stopped ∙ stopped_more b s all.notes.items own.notes.items all.stopped own.proof so_far.stopped c.in_ok-checked-2.ensures.proof ∙ ap (list_any stops) (sym c.in_ok-put.ensures.notes);
+      shown = λ free.
+          subst (λ (ss : List Slice). IsShownIn b ss (length slices) c.put.new.self.text) (sym next)
+          (c.in_ok-put.ensures.shown (take k slices) s (length slices) count c.in_ok-checked-2.ensures.proof so_far.shown free);
       earlier = c.in_ok-checked.ensures.earlier;
+    }
+
+pub returns : goal.returns
+returns c =
+    let b = c.args.book.now in
+    let slices = c.args.slices.now in
+    let i = inquiry b c.args.effort in
+    let all = c.loop-number.all in
+    let done : length slices ≤ c.loop-number.number = omega arith in
+    let whole = take_all c.loop-number.number slices done in
+    record {
+      notes = subst (λ (ss : List Slice). InParts (SliceNotes i) ss all.notes.items) whole c.loop-number.invariant.notes;
+      stopped = c.loop-number.invariant.stopped;
+      shown = λ free. subst (λ (ss : List Slice). IsShownIn b ss (length slices) all.text) whole (c.loop-number.invariant.shown free);
     }
