@@ -4,3 +4,4 @@ pub mod LaterHands
 pub mod Seats
 mod NewOrders
 pub mod BookNames
+pub mod CheckedLaws

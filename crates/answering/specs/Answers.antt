@@ -20,6 +20,8 @@ use Rattle.order_text.specs.OutcomeText.{accepted_text, construct_id}
 use Rattle.pb_reports.specs.ReportText.{report_text}
 use Rattle.release_check.specs.NotReleased.{IsRefusal}
 use Rattle.release.specs.Release.{Release, IsRelease}
+use Rattle.release_check.specs.declared.checking.NotChecked.{NotChecked}
+use Rattle.release_check.specs.declared.checking.NotChecked.TheVariants as not_checked
 use Rattle.release_check.specs.declared.not_released.NotReleased.{NotReleased}
 use Rattle.release_check.specs.declared.not_released.NotReleased.TheVariants as kept_back
 use Rattle.desk_words.specs.declared.call.Call.{Call}
@@ -65,6 +67,11 @@ by_limits (Ok slices) b budget said =
 abbrev pub by_reading : Result Contents BookFault → ℕ → Said → Type 0
 by_reading (Err fault) budget said = said ≡ plain (reply.TextRefused fault)
 by_reading (Ok b) budget said = by_limits (slices_within b) b budget said
+
+-- why a text isn't checked, as it is told
+abbrev pub unchecked : NotChecked → Reply
+unchecked (not_checked.Text fault) = reply.TextRefused fault
+unchecked (not_checked.Limit fault) = reply.Limit fault
 
 -- what the check of a text comes to
 abbrev pub IsChecked : List ℕ → ℕ → Said → Type 0

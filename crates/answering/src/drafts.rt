@@ -1,11 +1,10 @@
 //! Calls that check a draft or release it.
-ghost use Rattle.std.specs.Prelude.{◌≡◌, ◌⊎◌, ℕ, ◌<◌, ◌≤◌, IfErr, IfOk, OnErr};
-ghost use Rattle.derivation.specs.Limits.{slices_within};
+ghost use Rattle.std.specs.Prelude.{◌≡◌, ℕ, ◌<◌, ◌≤◌, IfErr, IfOk, OnErr};
 ghost use Rattle.desk_words.specs.declared.reply.Reply.TheVariants as Reply;
 ghost use Rattle.order_desk.specs.declared.answer.Answer.TheVariants as Answer;
 ghost use Rattle.order_desk.specs.declared.event.Event.TheVariants as Event;
 ghost use Rattle.order_desk.specs.Fits.{IsReleaseOf};
-ghost use Rattle.answering.specs.Answers.{IsChecked, IsKeptBack, IsToldAs, by_limits, checking, commits, either, no_more, releasing};
+ghost use Rattle.answering.specs.Answers.{IsChecked, IsKeptBack, IsTold, IsToldAs, checking, commits, either, no_more, releasing, unchecked};
 ghost use Rattle.answering.specs.Course.{asks, ends, or_memory, plain};
 ghost use Rattle.answering.specs.Told.{IsDraftOrReply, IsDraftThere};
 ghost use Rattle.pb_base.specs.declared.limits.TheConstants.{MOST_BUDGET};
@@ -14,15 +13,14 @@ use crate::one_event::one_event;
 use crate::said::Said;
 use crate::turns::Turns;
 use book_model::Book;
-use book_text::read_book;
 use desk_words::Reply;
-use findings::{Ask, Report, report_book};
+use findings::Report;
 use order_desk::{Answer, Event, SharedBook};
 use pb_base::{Body, Fail, Id, Memory};
 use pb_gate::Gate;
 use pb_reports::report_text;
 use release::Released;
-use release_check::{NotReleased, try_release};
+use release_check::{NotChecked, NotReleased, ReportedBook, check_text, try_release};
 use std::alloc::Global;
 
 /// Checks a draft: the report of all questions.
@@ -46,7 +44,7 @@ pub(crate) fn check_draft<T: Turns, G: Gate>(
     match text_of(answer) {
         Ok(text) => {
             gate.judging(&caller);
-            check_text(alloc, text.as_slice(), budget)
+            judge_text(alloc, text.as_slice(), budget)
         }
         Err(reply) => Said::plain(alloc, reply),
     }
@@ -67,30 +65,33 @@ fn text_of(answer: Answer) -> Result<Body, Reply>
     }
 }
 
-fn check_text(alloc: Global, text: &[u8], budget: u32) -> Said
+// The report of all questions about a text, or why there is none.
+fn judge_text(alloc: Global, text: &[u8], budget: u32) -> Said
     requires some { 0 < budget }
     requires most { budget ≤ MOST_BUDGET }
     ensures { IsChecked text.now budget result }
 {
-    match read_book(alloc, text) {
-        Ok(book) => check_read(alloc, &book, budget),
-        Err(Fail::Refused(fault)) => Said::plain(alloc, Reply::TextRefused(fault)),
+    match check_text(alloc, text, budget) {
+        Ok(ReportedBook { book, report }) => reported(alloc, &book, report),
+        Err(Fail::Refused(why)) => not_checked(alloc, why),
         Err(Fail::Memory) => Said::plain(alloc, Reply::Memory),
     }
 }
 
-fn check_read(alloc: Global, book: &Book, budget: u32) -> Said
-    requires some { 0 < budget }
-    requires most { budget ≤ MOST_BUDGET }
-    ensures { (result ≡ plain Reply.Memory) ⊎ by_limits (slices_within book.now) book.now budget result }
+fn reported(alloc: Global, book: &Book, report: Report) -> Said
+    ensures { IsTold Reply.Report book.now report result }
 {
-    match report_book(alloc, book, budget, Ask::All) {
-        Ok(report) => {
-            let reply = report_text(alloc, book, &report).map(Reply::Report);
-            told(alloc, reply, report)
-        }
-        Err(Fail::Refused(fault)) => Said::plain(alloc, Reply::Limit(fault)),
-        Err(Fail::Memory) => Said::plain(alloc, Reply::Memory),
+    let reply = report_text(alloc, book, &report).map(Reply::Report);
+    told(alloc, reply, report)
+}
+
+// Why a text isn't checked, as it is told.
+fn not_checked(alloc: Global, why: NotChecked) -> Said
+    ensures { result ≡ plain (unchecked why) }
+{
+    match why {
+        NotChecked::Text(fault) => Said::plain(alloc, Reply::TextRefused(fault)),
+        NotChecked::Limit(fault) => Said::plain(alloc, Reply::Limit(fault)),
     }
 }
 

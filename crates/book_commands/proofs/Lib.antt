@@ -8,5 +8,6 @@ pub mod Valid
 pub mod NeverBlocked
 pub mod SampleLaws
 pub mod ReportLaws
+pub mod TextLaws
 pub mod Decided
 pub mod CompareLaws

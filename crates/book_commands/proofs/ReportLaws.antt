@@ -1,5 +1,5 @@
 -- A report that says that its book can be released is right in it.
-use Rattle.std.proofs.Common.{◌≡◌, ℕ, suc, ◌-◌, ◌≤◌, Bool, true, false, ◌||◌, List, [], ◌∷◌, Some, Result, Ok, Err, All, map, refl, sym, ap, subst, ◌∙◌, arith, inl, inr}
+use Rattle.std.proofs.Common.{◌≡◌, ℕ, suc, ◌-◌, ◌≤◌, Bool, true, false, ◌||◌, List, [], ◌∷◌, Some, All, map, refl, sym, ap, subst, ◌∙◌, arith, inl, inr}
 use Rattle.std.specs.List.{AllByRecursion, list_any, filter, flat_map, slice_get}
 use Rattle.std.proofs.lemmas.List.Folds.{list_any-append}
 use Rattle.std.proofs.lemmas.Bool.{cases_Bool, or_parts, and_from, true≢false, false≢true, cond-true, cond-false, le-leb}
@@ -33,7 +33,6 @@ use Rattle.findings.specs.declared.report.Ask.TheVariants as ask
 use Rattle.findings.specs.declared.report.Note.{Note}
 use Rattle.findings.specs.declared.report.Note.TheVariants.{Days, Finding, Undecided}
 use Rattle.findings.specs.declared.report.Verdict.TheVariants as verdicts
-use Rattle.std.specs.Result.{IfOk}
 use Rattle.book_commands.specs.Checks.{IsReported, RepliesWithin, inquiry}
 use Rattle.book_commands.specs.RunReply.{RunReply, report_reply}
 use Rattle.findings.proofs.BookLaws.{steady_within, ordered_within, free_when_releasable}
@@ -174,10 +173,8 @@ releasable_by_report i notes book report verdict =
     }
 
 -- what is told of such a report
-pub reported : {E : Type 0} (b : Contents) (budget n : ℕ) (report : List Note) (r : Result RunReply E) → IsBook b → n ≡ budget → IsReport (record { book = b; ask = ask.All; budget = n }) report
-    → IfOk r (λ reply. reply ≡ report_reply b report) → IfOk r (RepliesWithin (slices_within b) (IsReported (inquiry ask.All budget b)))
-reported b budget n report (Err e) book same right told = tt
-reported b budget n report (Ok reply) book same right told =
-    let is : IsReport (inquiry ask.All budget b) report = subst (λ (m : ℕ). IsReport (inquiry ask.All m b) report) same right in
+pub reported : (b : Contents) (budget : ℕ) (report : List Note) (reply : RunReply) → IsBook b → IsReport (inquiry ask.All budget b) report → reply ≡ report_reply b report
+    → RepliesWithin (slices_within b) (IsReported (inquiry ask.All budget b)) reply
+reported b budget report reply book right told =
     subst (λ limits. RepliesWithin limits (IsReported (inquiry ask.All budget b)) reply) (sym right.within)
-    (record { report = report; is_right = is; released = releasable_by_report (inquiry ask.All budget b) report book is; answer = told })
+    (record { report = report; is_right = right; released = releasable_by_report (inquiry ask.All budget b) report book right; answer = told })

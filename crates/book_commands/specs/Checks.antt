@@ -1,7 +1,10 @@
 -- What the check of a whole book is answered.
 --     RepliesToCheck book budget reply    the report on all questions
 --     RepliesToProof book budget reply    a certificate, or the report on what keeps the book from its release
-use Rattle.std.specs.Prelude.{◌≡◌, ℕ, List, Result, Ok, Err, IsOk, IfOk}
+--     not_checked_reply why               why there is no report
+--     kept_back_reply why                 why there is no certificate, or no released book
+use Rattle.std.specs.Prelude.{◌≡◌, ℕ, ◌≤◌, List, Result, Ok, Err, IsOk, IfOk}
+use Rattle.pb_base.specs.declared.limits.TheConstants.{MOST_SLICES}
 use Rattle.book_model.specs.Contents.{Contents}
 use Rattle.book_model.specs.Sound.{IsReleasable}
 use Rattle.book_model.specs.declared.record.Slice.{Slice}
@@ -15,6 +18,11 @@ use Rattle.findings.specs.declared.report.Ask.TheVariants.{All, Blocking}
 use Rattle.findings.specs.declared.report.Note.{Note as Told}
 use Rattle.findings.specs.declared.report.Verdict.{Verdict}
 use Rattle.findings.specs.declared.report.Verdict.TheVariants.{Releasable, Blocked, Undecided}
+use Rattle.release_check.specs.declared.checking.NotChecked.{NotChecked}
+use Rattle.release_check.specs.declared.checking.NotChecked.TheVariants as not_checked
+use Rattle.release_check.specs.declared.not_released.NotReleased.{NotReleased}
+use Rattle.release_check.specs.declared.not_released.NotReleased.TheVariants as not_released
+use Rattle.book_commands.specs.Logged.{slices_told}
 use Rattle.book_commands.specs.RunReply.{RunReply, book_fault_reply, limit_fault_reply, report_reply, certificate_reply}
 
 -- a right report, and where it says that the book can be released, the book can
@@ -57,6 +65,25 @@ RepliesToCheck (Err fault) budget reply = reply ≡ book_fault_reply fault
 abbrev pub RepliesToProof : Result Contents BookFault → ℕ → RunReply → Type 0
 RepliesToProof (Ok b) budget reply = RepliesWithin (slices_within b) (IsProved (inquiry Blocking budget b)) reply
 RepliesToProof (Err fault) budget reply = reply ≡ book_fault_reply fault
+
+-- by why the text is not checked: its fault, or the limit that its book exceeds
+abbrev pub not_checked_reply : NotChecked → RunReply
+not_checked_reply (not_checked.Text fault) = book_fault_reply fault
+not_checked_reply (not_checked.Limit fault) = limit_fault_reply fault
+
+-- by why the book is not released: the fault of the text, the limit that it exceeds, or the report on it
+abbrev pub kept_back_reply : NotReleased → RunReply
+kept_back_reply (not_released.Text fault) = book_fault_reply fault
+kept_back_reply (not_released.Found b report) = report_reply b report
+kept_back_reply (not_released.Undecided b report) = report_reply b report
+kept_back_reply (not_released.Limit fault) = limit_fault_reply fault
+
+-- a report tells of no more slices than a book may have
+abbrev pub HasFewSlices : NotReleased → Type 0
+HasFewSlices (not_released.Text fault) = Unit {0}
+HasFewSlices (not_released.Found b report) = slices_told report ≤ MOST_SLICES
+HasFewSlices (not_released.Undecided b report) = slices_told report ≤ MOST_SLICES
+HasFewSlices (not_released.Limit fault) = Unit {0}
 
 -- the text is a book that keeps the limits of a check
 pub record IsCheckable (book : Result Contents BookFault) : Type 0 where

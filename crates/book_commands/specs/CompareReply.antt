@@ -3,9 +3,9 @@
 --     comparison_reply notes             the notes on all positions, which stand in the log
 --     RepliesToTexts first second day budget reply
 --                                        the books of both texts are released, the first one first, and then compared
-use Rattle.std.specs.Prelude.{◌≡◌, ◌⊎◌, ℕ, ◌≤◌, Bool, true, List, [], ◌∷◌, ◌++◌, Option, None, Some, Result, Ok, IfOk, IsSomeAnd, IsTrue, codes, length, map, nat_le, if◌then◌else◌}
+use Rattle.std.specs.Prelude.{◌≡◌, ◌⊎◌, ℕ, true, List, [], Option, None, Some, Ok, IfOk, IsSomeAnd, IsTrue, codes, length, map, nat_le, if◌then◌else◌}
 use Rattle.std.specs.List.{list_any}
-use Rattle.pb_base.specs.declared.limits.TheConstants.{MOST_SLICES, MOST_TEXT_BYTES}
+use Rattle.pb_base.specs.declared.limits.TheConstants.{MOST_TEXT_BYTES}
 use Rattle.book_compare.specs.CompareText.{is_finding, is_undecided, compare_text}
 use Rattle.book_compare.specs.Comparison.{IsComparison, outside}
 use Rattle.book_compare.specs.declared.note.CompareNote.{CompareNote}
@@ -19,11 +19,8 @@ use Rattle.book_text.specs.declared.fault.BookFault.{BookFault}
 use Rattle.book_text.specs.declared.fault.BookKind.TheVariants.{TooLarge}
 use Rattle.desk_words.specs.Lines.{line}
 use Rattle.pb_outside.specs.Files.{NamedBytes, FilesTold, content_of, ReadsFile}
-use Rattle.release_check.specs.declared.not_released.NotReleased.{NotReleased}
-use Rattle.release_check.specs.declared.not_released.NotReleased.TheVariants.{Text, Found, Undecided, Limit}
 use Rattle.book_commands.specs.Checks.{RepliesToProof, IsCheckable}
-use Rattle.book_commands.specs.Logged.{slices_told}
-use Rattle.book_commands.specs.RunReply.{RunReply, book_fault_reply, limit_fault_reply, report_reply}
+use Rattle.book_commands.specs.RunReply.{RunReply, book_fault_reply}
 use Rattle.book_commands.specs.declared.log.Note.TheVariants.{Compare}
 use Rattle.book_commands.specs.declared.run_status.RunStatus.{RunStatus}
 use Rattle.book_commands.specs.declared.run_status.RunStatus.TheVariants as statuses
@@ -36,20 +33,6 @@ pub record IsReleased (text : List ℕ) (b : Contents) : Type 0 where
 pub record IsKeptBack (text : List ℕ) (budget : ℕ) (reply : RunReply) : Type 0 where
   pub answer : RepliesToProof (book_of text) budget reply
   pub kept : reply.status ≡ statuses.Done → ⊥
-
--- by why the book is not released: the fault of the text, the limit that it exceeds, or the report on it
-abbrev pub kept_back_reply : NotReleased → RunReply
-kept_back_reply (Text fault) = book_fault_reply fault
-kept_back_reply (Found b report) = report_reply b report
-kept_back_reply (Undecided b report) = report_reply b report
-kept_back_reply (Limit fault) = limit_fault_reply fault
-
--- a report tells of no more slices than a book may have
-abbrev pub HasFewSlices : NotReleased → Type 0
-HasFewSlices (Text fault) = Unit {0}
-HasFewSlices (Found b report) = slices_told report ≤ MOST_SLICES
-HasFewSlices (Undecided b report) = slices_told report ≤ MOST_SLICES
-HasFewSlices (Limit fault) = Unit {0}
 
 -- a file that is longer than a book's text may be
 abbrev pub text_too_large : BookFault

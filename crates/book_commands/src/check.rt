@@ -1,14 +1,10 @@
 //! Checks a whole book, or shows that it can be released.
 ghost use Rattle.std.specs.Prelude.{◌≡◌, ◌≤◌, IfOk};
-ghost use Rattle.book_model.specs.Sound.{IsReleasable};
 ghost use Rattle.book_text.specs.BookText.{book_of};
-ghost use Rattle.derivation.specs.Limits.{slices_within};
-ghost use Rattle.findings.specs.Notes.{IsReport};
-ghost use Rattle.findings.specs.declared.report.Ask.TheVariants.{All, Blocking};
 ghost use Rattle.pb_base.specs.declared.limits.TheConstants.{MOST_SLICES};
 ghost use Rattle.book_commands.specs.Logged.{slices_told};
 ghost use Rattle.book_commands.specs.RunReply.{limit_fault_reply, verdict_status, report_reply};
-ghost use Rattle.book_commands.specs.Checks.{IsReported, IsProved, RepliesWithin, inquiry, RepliesToCheck, RepliesToProof};
+ghost use Rattle.book_commands.specs.Checks.{RepliesToCheck, RepliesToProof, HasFewSlices, kept_back_reply, not_checked_reply};
 
 use crate::budget::Budget;
 use crate::fault_text::limit_fault_text;
@@ -18,32 +14,25 @@ use crate::logged::logged;
 use crate::run_reply::RunReply;
 use crate::run_status::RunStatus;
 use book_model::{Book, LimitFault};
-use book_text::read_book;
-use findings::{Ask, Checked, Report, Verdict, check_book, report_book, verdict_of};
+use findings::{Report, Verdict, verdict_of};
 use pb_base::{Fail, Memory};
 use pb_reports::report_text;
+use release_check::{
+    CertifiedBook, NotChecked, NotReleased, ReportedBook, certify_text, check_text,
+};
 use std::alloc::Global;
 
 /// What is wrong with the book of the text, by all questions.
 pub fn check_reply(alloc: Global, text: &[u8], budget: &Budget) -> Result<RunReply, Memory>
     ensures { IfOk result (RepliesToCheck (book_of text.now) budget.now) }
 {
-    match read_book(alloc, text) {
-        Ok(book) => checked_reply(alloc, &book, budget),
-        Err(Fail::Refused(fault)) => book_fault_reply(alloc, fault),
-        Err(Fail::Memory) => Err(Memory),
-    }
-}
-
-fn checked_reply(alloc: Global, book: &Book, budget: &Budget) -> Result<RunReply, Memory>
-    ensures { let limits = slices_within book.now in
-        IfOk result (RepliesWithin limits (IsReported (inquiry All budget.now book.now))) }
-{
-    // Every book meets the conditions on its records, so a right report of it tells whether it can be released.
-    book.codes();
-    match report_book(alloc, book, budget.clauses(), Ask::All) {
-        Ok(report) => report_reply(alloc, book, report),
-        Err(Fail::Refused(fault)) => limit_fault_reply(alloc, fault),
+    match check_text(alloc, text, budget.clauses()) {
+        Ok(ReportedBook { book, report }) => {
+            // Every book meets the conditions on its records, so a right report of it tells whether it can be released.
+            book.codes();
+            report_reply(alloc, &book, report)
+        }
+        Err(Fail::Refused(why)) => not_checked_reply(alloc, why),
         Err(Fail::Memory) => Err(Memory),
     }
 }
@@ -52,29 +41,38 @@ fn checked_reply(alloc: Global, book: &Book, budget: &Budget) -> Result<RunReply
 pub fn proof_reply(alloc: Global, text: &[u8], budget: &Budget) -> Result<RunReply, Memory>
     ensures { IfOk result (RepliesToProof (book_of text.now) budget.now) }
 {
-    match read_book(alloc, text) {
-        Ok(book) => proved_reply(alloc, &book, budget),
-        Err(Fail::Refused(fault)) => book_fault_reply(alloc, fault),
+    match certify_text(alloc, text, budget.clauses()) {
+        Ok(CertifiedBook { book: _, cert }) => Ok(RunReply::plain(alloc, cert, RunStatus::Done)),
+        Err(Fail::Refused(why)) => kept_back_reply(alloc, why),
         Err(Fail::Memory) => Err(Memory),
     }
 }
 
-fn proved_reply(alloc: Global, book: &Book, budget: &Budget) -> Result<RunReply, Memory>
-    ensures { let limits = slices_within book.now in
-        IfOk result (RepliesWithin limits (IsProved (inquiry Blocking budget.now book.now))) }
+// Why a text isn't checked.
+fn not_checked_reply(alloc: Global, why: NotChecked) -> Result<RunReply, Memory>
+    ensures { IfOk result (λ reply. reply ≡ not_checked_reply why) }
 {
-    match check_book(alloc, book, budget.clauses(), Ask::Blocking) {
-        Ok(Checked { report, cert }) => match cert {
-            Some(text) => Ok(RunReply::plain(alloc, text, RunStatus::Done)),
-            None => report_reply(alloc, book, report),
-        },
-        Err(Fail::Refused(fault)) => limit_fault_reply(alloc, fault),
-        Err(Fail::Memory) => Err(Memory),
+    match why {
+        NotChecked::Text(fault) => book_fault_reply(alloc, fault),
+        NotChecked::Limit(fault) => limit_fault_reply(alloc, fault),
     }
 }
 
-/// The report, with its findings and what was left as notes.
-pub(crate) fn report_reply(alloc: Global, book: &Book, report: Report) -> Result<RunReply, Memory>
+/// Why the book of a text isn't released.
+pub(crate) fn kept_back_reply(alloc: Global, why: NotReleased) -> Result<RunReply, Memory>
+    requires { HasFewSlices why }
+    ensures { IfOk result (λ reply. reply ≡ kept_back_reply why) }
+{
+    match why {
+        NotReleased::Text(fault) => book_fault_reply(alloc, fault),
+        NotReleased::Found { book, report } => report_reply(alloc, &book, report),
+        NotReleased::Undecided { book, report } => report_reply(alloc, &book, report),
+        NotReleased::Limit(fault) => limit_fault_reply(alloc, fault),
+    }
+}
+
+// The report, with its findings and what was left as notes.
+fn report_reply(alloc: Global, book: &Book, report: Report) -> Result<RunReply, Memory>
     requires few { slices_told report ≤ MOST_SLICES }
     ensures { IfOk result (λ reply. reply ≡ report_reply book.now report) }
 {

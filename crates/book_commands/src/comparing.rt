@@ -5,12 +5,12 @@ ghost use Rattle.pb_base.specs.Answers.{IfRefused};
 ghost use Rattle.pb_outside.specs.Files.{FailsToRead};
 ghost use Rattle.book_compare.specs.Comparison.{outside};
 ghost use Rattle.release_check.specs.NotReleased.{IsRefusal};
-ghost use Rattle.book_commands.specs.CompareReply.{comparison_status, comparison_reply, outside_reply, outside_text, kept_back_reply, HasFewSlices, IsReleased, RepliesByDay, RepliesToSecond, RepliesToTexts, RepliesToCompare};
+ghost use Rattle.book_commands.specs.CompareReply.{comparison_status, comparison_reply, outside_reply, outside_text, IsReleased, RepliesByDay, RepliesToSecond, RepliesToTexts, RepliesToCompare};
 ghost use Rattle.book_commands.specs.Replies.{ReadsFiles};
 ghost use Rattle.book_commands.specs.declared.log.Note.TheVariants.{Compare};
 
 use crate::budget::Budget;
-use crate::check::{limit_fault_reply, report_reply};
+use crate::check::kept_back_reply;
 use crate::judge::book_fault_reply;
 use crate::log::Note;
 use crate::run_reply::RunReply;
@@ -134,19 +134,6 @@ fn body_of(alloc: Global, text: &[u8]) -> Result<Body, Memory>
 {
     let bytes = Vec::from_slice(alloc, text)?;
     Ok(Body::of(bytes))
-}
-
-// What keeps a book from its release.
-fn kept_back_reply(alloc: Global, why: NotReleased) -> Result<RunReply, Memory>
-    requires { HasFewSlices why }
-    ensures { IfOk result (λ reply. reply ≡ kept_back_reply why) }
-{
-    match why {
-        NotReleased::Text(fault) => book_fault_reply(alloc, fault),
-        NotReleased::Found { book, report } => report_reply(alloc, &book, report),
-        NotReleased::Undecided { book, report } => report_reply(alloc, &book, report),
-        NotReleased::Limit(fault) => limit_fault_reply(alloc, fault),
-    }
 }
 
 // The notes, which stand in the log too.

@@ -1,4 +1,5 @@
-use Rattle.book_commands.proofs.CompareLaws.{few_slices, second_released, second_kept_back}
+use Rattle.book_commands.proofs.CompareLaws.{second_released, second_kept_back}
+use Rattle.book_commands.proofs.TextLaws.{few_slices}
 use Rattle.book_commands.proofs.comparing.released_reply.Goals as goal
 
 pub kept_back_reply-requires : goal.kept_back_reply-requires

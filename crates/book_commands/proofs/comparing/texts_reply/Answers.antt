@@ -1,4 +1,5 @@
-use Rattle.book_commands.proofs.CompareLaws.{few_slices, texts_released, texts_kept_back}
+use Rattle.book_commands.proofs.CompareLaws.{texts_released, texts_kept_back}
+use Rattle.book_commands.proofs.TextLaws.{few_slices}
 use Rattle.book_commands.proofs.comparing.texts_reply.Goals as goal
 
 pub kept_back_reply-requires : goal.kept_back_reply-requires
