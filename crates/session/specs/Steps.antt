@@ -1,4 +1,4 @@
--- The parts of a session.
+-- The parts of a session, for its inner functions: no public contract has them.
 --     seen held input output          what a link tells, where these bytes were read of it and are not used yet
 --     ReceivesHead head before after  the next head was read
 --     Receives m before after         the next message was read, and what it awaits before its body was written

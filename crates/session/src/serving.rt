@@ -34,8 +34,14 @@ pub fn session<L: Link, T: Turns, G: Gate>(
     ensures steps { IsLaterHand (T.hand turns.old) (T.hand turns.new) }
     ensures same_names { L.names link.new ≡ L.names link.old }
 {
-    let _left = turns.left();
-    begin(alloc, link, turns, gate)
+    match Routes::new(alloc) {
+        Ok(routes) => session_by(alloc, &routes, link, turns, gate),
+        Err(Memory) => {
+            // Who asks how many steps are left knows that the tables which were seen are valid.
+            turns.left();
+            give_up(link)
+        }
+    }
 }
 
 /// Does what `session` does, by paths that were read before: who serves many links reads them once.
@@ -52,29 +58,11 @@ pub fn session_by<L: Link, T: Turns, G: Gate>(
     ensures steps { IsLaterHand (T.hand turns.old) (T.hand turns.new) }
     ensures same_names { L.names link.new ≡ L.names link.old }
 {
-    let _left = turns.left();
+    turns.left();
     serve(alloc, routes, link, turns, gate)
 }
 
-// The same, where the holder has seen valid tables.
-fn begin<L: Link, T: Turns, G: Gate>(
-    alloc: Global,
-    link: &mut L,
-    turns: &mut T,
-    gate: &G,
-) -> SessionEnd
-    ensures serves { let before = told (L.input link.old) (L.output link.old) in
-        let after = told (L.input link.new) (L.output link.new) in
-        IsSession result (T.hand turns.old) before after (T.hand turns.new) }
-    ensures same_names { L.names link.new ≡ L.names link.old }
-{
-    match Routes::new(alloc) {
-        Ok(routes) => serve(alloc, &routes, link, turns, gate),
-        Err(Memory) => give_up(link),
-    }
-}
-
-// The same, where the paths are known.
+// The messages, by what is read and written for them.
 fn serve<L: Link, T: Turns, G: Gate>(
     alloc: Global,
     routes: &Routes,
