@@ -1,4 +1,4 @@
-//! A row of each kind: its key is a digit, and what it says is another byte.
+//! A row of each kind: its key is a digit, and each other field hangs on what it says, another byte.
 
 use keeper::{BookRow, DraftRow, OrderRow};
 use pb_base::Body;
@@ -11,24 +11,24 @@ fn body(alloc: Global, bytes: &[u8]) -> Result<Body, AllocError> {
 pub(crate) fn draft(alloc: Global, digit: u8, says: u8) -> Result<DraftRow, AllocError> {
     Ok(DraftRow {
         name: body(alloc, &[digit])?,
-        owner: body(alloc, b"ANNA")?,
-        revision: 1,
+        owner: body(alloc, &[b'O', says])?,
+        revision: u64::from(says),
         text: body(alloc, &[says, 0, 255])?,
     })
 }
 
 pub(crate) fn is_draft(row: &DraftRow, digit: u8, says: u8) -> bool {
     row.name.as_slice() == [digit].as_slice()
-        && row.owner.as_slice() == b"ANNA".as_slice()
-        && row.revision == 1
+        && row.owner.as_slice() == [b'O', says].as_slice()
+        && row.revision == u64::from(says)
         && row.text.as_slice() == [says, 0, 255].as_slice()
 }
 
 pub(crate) fn book(alloc: Global, digit: u8, says: u8) -> Result<BookRow, AllocError> {
     Ok(BookRow {
         number: number(digit),
-        draft: body(alloc, b"T")?,
-        revision: 3,
+        draft: body(alloc, &[b'T', says])?,
+        revision: u64::from(says),
         text: body(alloc, &[says])?,
         cert: body(alloc, &[says, says])?,
     })
@@ -36,8 +36,8 @@ pub(crate) fn book(alloc: Global, digit: u8, says: u8) -> Result<BookRow, AllocE
 
 pub(crate) fn is_book(row: &BookRow, digit: u8, says: u8) -> bool {
     row.number == number(digit)
-        && row.draft.as_slice() == b"T".as_slice()
-        && row.revision == 3
+        && row.draft.as_slice() == [b'T', says].as_slice()
+        && row.revision == u64::from(says)
         && row.text.as_slice() == [says].as_slice()
         && row.cert.as_slice() == [says, says].as_slice()
 }
@@ -45,19 +45,19 @@ pub(crate) fn is_book(row: &BookRow, digit: u8, says: u8) -> bool {
 pub(crate) fn order(alloc: Global, digit: u8, says: u8) -> Result<OrderRow, AllocError> {
     Ok(OrderRow {
         caller: body(alloc, &[b'H', digit])?,
-        number: u64::from(says),
-        book: 1,
-        day: 40,
-        codes: body(alloc, b"M1 G5")?,
+        number: number(digit),
+        book: u64::from(says),
+        day: u64::from(says) + 1,
+        codes: body(alloc, &[b'M', says, b' ', b'G'])?,
     })
 }
 
 pub(crate) fn is_order(row: &OrderRow, digit: u8, says: u8) -> bool {
     row.caller.as_slice() == [b'H', digit].as_slice()
-        && row.number == u64::from(says)
-        && row.book == 1
-        && row.day == 40
-        && row.codes.as_slice() == b"M1 G5".as_slice()
+        && row.number == number(digit)
+        && row.book == u64::from(says)
+        && row.day == u64::from(says) + 1
+        && row.codes.as_slice() == [b'M', says, b' ', b'G'].as_slice()
 }
 
 pub(crate) fn number(digit: u8) -> u64 {
