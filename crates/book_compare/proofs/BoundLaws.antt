@@ -1,19 +1,19 @@
 -- The variables of two books are numbers of 32 bits, and the clauses of a position speak of no others.
-use Rattle.std.proofs.Common.{◌≡◌, ℕ, zero, suc, ◌+◌, ◌-◌, ◌*◌, ◌<◌, ◌≤◌, Bool, true, false, List, [], ◌∷◌, ◌++◌, Option, Some, None, length, map, refl, sym, ap, subst, ◌∙◌, inl, inr, arith, length-append}
+use Rattle.std.proofs.Common.{◌≡◌, ℕ, zero, suc, ◌+◌, ◌*◌, ◌<◌, ◌≤◌, Bool, true, false, List, [], ◌∷◌, ◌++◌, Option, Some, None, length, get_or, map, refl, sym, ap, subst, inl, inr, arith, length-append}
 use Rattle.std.specs.List.{filter, flat_map, slice_get, AllByRecursion}
 use Rattle.std.specs.Option.{option_map_or, is_none}
 use Rattle.std.proofs.lemmas.Bool.{cases_Bool, cond-true, cond-false}
 use Rattle.std.proofs.lemmas.List.{length-map}
 use Rattle.std.proofs.lemmas.List.Elements.{recursion_from_All}
-use Rattle.pb_base.specs.Rule.{Rule, never, nodes, codes_below}
-use Rattle.pb_base.specs.Leaves.{with_places}
+use Rattle.std.proofs.lemmas.Option.{slice_get_within}
+use Rattle.pb_base.specs.Rule.{never, nodes, codes_below}
 use Rattle.pb_base.specs.Names.{place_in}
 use Rattle.pb_base.proofs.LeafLaws.{nodes-with_leaves, codes_below-with_places}
 use Rattle.pb_base.specs.Leaves.{renamed}
 use Rattle.book_model.specs.Activity.{is_within}
-use Rattle.book_model.specs.Book.{IsBook, RuleFits, SupplementFits, ConstructFits, DemandFits, VariantFits}
+use Rattle.book_model.specs.Book.{IsBook, SupplementFits, ConstructFits, DemandFits, VariantFits}
 use Rattle.book_model.specs.Contents.{Contents}
-use Rattle.book_model.specs.Parts.{is_active_position, variants_of}
+use Rattle.book_model.specs.Parts.{is_active_position}
 use Rattle.book_model.specs.declared.demand.Demand.{Demand}
 use Rattle.book_model.specs.declared.demand.Demand.TheVariants as demand
 use Rattle.book_model.specs.declared.record.Supplement.{Supplement}
@@ -24,24 +24,26 @@ use Rattle.book_model.proofs.BookLimits.{constructs_below}
 use Rattle.clause_pool.specs.Literal.{literal, complement}
 use Rattle.clause_pool.specs.Clause.{AreBelow, IsBelow, clause_of}
 use Rattle.clause_pool.proofs.ClauseLaws.{IsBelow-clause_of}
-use Rattle.clausify.specs.Formulas.{connectives, formula_literal, either_clauses}
-use Rattle.clausify.specs.Items.{Item, free_item, variables_of, item_clauses, supplement_item, demand_item, construct_item, rule_items, usage_item, usage_items, items}
+use Rattle.clausify.specs.Formulas.{connectives, either_clauses}
+use Rattle.clausify.specs.Items.{Item, free_item, variables_of, supplement_item, demand_item, construct_item, rule_items, usage_item, usage_items, items}
 use Rattle.clausify.specs.Choices.{Choice, choices, choices_from, usage, active_variants}
 use Rattle.clausify.specs.Goals.{usages_from, all_usages}
 use Rattle.clausify.specs.declared.usage.Usage.{Usage}
 use Rattle.clausify.proofs.Bounds.{connectives_below, active_below}
 use Rattle.clausify.proofs.GoalLaws.{UsagesFit, usages_fit}
-use Rattle.clausify.proofs.ItemLaws.{variables_of-append, AllFit}
+use Rattle.clausify.proofs.ItemLaws.{variables_of-append}
 use Rattle.clausify.proofs.ListLaws.{all-append, all-map, all_weaker, all_filtered}
 use Rattle.clausify.proofs.RangeLaws.{positive_below, negative_below, complement_below, literal_below, either_below, items_below}
-use Rattle.book_compare.specs.Numbering.{numbers_of, further, missing_from, added_from, alone}
+use Rattle.book_compare.specs.Numbering.{numbers_of, further, alone}
 use Rattle.chosen_parts.specs.Chosen.{position_place, part_use, is_same_use}
 use Rattle.chosen_parts.specs.declared.part_use.PartUse.{PartUse}
-use Rattle.book_compare.specs.Asked.{is_variant_of, usages_in, usages_at, uses, keys_of, literals_with, key_literals, asked_keys, asked_clauses, asked_variables, asked_goal}
+use Rattle.book_compare.specs.Asked.{is_variant_of, usages_in, usages_at, uses, keys_of, literals_with, key_literals, asked_keys}
 use Rattle.book_compare.specs.Keys.{KeyLiterals, any_clauses, any_literal, either_all, either_literal, joins, key_variables, first_literal, second_literal, lost_variable, won_variable, key_clauses, keys_clauses, keys_variables, ways, goal_clause, position_clauses}
+use Rattle.book_compare.specs.Together.{position_variables, together_clauses, together_variables, together_goals, place_keys, searched_clauses, searched_variables, goal_at}
+use Rattle.book_compare.specs.declared.place.Place.{Place}
 use Rattle.book_compare.proofs.JointLaws.{joint_fit}
 use Rattle.book_compare.proofs.NumberLaws.{numbers_below}
-use Rattle.book_compare.specs.JointItems.{absent_item, absent_items, renamed_item, day_variants, renamed_usage, renamed_usage_items, renamed_usages, second_items, joint_items, first_variable, joint_clauses, joint_variables, first_rules_at, first_usages_at, second_rules_at, second_usages_at, first_usages, second_usages}
+use Rattle.book_compare.specs.JointItems.{absent_item, absent_items, renamed_item, day_variants, renamed_usage, renamed_usage_items, renamed_usages, second_items, joint_items, first_variable, joint_clauses, joint_variables, first_usages_at, second_usages_at, first_usages, second_usages}
 
 -- few variables: each item takes at most 512
 
@@ -362,20 +364,41 @@ usages_more : (k top : ℕ) → k ≤ top → (us : List Usage) → UsagesBelow 
 usages_more k top more [] below = tt
 usages_more k top more (u ∷ us) below = let one : u.literal < 2 * k = below.0 in (omega arith, usages_more k top more us below.1)
 
-pub asked_below : (first second : Contents) (day : ℕ) (id : List ℕ) → IsBook first → IsBook second → AreBelow (2 * asked_variables first second day id) (asked_clauses first second day id)
-asked_below first second day id one other =
-    let top : ℕ = asked_variables first second day id in
-    let keys : List KeyLiterals = asked_keys first second day id in
-    let us : List Usage = usages_at first id (first_usages first second day) in
-    let ws : List Usage = usages_at second id (second_usages first second day) in
-    let first_low : UsagesBelow top us =
-    at_below first top id (first_usages first second day) (usages_more (joint_variables first second day) top (omega arith) (first_usages first second day) (first_below first second day one other)) in
-    let second_low : UsagesBelow top ws =
-    at_below second top id (second_usages first second day) (usages_more (joint_variables first second day) top (omega arith) (second_usages first second day) (second_below first second day one other)) in
-    all-append _ (joint_clauses first second day) _ (joint_below first second day one other top (omega arith))
-    (position_below (length first.codes) (joint_variables first second day) top keys (omega arith) (keys_literals_below first us second ws top first_low second_low (keys_of (uses first us) (uses second ws))) (omega arith))
+-- several positions
+abbrev AreKeysBelow : ℕ → List (List KeyLiterals) → Type 0
+AreKeysBelow top kss = AllByRecursion (KeysBelow top) kss
 
--- the last variable is one of them
-pub goal_below : (first second : Contents) (day : ℕ) (id : List ℕ) → asked_goal first second day id < 2 * asked_variables first second day id
-goal_below first second day id =
-    positive_below (joint_variables first second day + keys_variables (asked_keys first second day id)) (asked_variables first second day id) (omega arith)
+together_below : (n v top : ℕ) (kss : List (List KeyLiterals)) → n < top → AreKeysBelow top kss → v + together_variables kss ≤ top → AreBelow (2 * top) (together_clauses n v kss)
+together_below n v top [] low below room = tt
+together_below n v top (ks ∷ kss) low below room =
+    all-append _ (position_clauses n v ks) (together_clauses n (v + position_variables ks) kss) (position_below n v top ks low below.0 (omega arith))
+    (together_below n (v + position_variables ks) top kss low below.1 (omega arith))
+
+goals_below : (v top : ℕ) (kss : List (List KeyLiterals)) (at : ℕ) → at < length kss → v + together_variables kss ≤ top → get_or (together_goals v kss) at 0 < 2 * top
+goals_below v top [] at within room = absurd (omega arith)
+goals_below v top (ks ∷ kss) zero within room = positive_below (v + keys_variables ks) top (omega arith)
+goals_below v top (ks ∷ kss) (suc at) within room = goals_below (v + position_variables ks) top kss at (omega arith) (omega arith)
+
+module _ (first second : Contents) (day : ℕ) (one : IsBook first) (other : IsBook second) where
+  keys_at_below : (top : ℕ) (id : List ℕ) → joint_variables first second day ≤ top → KeysBelow top (asked_keys first second day id)
+  keys_at_below top id room =
+      keys_literals_below first (usages_at first id (first_usages first second day)) second (usages_at second id (second_usages first second day)) top
+      (at_below first top id (first_usages first second day) (usages_more (joint_variables first second day) top room (first_usages first second day) (first_below first second day one other)))
+      (at_below second top id (second_usages first second day) (usages_more (joint_variables first second day) top room (second_usages first second day) (second_below first second day one other)))
+      (keys_of (uses first (usages_at first id (first_usages first second day))) (uses second (usages_at second id (second_usages first second day))))
+
+  places_below : (top : ℕ) (ps : List Place) → joint_variables first second day ≤ top → AreKeysBelow top (place_keys first second day ps)
+  places_below top [] room = tt
+  places_below top (p ∷ ps) room = (keys_at_below top p.id room, places_below top ps room)
+
+  pub searched_below : (ps : List Place) → AreBelow (2 * searched_variables first second day ps) (searched_clauses first second day ps)
+  searched_below ps =
+      let top : ℕ = searched_variables first second day ps in
+      all-append _ (joint_clauses first second day) _ (joint_below first second day one other top (omega arith))
+      (together_below (length first.codes) (joint_variables first second day) top (place_keys first second day ps) (omega arith) (places_below top ps (omega arith)) (omega arith))
+
+-- the goals' variables are among them
+pub goal_below : (first second : Contents) (day : ℕ) (ps : List Place) (at : ℕ) (p : Place) → slice_get ps at ≡ Some p → goal_at first second day ps at < 2 * searched_variables first second day ps
+goal_below first second day ps at p there =
+    goals_below (joint_variables first second day) (searched_variables first second day ps) (place_keys first second day ps) at
+    (omega (arith, slice_get_within ps at p there, length-map ps (λ (q : Place). asked_keys first second day q.id))) (omega arith)

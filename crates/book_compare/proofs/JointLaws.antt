@@ -1,37 +1,35 @@
 -- The clauses of two books: a car that both allow begins an assignment that satisfies them, and an assignment that satisfies them
 -- begins with a car that both allow, over which the literals of the usages are the truth of theirs.
-use Rattle.std.proofs.Common.{◌≡◌, ℕ, zero, suc, ◌+◌, ◌-◌, ◌<◌, ◌≤◌, Bool, true, false, not, ◌||◌, List, [], ◌∷◌, ◌++◌, Some, length, map, refl, sym, ap, subst, ◌∙◌, inl, inr, arith, length-append}
+use Rattle.std.proofs.Common.{◌≡◌, ℕ, ◌+◌, ◌-◌, ◌<◌, Bool, true, false, not, ◌||◌, List, [], ◌∷◌, ◌++◌, Some, length, map, refl, sym, ap, subst, ◌∙◌, inl, inr, arith, length-append}
 use Rattle.std.specs.List.{AllByRecursion, slice_get, list_any}
 use Rattle.std.proofs.lemmas.Bool.{and_from, lt-ltb, cases_lt, cases_eq}
 use Rattle.std.proofs.lemmas.List.{length-map, get_or_append_left, get_or_past}
 use Rattle.std.proofs.lemmas.Option.{slice_get_within}
 use Rattle.std.proofs.Math.Seq.{get_or-append_seam}
-use Rattle.pb_base.specs.Rule.{Rule, code, negation, holds, codes_below}
+use Rattle.pb_base.specs.Rule.{Rule, holds}
 use Rattle.pb_base.specs.Sets.{has}
 use Rattle.pb_base.specs.Names.{same_name}
 use Rattle.pb_base.specs.NamedSet.{named}
-use Rattle.pb_base.specs.Leaves.{with_places}
 use Rattle.pb_base.proofs.LeafLaws.{AtPlaces, holds-with_places, codes_below-with_places}
 use Rattle.pb_base.proofs.NamedSets.{has-named}
 use Rattle.book_model.specs.Book.{IsBook}
 use Rattle.book_model.specs.Contents.{Contents}
 use Rattle.book_model.specs.Good.{is_good}
-use Rattle.clause_pool.specs.Literal.{literal, complement, is_true}
+use Rattle.clause_pool.specs.Literal.{literal, complement}
 use Rattle.clause_pool.specs.Clause.{Sat}
 use Rattle.clause_pool.proofs.LiteralLaws.{is_true-complement}
-use Rattle.clausify.specs.Formulas.{connectives, formula_literal}
-use Rattle.clausify.specs.Items.{Item, variables_of, item_clauses, free_item, rule_items, usage_item, usage_items, items}
+use Rattle.clausify.specs.Formulas.{connectives}
+use Rattle.clausify.specs.Items.{Item, variables_of, item_clauses, rule_items, usage_item, usage_items, items}
 use Rattle.clausify.specs.Choices.{Choice, choices, usage}
-use Rattle.clausify.specs.declared.usage.Usage.{Usage}
 use Rattle.clausify.proofs.ListLaws.{all-append, all_first, all_last}
 use Rattle.clausify.proofs.Truth.{true_positive, one_true}
-use Rattle.clausify.proofs.FormulaLaws.{named_in, Names, Begins, begins_fewer, length-named_in, names_first, names_last, denotes}
+use Rattle.clausify.proofs.FormulaLaws.{named_in, Names, Begins, length-named_in, names_first, names_last, denotes}
 use Rattle.clausify.proofs.ItemLaws.{AllFit, AllMeet, items_named, items_named-append, length-items_named, item_clauses-append, names_from_items, meets_from_items, rule_items_fit, good_from_meets, meets_from_good}
 use Rattle.clausify.proofs.GoalLaws.{UsagesFit, usages_fit, AllRight, right_from_choices}
 use Rattle.clausify.proofs.SliceLaws.{items_fit}
 use Rattle.clausify.proofs.LiftLaws.{lifted, IsLiftedOver, lift_items, truth_from_sat}
 use Rattle.book_compare.specs.Common.{AreNamed, IsCommon}
-use Rattle.book_compare.specs.Numbering.{numbers_of, further, missing_from, added_from, alone}
+use Rattle.book_compare.specs.Numbering.{numbers_of, missing_from, added_from, alone}
 use Rattle.book_compare.specs.JointItems.{absent_item, absent_items, renamed_item, day_variants, renamed_usage, renamed_usage_items, renamed_usages, second_items, joint_items, first_variable, joint_clauses, first_rules_at, first_usages_at, second_rules_at, second_usages_at, first_usages, second_usages}
 use Rattle.book_compare.proofs.AgreeLaws.{Agree, holds_agree, all_meet_agree, all_fit_more}
 use Rattle.book_compare.proofs.NumberLaws.{length-numbers_from, numbers_below, number_has, added_at, all_added, missing_absent, missing_below, added_below}

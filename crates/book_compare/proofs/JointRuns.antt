@@ -12,7 +12,7 @@ use Rattle.clausify.specs.declared.usage.Usage.{Usage}
 use Rattle.clausify.proofs.CodedLaws.{items_then}
 use Rattle.clausify.proofs.ItemLaws.{variables_of-append}
 use Rattle.book_compare.specs.Numbering.{numbers_of, alone}
-use Rattle.book_compare.specs.JointItems.{absent_item, absent_items, renamed_item, renamed_usage_items, renamed_usages, day_variants, second_items, joint_items, first_variable, joint_clauses, first_rules_at, first_usages_at, second_rules_at, second_usages_at, first_usages, second_usages, IsJoint}
+use Rattle.book_compare.specs.JointItems.{absent_item, absent_items, renamed_item, renamed_usage_items, renamed_usages, day_variants, second_items, joint_items, first_variable, first_rules_at, second_rules_at, first_usages, second_usages, IsJoint}
 use Rattle.book_compare.specs.declared.joint.Joint.{Joint}
 use Rattle.book_compare.proofs.NumberLaws.{length-numbers_from}
 

@@ -1,6 +1,6 @@
 -- The clauses of a position: they are satisfied, with the last variable true, where the books differ by some key, and only there.
 use Rattle.std.proofs.Common.{◌≡◌, ℕ, ◌+◌, Bool, true, false, not, ◌&&◌, ◌||◌, List, [], ◌∷◌, ◌++◌, length, map, refl, sym, ap, subst, ◌∙◌, arith, length-append}
-use Rattle.std.specs.List.{list_any, AllByRecursion}
+use Rattle.std.specs.List.{list_any}
 use Rattle.std.proofs.lemmas.Bool.{false≢true}
 use Rattle.pb_base.specs.Rule.{Rule, always, never, holds}
 use Rattle.clause_pool.specs.Literal.{literal, complement, is_true}
@@ -31,11 +31,11 @@ pub values_from_names : (a : ℕ → Bool) (x : List Bool) (v : ℕ) (ts : List 
 values_from_names a x v [] names = tt
 values_from_names a x v (t ∷ ts) names = (names.0 ∙ holds-constant t x, values_from_names a x (v + 1) ts names.1)
 
-values_first : (a : ℕ → Bool) (v : ℕ) (ts us : List Bool) → Values a v (ts ++ us) → Values a v ts
+pub values_first : (a : ℕ → Bool) (v : ℕ) (ts us : List Bool) → Values a v (ts ++ us) → Values a v ts
 values_first a v [] us h = tt
 values_first a v (t ∷ ts) us h = (h.0, values_first a (v + 1) ts us h.1)
 
-values_last : (a : ℕ → Bool) (v : ℕ) (ts us : List Bool) → Values a v (ts ++ us) → Values a (v + length ts) us
+pub values_last : (a : ℕ → Bool) (v : ℕ) (ts us : List Bool) → Values a v (ts ++ us) → Values a (v + length ts) us
 values_last a v [] us h = subst (λ (w : ℕ). Values a w us) (let e : v ≡ v + 0 = omega arith in e) h
 values_last a v (t ∷ ts) us h = subst (λ (w : ℕ). Values a w us) (let e : v + 1 + length ts ≡ v + length (t ∷ ts) = omega arith in e) (values_last a (v + 1) ts us h.1)
 
@@ -226,33 +226,34 @@ ways_by_values a v (k ∷ ks) values =
     ∙ sym (or_assoc (lost (chooses_first a k) (chooses_second a k)) (won (chooses_first a k) (chooses_second a k)) (list_any (is_true a) (ways (v + key_variables k) ks)))
     ∙ ap (λ t. differs a k || t) (ways_by_values a (v + key_variables k) ks (key_last a v k ks values))
 
--- the clauses are satisfied with the last variable true where the books differ by some key
+-- the clauses are satisfied with the last variable true just where the books differ by some key
 abbrev pub position_values : (ℕ → Bool) → List KeyLiterals → List Bool
-position_values a ks = keys_values a ks ++ true ∷ []
+position_values a ks = keys_values a ks ++ list_any (differs a) ks ∷ []
 
 pub record IsAnswered (a : ℕ → Bool) (n v : ℕ) (ks : List KeyLiterals) : Type 0 where
   pub satisfied : Sat (position_clauses n v ks) a
-  pub assumed : is_true a (position_goal v ks) ≡ true
+  pub assumed : is_true a (position_goal v ks) ≡ list_any (differs a) ks
 
-pub answered_by_values : (a : ℕ → Bool) (n v : ℕ) (ks : List KeyLiterals) → a n ≡ true → Values a v (position_values a ks) → list_any (differs a) ks ≡ true → IsAnswered a n v ks
-answered_by_values a n v ks truth values some =
-    let keys : Values a v (keys_values a ks) = values_first a v (keys_values a ks) (true ∷ []) values in
-    let last : Values a (v + keys_variables ks) (true ∷ []) =
-    subst (λ (i : ℕ). Values a (v + i) (true ∷ [])) (length-keys_values a ks) (values_last a v (keys_values a ks) (true ∷ []) values) in
+pub answered_by_values : (a : ℕ → Bool) (n v : ℕ) (ks : List KeyLiterals) → a n ≡ true → Values a v (position_values a ks) → IsAnswered a n v ks
+answered_by_values a n v ks truth values =
+    let keys : Values a v (keys_values a ks) = values_first a v (keys_values a ks) (list_any (differs a) ks ∷ []) values in
+    let last : Values a (v + keys_variables ks) (list_any (differs a) ks ∷ []) =
+    subst (λ (i : ℕ). Values a (v + i) (list_any (differs a) ks ∷ [])) (length-keys_values a ks) (values_last a v (keys_values a ks) (list_any (differs a) ks ∷ []) values) in
     record {
       satisfied =
           all-append _ (keys_clauses n v ks) (goal_clause v ks ∷ []) (sat_from_keys a n v ks truth keys) (
             clause_true-clause_of a (literal (v + keys_variables ks) false ∷ ways v ks)
-                ∙ ap (λ t. is_true a (literal (v + keys_variables ks) false) || t) (ways_by_values a v ks keys ∙ some)
-                ∙ last_true (is_true a (literal (v + keys_variables ks) false)),
+                ∙ ap (λ t. is_true a (literal (v + keys_variables ks) false) || t) (ways_by_values a v ks keys)
+                ∙ ap (λ t. t || list_any (differs a) ks) (true_negative a (v + keys_variables ks) ∙ ap not last.0)
+                ∙ either_way (list_any (differs a) ks),
             tt,
           );
       assumed = true_positive a (v + keys_variables ks) ∙ last.0;
     }
   where
-    last_true : (t : Bool) → (t || true) ≡ true
-    last_true true = refl
-    last_true false = refl
+    either_way : (t : Bool) → (not t || t) ≡ true
+    either_way true = refl
+    either_way false = refl
 
 -- and only there
 

@@ -1,18 +1,21 @@
--- How far a loop over keys has come, and a copy of clauses.
+-- How far a loop over keys or positions has come.
 use Rattle.std.proofs.Common.{◌≡◌, ℕ, suc, ◌+◌, ◌<◌, true, false, List, [], ◌∷◌, ◌++◌, length, get_or, map, drop, sym, ap, subst, ◌∙◌, arith, append_assoc, drop-cons}
 use Rattle.book_model.specs.Contents.{Contents}
 use Rattle.clause_pool.specs.Clause.{clause_of}
 use Rattle.clause_pool.specs.Literal.{literal}
 use Rattle.clausify.specs.declared.usage.Usage.{Usage}
 use Rattle.chosen_parts.specs.declared.part_use.PartUse.{PartUse}
-use Rattle.book_compare.specs.Asked.{usages_at, uses, keys_of, literals_with, key_literals, keys_literals, asked_keys}
-use Rattle.book_compare.specs.Asking.{TakesKey, TakesKeys, key_of}
-use Rattle.book_compare.specs.JointItems.{joint_clauses, joint_variables, first_usages, second_usages, IsJoint}
-use Rattle.book_compare.specs.Keys.{KeyLiterals, key_clauses, key_variables, keys_clauses, keys_variables, ways, goal_clause}
+use Rattle.book_compare.specs.Asked.{usages_at, literals_with, key_literals, keys_literals, asked_keys}
+use Rattle.book_compare.specs.Asking.{TakesKey, TakesKeys, TakesPosition, TakesPositions, key_of}
+use Rattle.book_compare.specs.JointItems.{joint_clauses, joint_variables, first_usages, IsJoint}
+use Rattle.book_compare.specs.Keys.{KeyLiterals, key_clauses, key_variables, keys_clauses, keys_variables, position_clauses, position_goal, ways, goal_clause}
 use Rattle.book_compare.specs.Searched.{IsAskedOf}
+use Rattle.book_compare.specs.Together.{position_variables, together_clauses, together_variables, together_goals, place_keys}
 use Rattle.book_compare.specs.declared.joint.Joint.{Joint}
+use Rattle.book_compare.specs.declared.place.Place.{Place}
 use Rattle.book_compare.specs.declared.position.Asked.{Asked}
 use Rattle.book_compare.specs.declared.position.Asking.{Asking}
+use Rattle.book_compare.proofs.StepRuns.{read_at}
 
 pub record KeysLeft (n : ℕ) (start now : Asking) (all rest : List KeyLiterals) : Type 0 where
   pub clauses : now.pool.clauses ++ keys_clauses n now.next rest ≡ start.pool.clauses ++ keys_clauses n start.next all
@@ -34,52 +37,88 @@ keys_step n start now more all rest k left made = record {
       ∙ left.ways;
 }
 
--- the clauses of a position, made one after the other
-module _ (first second : Contents) (day : ℕ) (id : List ℕ) (joint : Joint) (is : IsJoint first second day joint) (own other : List Usage) (keys : List PartUse) (begun made : Asking) (asked : Asked)
-    (own_is : own ≡ usages_at first id joint.first.items) (other_is : other ≡ usages_at second id joint.second.items) (keys_are : keys ≡ keys_of (uses first own) (uses second other))
-    (pool : begun.pool.clauses ≡ joint.pool.clauses) (next : begun.next ≡ joint.vars) (none : begun.ways.items ≡ [])
-    (takes : TakesKeys (length first.codes) begun made (map (key_literals first own second other) keys)) where
-  abbrev v : ℕ
-  v = joint_variables first second day
+-- all clauses of a position, made one after the other, where no way was there before
+module _ (n : ℕ) (old start made new : Asking) (ks : List KeyLiterals) (pool : start.pool.clauses ≡ old.pool.clauses) (begins : start.next ≡ old.next) (none : start.ways.items ≡ []) (takes : TakesKeys n start made ks) where
+  next_is : made.next ≡ old.next + keys_variables ks
+  next_is = takes.next ∙ ap (λ (v : ℕ). v + keys_variables ks) begins
 
-  abbrev ks : List KeyLiterals
-  ks = asked_keys first second day id
+  ways_are : made.ways.items ≡ ways old.next ks
+  ways_are = takes.ways ∙ ap (λ (ls : List ℕ). ls ++ ways start.next ks) none ∙ ap (λ (v : ℕ). ways v ks) begins
 
-  literals : map (key_literals first own second other) keys ≡ asked_keys first second day id
-  literals =
-      ap (map (key_literals first own second other)) keys_are
-      ∙ ap (λ (us : List Usage). keys_literals first us second other) (own_is ∙ ap (usages_at first id) is.first_usages)
-      ∙ ap (λ (ws : List Usage). keys_literals first (usages_at first id (first_usages first second day)) second ws) (other_is ∙ ap (usages_at second id) is.second_usages)
+  pub position_asked : (l : ℕ) → l ≡ literal made.next true → l ≡ position_goal old.next ks
+  position_asked l is = is ∙ ap (λ (v : ℕ). literal v true) next_is
 
-  begins_at : begun.next ≡ joint_variables first second day
-  begins_at = next ∙ is.variables
-
-  next_is : made.next ≡ joint_variables first second day + keys_variables (asked_keys first second day id)
-  next_is = takes.next ∙ ap (λ (i : ℕ). i + keys_variables (map (key_literals first own second other) keys)) begins_at ∙ ap (λ (k : List KeyLiterals). joint_variables first second day + keys_variables k) literals
-
-  ways_are : made.ways.items ≡ ways (joint_variables first second day) (asked_keys first second day id)
-  ways_are =
-      takes.ways ∙ ap (λ (ls : List ℕ). ls ++ ways begun.next (map (key_literals first own second other) keys)) none
-      ∙ ap (λ (i : ℕ). ways i (map (key_literals first own second other) keys)) begins_at ∙ ap (ways (joint_variables first second day)) literals
-
-  clauses_are : made.pool.clauses ≡ joint_clauses first second day ++ keys_clauses (length first.codes) (joint_variables first second day) (asked_keys first second day id)
-  clauses_are =
-      takes.clauses ∙ ap (λ (cs : List (List ℕ)). cs ++ keys_clauses (length first.codes) begun.next (map (key_literals first own second other) keys)) (pool ∙ is.clauses)
-      ∙ ap (λ (i : ℕ). joint_clauses first second day ++ keys_clauses (length first.codes) i (map (key_literals first own second other) keys)) begins_at
-      ∙ ap (λ (k : List KeyLiterals). joint_clauses first second day ++ keys_clauses (length first.codes) (joint_variables first second day) k) literals
-
-  pub asked_of : asked.pool.clauses ≡ made.pool.clauses ++ clause_of (literal made.next false ∷ made.ways.items) ∷ [] → asked.vars ≡ made.next + 1 → asked.goal ≡ literal made.next true
-      → IsAskedOf first second day id asked
-  asked_of clauses vars goal = record {
+  pub position_taken : new.pool.clauses ≡ made.pool.clauses ++ clause_of (literal made.next false ∷ made.ways.items) ∷ [] → new.next ≡ made.next + 1 → TakesPosition n old new ks
+  position_taken clauses next = record {
     clauses =
-        clauses ∙ ap (λ (cs : List (List ℕ)). cs ++ clause_of (literal made.next false ∷ made.ways.items) ∷ []) clauses_are
-        ∙ ap (λ (i : ℕ). (joint_clauses first second day ++ keys_clauses (length first.codes) (joint_variables first second day) (asked_keys first second day id)) ++ clause_of (literal i false ∷ made.ways.items) ∷ []) next_is
-        ∙ ap (λ (ls : List ℕ). (joint_clauses first second day ++ keys_clauses (length first.codes) (joint_variables first second day) (asked_keys first second day id))
-        ++ clause_of (literal (joint_variables first second day + keys_variables (asked_keys first second day id)) false ∷ ls) ∷ []) ways_are
-        ∙ append_assoc (joint_clauses first second day) (keys_clauses (length first.codes) (joint_variables first second day) (asked_keys first second day id)) (goal_clause (joint_variables first second day) (asked_keys first second day id) ∷ []);
-    variables = vars ∙ ap (λ (i : ℕ). i + 1) next_is;
-    goal = goal ∙ ap (λ (i : ℕ). literal i true) next_is;
+        clauses ∙ ap (λ (cs : List (List ℕ)). cs ++ clause_of (literal made.next false ∷ made.ways.items) ∷ []) takes.clauses
+        ∙ ap (λ (v : ℕ). (start.pool.clauses ++ keys_clauses n start.next ks) ++ clause_of (literal v false ∷ made.ways.items) ∷ []) next_is
+        ∙ ap (λ (ls : List ℕ). (start.pool.clauses ++ keys_clauses n start.next ks) ++ clause_of (literal (old.next + keys_variables ks) false ∷ ls) ∷ []) ways_are
+        ∙ ap (λ (v : ℕ). (start.pool.clauses ++ keys_clauses n v ks) ++ goal_clause old.next ks ∷ []) begins
+        ∙ ap (λ (cs : List (List ℕ)). (cs ++ keys_clauses n old.next ks) ++ goal_clause old.next ks ∷ []) pool
+        ∙ append_assoc old.pool.clauses (keys_clauses n old.next ks) (goal_clause old.next ks ∷ []);
+    next = omega (arith, next, next_is);
   }
+
+-- the keys of a position, by the usages that were found
+pub keys_found : (first second : Contents) (day : ℕ) (id : List ℕ) (joint : Joint) (own other : List Usage) → IsJoint first second day joint → own ≡ usages_at first id joint.first.items
+    → other ≡ usages_at second id joint.second.items → keys_literals first own second other ≡ asked_keys first second day id
+keys_found first second day id joint own other is own_is other_is =
+    ap (λ (us : List Usage). keys_literals first us second other) (own_is ∙ ap (usages_at first id) is.first_usages)
+    ∙ ap (λ (ws : List Usage). keys_literals first (usages_at first id (first_usages first second day)) second ws) (other_is ∙ ap (usages_at second id) is.second_usages)
+
+-- several positions
+pub record PlacesLeft (first second : Contents) (day : ℕ) (start now : Asking) (goals : List ℕ) (all rest : List Place) : Type 0 where
+  pub clauses : now.pool.clauses ++ together_clauses (length first.codes) now.next (place_keys first second day rest)
+      ≡ start.pool.clauses ++ together_clauses (length first.codes) start.next (place_keys first second day all)
+  pub next : now.next + together_variables (place_keys first second day rest) ≡ start.next + together_variables (place_keys first second day all)
+  pub goals_left : goals ++ together_goals now.next (place_keys first second day rest) ≡ together_goals start.next (place_keys first second day all)
+
+places_step : (first second : Contents) (day : ℕ) (start now more : Asking) (goals pushed : List ℕ) (l : ℕ) (all rest : List Place) (p : Place) → PlacesLeft first second day start now goals all (p ∷ rest)
+    → TakesPosition (length first.codes) now more (asked_keys first second day p.id) → l ≡ position_goal now.next (asked_keys first second day p.id) → pushed ≡ goals ++ l ∷ []
+    → PlacesLeft first second day start more pushed all rest
+places_step first second day start now more goals pushed l all rest p left made lit push =
+    let n : ℕ = length first.codes in
+    let ks : List KeyLiterals = asked_keys first second day p.id in
+    let kss : List (List KeyLiterals) = place_keys first second day rest in
+    record {
+      clauses =
+          ap (λ (cs : List (List ℕ)). cs ++ together_clauses n more.next kss) made.clauses
+          ∙ ap (λ (v : ℕ). (now.pool.clauses ++ position_clauses n now.next ks) ++ together_clauses n v kss) made.next
+          ∙ append_assoc now.pool.clauses (position_clauses n now.next ks) (together_clauses n (now.next + position_variables ks) kss)
+          ∙ left.clauses;
+      next = omega (arith, made.next, left.next);
+      goals_left =
+          ap (λ (gs : List ℕ). gs ++ together_goals more.next kss) push
+          ∙ ap (λ (v : ℕ). (goals ++ l ∷ []) ++ together_goals v kss) made.next
+          ∙ append_assoc goals (l ∷ []) (together_goals (now.next + position_variables ks) kss)
+          ∙ ap (λ (g : ℕ). goals ++ g ∷ together_goals (now.next + position_variables ks) kss) lit
+          ∙ left.goals_left;
+    }
+
+pub places_loop : (first second : Contents) (day : ℕ) (start now more : Asking) (goals pushed : List ℕ) (l : ℕ) (ps : List Place) (i : ℕ) (p : Place) → i < length ps → p ≡ get_or ps i p
+    → PlacesLeft first second day start now goals ps (drop i ps) → TakesPosition (length first.codes) now more (asked_keys first second day p.id)
+    → l ≡ position_goal now.next (asked_keys first second day p.id) → pushed ≡ goals ++ l ∷ [] → PlacesLeft first second day start more pushed ps (drop (i + 1) ps)
+places_loop first second day start now more goals pushed l ps i p within read left made lit push =
+    places_step first second day start now more goals pushed l ps (drop (i + 1) ps) p
+    (subst (λ (qs : List Place). PlacesLeft first second day start now goals ps qs) (read_at ps i p within read) left) made lit push
+
+-- all of them, behind the clauses of the books
+pub asked_made : (first second : Contents) (day : ℕ) (joint : Joint) (begun made : Asking) (ps : List Place) (goals : List ℕ) (asked : Asked) → IsJoint first second day joint
+    → begun.pool.clauses ≡ joint.pool.clauses → begun.next ≡ joint.vars → TakesPositions (length first.codes) begun made (place_keys first second day ps)
+    → goals ≡ together_goals begun.next (place_keys first second day ps) → asked.pool.clauses ≡ made.pool.clauses → asked.vars ≡ made.next → asked.goals.items ≡ goals
+    → IsAskedOf first second day ps asked
+asked_made first second day joint begun made ps goals asked is pool next takes goals_are clauses vars all =
+    let n : ℕ = length first.codes in
+    let kss : List (List KeyLiterals) = place_keys first second day ps in
+    let begins : begun.next ≡ joint_variables first second day = next ∙ is.variables in
+    record {
+      clauses =
+          clauses ∙ takes.clauses ∙ ap (λ (cs : List (List ℕ)). cs ++ together_clauses n begun.next kss) (pool ∙ is.clauses)
+          ∙ ap (λ (v : ℕ). joint_clauses first second day ++ together_clauses n v kss) begins;
+      variables = vars ∙ takes.next ∙ ap (λ (v : ℕ). v + together_variables kss) begins;
+      goals = all ∙ goals_are ∙ ap (λ (v : ℕ). together_goals v kss) begins;
+    }
 
 -- a loop over keys
 pub keys_loop : (n : ℕ) (start now more : Asking) (first : Contents) (us : List Usage) (second : Contents) (ws : List Usage) (keys : List PartUse) (i : ℕ) (key : PartUse) → i < length keys → key ≡ get_or keys i key

@@ -4,12 +4,13 @@ pub mod RenameLaws
 pub mod JointLaws
 pub mod UsageLaws
 pub mod KeyLaws
+pub mod TogetherLaws
 pub mod ChoiceLaws
 pub mod BoundLaws
 pub mod KeyRuns
 pub mod MapLaws
 pub mod JointRuns
-pub mod NotesLaws
+pub mod PlaceLaws
 pub mod PickLaws
 pub mod CopyLaws
 pub mod PickRuns

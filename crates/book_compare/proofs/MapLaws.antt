@@ -1,7 +1,7 @@
 -- Lists that are mapped, joined or taken one by one.
-use Rattle.std.proofs.Common.{◌≡◌, ℕ, ◌+◌, List, [], ◌∷◌, ◌++◌, map, refl, sym, ap, subst, ◌∙◌}
-use Rattle.clausify.specs.Items.{Item, item_clauses, variables_of}
-use Rattle.clausify.specs.Encoding.{Encodes, EncodesItems}
+use Rattle.std.proofs.Common.{◌≡◌, ◌+◌, List, [], ◌∷◌, ◌++◌, map, refl, sym, ap, subst, ◌∙◌}
+use Rattle.clausify.specs.Items.{Item, variables_of}
+use Rattle.clausify.specs.Encoding.{EncodesItems}
 use Rattle.clausify.specs.declared.encoder.Encoder.{Encoder}
 use Rattle.clausify.proofs.CodedLaws.{items_then}
 use Rattle.clausify.proofs.ItemLaws.{variables_of-append}

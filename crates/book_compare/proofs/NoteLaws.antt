@@ -1,24 +1,21 @@
 -- What the answer of a search says of a position: a set is a car that gets other parts, and a refutation shows that there is none.
-use Rattle.std.proofs.Common.{◌≡◌, ℕ, zero, suc, ◌+◌, ◌<◌, ◌≤◌, Bool, true, false, not, ◌||◌, ◌==◌, List, [], ◌∷◌, ◌++◌, Option, Some, None, length, map, refl, sym, ap, subst, ◌∙◌, inl, inr, arith}
+use Rattle.std.proofs.Common.{◌≡◌, ℕ, ◌+◌, ◌<◌, ◌≤◌, Bool, true, false, not, ◌||◌, ◌==◌, List, [], ◌∷◌, ◌++◌, Option, Some, None, length, map, refl, sym, ap, subst, ◌∙◌, inl, inr, arith, append-nil}
 use Rattle.std.specs.List.{list_any, filter, slice_get, AllByRecursion, IsDistinct}
 use Rattle.std.specs.Option.{option_map_or}
 use Rattle.std.proofs.lemmas.Bool.{cases_Bool, true≢false}
 use Rattle.std.proofs.lemmas.List.{length-map, get_or_append_left}
 use Rattle.pb_base.specs.Names.{same_name}
 use Rattle.pb_base.specs.NamedSet.{named}
-use Rattle.pb_base.specs.Rule.{Rule, holds}
+use Rattle.pb_base.specs.Rule.{Rule}
 use Rattle.pb_base.specs.Sets.{has}
-use Rattle.book_model.specs.Book.{IsBook}
 use Rattle.book_model.specs.Contents.{Contents}
 use Rattle.book_model.specs.Good.{is_good}
 use Rattle.clause_pool.specs.Literal.{complement, is_true}
-use Rattle.clause_pool.specs.Clause.{Sat, Follows, clause_true}
+use Rattle.clause_pool.specs.Clause.{Sat, Follows}
 use Rattle.clause_pool.specs.Derivation.{AllFollow}
 use Rattle.clause_pool.proofs.ClauseLaws.{TrueLiteral, true_literal, all_found}
 use Rattle.clause_pool.proofs.LiteralLaws.{is_true-complement}
 use Rattle.chains.specs.Growth.{ClosedBy, given_of}
-use Rattle.clausify.specs.Choices.{usage}
-use Rattle.clausify.specs.Items.{variables_of}
 use Rattle.clausify.specs.declared.usage.Usage.{Usage}
 use Rattle.clausify.proofs.FormulaLaws.{Names, names_last}
 use Rattle.clausify.proofs.GoalLaws.{AllRight}
@@ -31,17 +28,23 @@ use Rattle.chosen_parts.specs.Chosen.{position_place, part_use, is_same_use, cho
 use Rattle.chosen_parts.specs.declared.part_use.PartUse.{PartUse}
 use Rattle.chosen_parts.proofs.FewLaws.{few_chosen, few_from_sound}
 use Rattle.book_compare.specs.Asked.{is_variant_of, usages_in, usages_at, uses, keys_of, literals_with, key_literals, asked_keys, asked_clauses, asked_variables, asked_goal}
+use Rattle.book_compare.specs.Comparison.{IsLeft}
 use Rattle.book_compare.specs.Common.{AreNamed, IsCommon, DiffersWith, AreAlike}
 use Rattle.book_compare.specs.JointItems.{joint_items, first_variable, joint_clauses, joint_variables, first_usages, second_usages}
 use Rattle.book_compare.specs.Keys.{KeyLiterals, position_clauses}
 use Rattle.book_compare.specs.Numbering.{missing_from, added_from}
 use Rattle.book_compare.specs.Picked.{picked}
-use Rattle.book_compare.specs.Searched.{IsOfTerm, AreBooks, IsOver}
+use Rattle.book_compare.specs.Searched.{IsOfTerm, AreBooks, IsOver, IsOutcome, IsFound}
+use Rattle.book_compare.specs.Together.{place_keys, searched_clauses, searched_variables, goal_at}
+use Rattle.book_compare.specs.declared.answer.Outcome.{Outcome}
+use Rattle.book_compare.specs.declared.answer.Outcome.TheVariants.{Differs, Alike, Left}
+use Rattle.book_compare.specs.declared.place.Place.{Place}
 use Rattle.book_compare.proofs.ChoiceLaws.{same_when_none, none_when_same}
 use Rattle.book_compare.proofs.JointLaws.{lift_common, alone_false, first_good, first_right, second_good, second_right}
-use Rattle.book_compare.proofs.KeyLaws.{Values, constant, values_from_names, chooses_first, chooses_second, lost, won, truths, values_of, key_values, differs, keys_values, position_values, IsAnswered, answered_by_values, differs_when_answered}
+use Rattle.book_compare.proofs.KeyLaws.{Values, constant, values_from_names, chooses_first, chooses_second, lost, won, truths, values_of, key_values, differs, keys_values, position_values}
 use Rattle.book_compare.proofs.NumberLaws.{missing_below}
 use Rattle.book_compare.proofs.PickLaws.{picked_distinct, named-picked, picked_named, picked_in_other}
+use Rattle.book_compare.proofs.TogetherLaws.{together_values, sat_from_together, goal_by_values, differs_together, keys_there}
 use Rattle.book_compare.proofs.UsageLaws.{has_use, first_variants, renamed_variants, chosen_by_key}
 
 -- at most one part stands at each position
@@ -111,9 +114,9 @@ absent_in : (n : ℕ) (a : ℕ → Bool) (set : List Bool) → ((i : ℕ) → i 
 absent_in n a set same [] below gone = tt
 absent_in n a set same (v ∷ vs) below gone = (sym (same v below.0) ∙ gone.0, absent_in n a set same vs below.1 gone.1)
 
-pub differs_with : (first second : Contents) (day : ℕ) (id : List ℕ) (set : List Bool) → AreBooks first second day → IsDistinct same_name first.codes
-    → Begins (asked_clauses first second day id) (asked_goal first second day id) (length first.codes) set → DiffersWith first second day id (picked first.codes set)
-differs_with first second day id set books apart found = record {
+pub differs_with : (first second : Contents) (day : ℕ) (ps : List Place) (at : ℕ) (p : Place) (set : List Bool) → AreBooks first second day → IsDistinct same_name first.codes → slice_get ps at ≡ Some p
+    → Begins (searched_clauses first second day ps) (goal_at first second day ps at) (length first.codes) set → DiffersWith first second day p.id (picked first.codes set)
+differs_with first second day ps at p set books apart there found = record {
   common = record {
     distinct = picked_distinct 0 set first.codes apart;
     in_first = are;
@@ -125,7 +128,7 @@ differs_with first second day id set books apart found = record {
     good_in_first = first_good first second day books.one.book books.other.book names a are begins joint;
     good_in_second = second_good first second day books.one.book books.other.book names a are begins joint;
   };
-  differ = λ same. true≢false (sym some ∙ none_there first second day id books a names are begins joint same);
+  differ = λ same. true≢false (sym some ∙ none_there first second day p.id books a names are begins joint same);
 }
   where
     a : ℕ → Bool
@@ -146,10 +149,10 @@ differs_with first second day id set books apart found = record {
     truth : a (length first.codes) ≡ true
     truth = truth_from_sat (length first.codes) a joint.0
 
-    some : list_any (differs a) (asked_keys first second day id) ≡ true
+    some : list_any (differs a) (asked_keys first second day p.id) ≡ true
     some =
-        differs_when_answered a (length first.codes) (joint_variables first second day) (asked_keys first second day id) truth
-        (all_last _ (joint_clauses first second day) _ found.satisfied) found.assumed
+        differs_together a (length first.codes) (joint_variables first second day) (place_keys first second day ps) at (asked_keys first second day p.id) truth
+        (all_last _ (joint_clauses first second day) _ found.satisfied) (keys_there first second day ps at p there) found.assumed
 
 -- assignments that agree on the literals of the usages
 
@@ -191,6 +194,11 @@ same_any_differs a c [] same = refl
 same_any_differs a c (k ∷ ks) same =
     ap (λ t. t || list_any (differs a) ks) (same_differs a c k same.0.0 same.0.1) ∙ ap (λ t. differs c k || t) (same_any_differs a c ks same.1)
 
+same_position_values : (a c : ℕ → Bool) (ks : List KeyLiterals) → SameOnKeys a c ks → position_values a ks ≡ position_values c ks
+same_position_values a c ks same =
+    ap (λ (ts : List Bool). ts ++ list_any (differs a) ks ∷ []) (same_keys_values a c ks same)
+    ∙ ap (λ (t : Bool). keys_values c ks ++ t ∷ []) (same_any_differs a c ks same)
+
 abbrev SameOnUsages : (ℕ → Bool) → (ℕ → Bool) → List Usage → Type 0
 SameOnUsages a c us = AllByRecursion (λ u. is_true a u.literal ≡ is_true c u.literal) us
 
@@ -219,7 +227,7 @@ same_on_keys first own second theirs a c one other (k ∷ ks) = ((same_with firs
 
 -- where the search is refuted, each car that both allow gets the same
 
-module _ (first second : Contents) (day : ℕ) (id : List ℕ) (books : AreBooks first second day) (names : List (List ℕ)) (common : IsCommon first second day names) where
+module _ (first second : Contents) (day : ℕ) (books : AreBooks first second day) (names : List (List ℕ)) (common : IsCommon first second day names) where
   abbrev m : ℕ
   m = first_variable first second
 
@@ -235,28 +243,29 @@ module _ (first second : Contents) (day : ℕ) (id : List ℕ) (books : AreBooks
   starts : (own : List Rule) (i : ℕ) → i < length first.codes → lifted (length first.codes) m z (named_rules ++ own) i ≡ has (named first.codes names) i
   starts own i within = (lift own).begins.codes i (omega arith) ∙ get_or_append_left (named first.codes names) (true ∷ []) false i (omega (arith, within, length-map first.codes (λ c. list_any (same_name c) names)))
 
-  alike_if : list_any (differs (lifted (length first.codes) m z (named_rules ++ []))) (asked_keys first second day id) ≡ false
+  alike_if : (id : List ℕ) → list_any (differs (lifted (length first.codes) m z (named_rules ++ []))) (asked_keys first second day id) ≡ false
       → chosen first day id (named first.codes names) ≡ chosen second day id (named second.codes names)
-  alike_if none = alike_there first second day id books (lifted (length first.codes) m z (named_rules ++ [])) names common.in_first (starts []) (lift []).satisfies none
+  alike_if id none = alike_there first second day id books (lifted (length first.codes) m z (named_rules ++ [])) names common.in_first (starts []) (lift []).satisfies none
 
   -- the same for a car where no assignment that begins with it and satisfies the clauses of the books differs by a key
-  pub alike_over : ((a : ℕ → Bool) → ((i : ℕ) → i < length first.codes → a i ≡ has (named first.codes names) i) → Sat (joint_clauses first second day) a → list_any (differs a) (asked_keys first second day id) ≡ false)
+  pub alike_over : (id : List ℕ)
+      → ((a : ℕ → Bool) → ((i : ℕ) → i < length first.codes → a i ≡ has (named first.codes names) i) → Sat (joint_clauses first second day) a → list_any (differs a) (asked_keys first second day id) ≡ false)
       → chosen first day id (named first.codes names) ≡ chosen second day id (named second.codes names)
-  alike_over none = alike_if (none (lifted (length first.codes) m z (named_rules ++ [])) (starts []) (lift []).satisfies)
+  alike_over id none = alike_if id (none (lifted (length first.codes) m z (named_rules ++ [])) (starts []) (lift []).satisfies)
 
-  -- the same with the values of the position's variables
-  module _ (some : list_any (differs (lifted (length first.codes) m z (named_rules ++ []))) (asked_keys first second day id) ≡ true) where
+  -- the same with the values of the variables of positions
+  module _ (ps : List Place) where
     abbrev a : ℕ → Bool
     a = lifted (length first.codes) m z (named_rules ++ [])
 
     abbrev own : List Rule
-    own = map constant (position_values a (asked_keys first second day id))
+    own = map constant (together_values a (place_keys first second day ps))
 
     abbrev c : ℕ → Bool
-    c = lifted (length first.codes) m z (named_rules ++ map constant (position_values a (asked_keys first second day id)))
+    c = lifted (length first.codes) m z (named_rules ++ map constant (together_values a (place_keys first second day ps)))
 
-    same_keys : SameOnKeys c a (asked_keys first second day id)
-    same_keys =
+    same_keys : (id : List ℕ) → SameOnKeys c a (asked_keys first second day id)
+    same_keys id =
         same_on_keys first (usages_at first id (first_usages first second day)) second (usages_at second id (second_usages first second day)) c a
         (same_at first id c a (first_usages first second day)
         (both_right first (named first.codes names) c a (first_usages first second day)
@@ -268,52 +277,83 @@ module _ (first second : Contents) (day : ℕ) (id : List ℕ) (books : AreBooks
         (second_right first second day books.one.book books.other.book names a common.in_first (starts []) (lift []).satisfies)))
         (keys_of (uses first (usages_at first id (first_usages first second day))) (uses second (usages_at second id (second_usages first second day))))
 
-    values : Values c (joint_variables first second day) (position_values c (asked_keys first second day id))
+    same_together : (qs : List Place) → together_values c (place_keys first second day qs) ≡ together_values a (place_keys first second day qs)
+    same_together [] = refl
+    same_together (q ∷ qs) =
+        ap (λ (ts : List Bool). ts ++ together_values c (place_keys first second day qs)) (same_position_values c a (asked_keys first second day q.id) (same_keys q.id))
+        ∙ ap (λ (ts : List Bool). position_values a (asked_keys first second day q.id) ++ ts) (same_together qs)
+
+    values : Values c (joint_variables first second day) (together_values c (place_keys first second day ps))
     values =
-        subst (λ (ts : List Bool). Values c (joint_variables first second day) (ts ++ true ∷ [])) (sym (same_keys_values c a (asked_keys first second day id) same_keys))
-        (values_from_names c z (joint_variables first second day) (position_values a (asked_keys first second day id))
+        subst (λ (ts : List Bool). Values c (joint_variables first second day) ts) (sym (same_together ps))
+        (values_from_names c z (joint_variables first second day) (together_values a (place_keys first second day ps))
         (subst (λ (k : ℕ). Names c z (m + k) own) (length-items_named (joint_items first second day)) (names_last c z m named_rules own (lift own).names)))
 
-    answered : IsAnswered c (length first.codes) (joint_variables first second day) (asked_keys first second day id)
-    answered =
-        answered_by_values c (length first.codes) (joint_variables first second day) (asked_keys first second day id) (lift own).begins.truth values
-        (same_any_differs c a (asked_keys first second day id) same_keys ∙ some)
+    sat : Sat (searched_clauses first second day ps) c
+    sat =
+        all-append _ (joint_clauses first second day) _ (lift own).satisfies
+        (sat_from_together c (length first.codes) (joint_variables first second day) (place_keys first second day ps) (lift own).begins.truth values)
 
-    sat : Sat (asked_clauses first second day id) c
-    sat = all-append _ (joint_clauses first second day) _ (lift own).satisfies answered.satisfied
+    module _ (at : ℕ) (p : Place) (there : slice_get ps at ≡ Some p) where
+      assumed : list_any (differs a) (asked_keys first second day p.id) ≡ true → is_true c (goal_at first second day ps at) ≡ true
+      assumed some =
+          goal_by_values c (length first.codes) (joint_variables first second day) (place_keys first second day ps) at (asked_keys first second day p.id) (lift own).begins.truth values (keys_there first second day ps at p there)
+          ∙ same_any_differs c a (asked_keys first second day p.id) (same_keys p.id) ∙ some
 
-    refuted : (clause : List ℕ) → Follows (asked_clauses first second day id) clause → ((l : ℕ) → list_any (λ k. k == l) clause ≡ true → l ≡ complement (asked_goal first second day id)) → ⊥
-    refuted clause follows refutes =
-        let found : TrueLiteral c clause = true_literal c clause (follows c sat) in
-        true≢false (sym found.holds ∙ ap (is_true c) (refutes found.literal found.is_in) ∙ is_true-complement c (asked_goal first second day id) ∙ ap not answered.assumed)
+      refuted : list_any (differs a) (asked_keys first second day p.id) ≡ true → (clause : List ℕ) → Follows (searched_clauses first second day ps) clause
+          → ((l : ℕ) → list_any (λ k. k == l) clause ≡ true → l ≡ complement (goal_at first second day ps at)) → ⊥
+      refuted some clause follows refutes =
+          let found : TrueLiteral c clause = true_literal c clause (follows c sat) in
+          true≢false (sym found.holds ∙ ap (is_true c) (refutes found.literal found.is_in) ∙ is_true-complement c (goal_at first second day ps at) ∙ ap not (assumed some))
 
-  alike_by : (clause : List ℕ) → Follows (asked_clauses first second day id) clause → ((l : ℕ) → list_any (λ k. k == l) clause ≡ true → l ≡ complement (asked_goal first second day id))
-      → chosen first day id (named first.codes names) ≡ chosen second day id (named second.codes names)
-  alike_by clause follows refutes = elim (cases_Bool (list_any (differs (lifted (length first.codes) m z (named_rules ++ []))) (asked_keys first second day id))) [
-    | inl some ↦ absurd (refuted some clause follows refutes)
-    | inr none ↦ alike_if none
-  ]
+      alike_by : (clause : List ℕ) → Follows (searched_clauses first second day ps) clause → ((l : ℕ) → list_any (λ k. k == l) clause ≡ true → l ≡ complement (goal_at first second day ps at))
+          → chosen first day p.id (named first.codes names) ≡ chosen second day p.id (named second.codes names)
+      alike_by clause follows refutes = elim (cases_Bool (list_any (differs (lifted (length first.codes) m z (named_rules ++ []))) (asked_keys first second day p.id))) [
+        | inl some ↦ absurd (refuted some clause follows refutes)
+        | inr none ↦ alike_if p.id none
+      ]
 
-pub alike_when_closed : (first second : Contents) (day : ℕ) (id : List ℕ) (s : Solving) (goal at : ℕ) → AreBooks first second day → goal ≡ asked_goal first second day id
-    → given_of s.kernel ≡ asked_clauses first second day id → AllFollow s.kernel → ClosedBy s.kernel goal at → AreAlike first second day id
-alike_when_closed first second day id s goal at books is given follow closed = λ names common.
-    alike_by first second day id books names common closed.clause
-    (subst (λ (cs : List (List ℕ)). Follows cs closed.clause) given (all_found (Follows (given_of s.kernel)) s.kernel.clauses at closed.clause follow closed.there))
-    (λ l there. closed.refutes l there ∙ ap complement is)
+pub alike_when_closed : (first second : Contents) (day : ℕ) (ps : List Place) (at : ℕ) (p : Place) (s : Solving) (place : ℕ) → AreBooks first second day → slice_get ps at ≡ Some p
+    → IsOver first second day ps s → AllFollow s.kernel → ClosedBy s.kernel (goal_at first second day ps at) place → AreAlike first second day p.id
+alike_when_closed first second day ps at p s place books there over follow closed = λ names common.
+    alike_by first second day books names common ps at p there closed.clause
+    (subst (λ (cs : List (List ℕ)). Follows cs closed.clause) over.given (all_found (Follows (given_of s.kernel)) s.kernel.clauses place closed.clause follow closed.there))
+    closed.refutes
 
--- the solver's answers, over the clauses of the position
+-- the solver's answers, over the clauses of positions
 
-pub begins_over : (first second : Contents) (day : ℕ) (id : List ℕ) (old new : Solving) (goal : ℕ) (set : List Bool) → IsOver first second day id old → Onwards old new
-    → goal ≡ asked_goal first second day id → Begins (given_of new.kernel) goal new.codes set → Begins (asked_clauses first second day id) (asked_goal first second day id) (length first.codes) set
-begins_over first second day id old new goal set over on is found =
-    subst (λ (n : ℕ). Begins (asked_clauses first second day id) (asked_goal first second day id) n set) (on.same_codes ∙ over.codes)
-    (subst (λ (g : ℕ). Begins (asked_clauses first second day id) g new.codes set) is
-    (subst (λ (cs : List (List ℕ)). Begins cs goal new.codes set) (on.extends.same_given ∙ over.given) found))
+pub begins_over : (first second : Contents) (day : ℕ) (ps : List Place) (s : Solving) (goal : ℕ) (set : List Bool) → IsOver first second day ps s → Begins (given_of s.kernel) goal s.codes set
+    → Begins (searched_clauses first second day ps) goal (length first.codes) set
+begins_over first second day ps s goal set over found =
+    subst (λ (n : ℕ). Begins (searched_clauses first second day ps) goal n set) over.codes
+    (subst (λ (cs : List (List ℕ)). Begins cs goal s.codes set) over.given found)
 
-pub spent_over : (first second : Contents) (day : ℕ) (id : List ℕ) (old new : Solving) (goal budget : ℕ) (learnt : List (List ℕ)) → IsOver first second day id old → Onwards old new
-    → goal ≡ asked_goal first second day id → IsSpent new.vars (given_of new.kernel) goal budget learnt
-    → IsSpent (asked_variables first second day id) (asked_clauses first second day id) (asked_goal first second day id) budget learnt
-spent_over first second day id old new goal budget learnt over on is spent =
-    subst (λ (n : ℕ). IsSpent n (asked_clauses first second day id) (asked_goal first second day id) budget learnt) (on.same_vars ∙ over.variables)
-    (subst (λ (g : ℕ). IsSpent new.vars (asked_clauses first second day id) g budget learnt) is
-    (subst (λ (cs : List (List ℕ)). IsSpent new.vars cs goal budget learnt) (on.extends.same_given ∙ over.given) spent))
+pub spent_over : (first second : Contents) (day : ℕ) (ps : List Place) (s : Solving) (goal budget : ℕ) (learnt : List (List ℕ)) → IsOver first second day ps s → IsSpent s.vars (given_of s.kernel) goal budget learnt
+    → IsSpent (searched_variables first second day ps) (searched_clauses first second day ps) goal budget learnt
+spent_over first second day ps s goal budget learnt over spent =
+    subst (λ (n : ℕ). IsSpent n (searched_clauses first second day ps) goal budget learnt) over.variables
+    (subst (λ (cs : List (List ℕ)). IsSpent s.vars cs goal budget learnt) over.given spent)
+
+-- a solver that derived further clauses is still over the same
+pub over_onwards : (first second : Contents) (day : ℕ) (ps : List Place) (old new : Solving) → IsOver first second day ps old → Onwards old new → IsOver first second day ps new
+over_onwards first second day ps old new over on = record {
+  given = on.extends.same_given ∙ over.given;
+  variables = on.same_vars ∙ over.variables;
+  codes = on.same_codes ∙ over.codes;
+}
+
+-- over the clauses of one position alone
+pub left_alone : (first second : Contents) (day budget : ℕ) (p : Place) (learnt : List (List ℕ))
+    → IsSpent (searched_variables first second day (p ∷ [])) (searched_clauses first second day (p ∷ [])) (goal_at first second day (p ∷ []) 0) budget learnt → IsLeft first second day budget p.id learnt
+left_alone first second day budget p learnt spent =
+    let variables : searched_variables first second day (p ∷ []) ≡ asked_variables first second day p.id = omega arith in
+    let clauses : searched_clauses first second day (p ∷ []) ≡ asked_clauses first second day p.id =
+    ap (λ (cs : List (List ℕ)). joint_clauses first second day ++ cs) (append-nil (position_clauses (length first.codes) (joint_variables first second day) (asked_keys first second day p.id))) in
+    subst (λ (n : ℕ). IsSpent n (asked_clauses first second day p.id) (asked_goal first second day p.id) budget learnt) variables
+    (subst (λ (cs : List (List ℕ)). IsSpent (searched_variables first second day (p ∷ [])) cs (asked_goal first second day p.id) budget learnt) clauses spent)
+
+-- what came of a search is told of the position, whatever was given up
+pub found_from : (first second : Contents) (day budget : ℕ) (ps : List Place) (at : ℕ) (id : List ℕ) (o : Outcome) → IsOutcome first second day budget ps at id o → IsFound first second day id o
+found_from first second day budget ps at id (Differs names) h = h
+found_from first second day budget ps at id Alike h = h
+found_from first second day budget ps at id (Left learnt) h = tt

@@ -3,10 +3,9 @@ use Rattle.std.proofs.Common.{◌≡◌, ℕ, zero, suc, ◌+◌, ◌<◌, Bool,
 use Rattle.std.specs.List.{list_any, slice_get, AllByRecursion, IsDistinct}
 use Rattle.std.specs.Option.{is_none}
 use Rattle.std.specs.Cmp.Lexicographic.{nat_list_eq_equiv}
-use Rattle.std.proofs.lemmas.Bool.{cases_Bool, true≢false, cond-true, cond-false, or_from}
+use Rattle.std.proofs.lemmas.Bool.{cases_Bool, cond-true, cond-false, or_from}
 use Rattle.std.proofs.lemmas.Map.Keys.{IsDistinct-head, IsDistinct-tail}
 use Rattle.std.proofs.lemmas.Option.{slice_get-get_or}
-use Rattle.std.proofs.lemmas.List.Folds.{list_any_at}
 use Rattle.pb_base.specs.Names.{same_name, place_in}
 use Rattle.pb_base.specs.Sets.{has}
 use Rattle.pb_base.specs.NamedSet.{named}
@@ -14,7 +13,6 @@ use Rattle.pb_base.proofs.NamedSets.{code_at_place, has-named}
 use Rattle.book_compare.specs.Common.{AreNamed}
 use Rattle.book_compare.specs.Numbering.{missing_from}
 use Rattle.book_compare.specs.Picked.{picked_from, picked}
-use Rattle.book_compare.proofs.NumberLaws.{place_within}
 
 same_self : (name : List ℕ) → same_name name name ≡ true
 same_self name = nat_list_eq_equiv.refl name

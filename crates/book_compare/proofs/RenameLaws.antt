@@ -1,11 +1,10 @@
 -- Items with other variables for their codes: met over a set that has at each variable what another has at the code.
-use Rattle.std.proofs.Common.{◌≡◌, ℕ, zero, suc, ◌+◌, ◌<◌, ◌≤◌, Bool, true, false, not, cond, ltb, nat_le, ◌&&◌, ◌||◌, ◌==◌, List, [], ◌∷◌, ◌++◌, Some, None, length, get_or, map, refl, sym, ap, ◌∙◌, arith}
-use Rattle.std.specs.List.{filter, list_all, slice_get, AllByRecursion}
+use Rattle.std.proofs.Common.{◌≡◌, ℕ, zero, suc, ◌<◌, Bool, true, not, ltb, nat_le, ◌||◌, ◌==◌, List, [], ◌∷◌, length, get_or, map, refl, sym, ap, ◌∙◌, arith}
+use Rattle.std.specs.List.{filter, list_all, AllByRecursion}
 use Rattle.std.proofs.lemmas.Bool.{and_parts, and_from, ltb-true, lt-ltb}
 use Rattle.std.proofs.lemmas.Option.{slice_get-get_or}
-use Rattle.pb_base.specs.Rule.{Rule, holds, codes_below}
+use Rattle.pb_base.specs.Rule.{holds, codes_below}
 use Rattle.pb_base.specs.Sets.{has}
-use Rattle.pb_base.specs.Leaves.{with_places}
 use Rattle.pb_base.proofs.LeafLaws.{AtPlaces, holds-with_places, codes_below-with_places}
 use Rattle.book_model.specs.Good.{present}
 use Rattle.clausify.specs.Items.{Claim, adds, needed_by, needed, one_of, most_of, free, Item}

@@ -1,36 +1,37 @@
 -- A position with the same variants in both books is the same in each car that both allow.
-use Rattle.std.proofs.Common.{◌≡◌, ℕ, zero, suc, ◌+◌, ◌<◌, ◌≤◌, Bool, true, ◌&&◌, ◌||◌, List, [], ◌∷◌, ◌++◌, Option, Some, None, length, get_or, map, take, refl, sym, ap, subst, ◌∙◌, inl, inr, arith}
+use Rattle.std.proofs.Common.{◌≡◌, ℕ, suc, ◌+◌, ◌<◌, Bool, true, false, ◌&&◌, ◌||◌, List, [], ◌∷◌, ◌++◌, Option, Some, None, length, get_or, take, refl, sym, ap, subst, ◌∙◌, inl, inr, arith, All}
 use Rattle.std.specs.List.{list_any, slice_get}
 use Rattle.std.specs.Option.{option_map_or}
-use Rattle.std.proofs.lemmas.Bool.{cases_lt}
+use Rattle.std.proofs.lemmas.Bool.{cases_lt, cond-true, cond-false, false≢true}
 use Rattle.std.proofs.lemmas.List.{take_more}
+use Rattle.std.proofs.lemmas.List.Elements.{All-from_recursion}
 use Rattle.std.proofs.lemmas.Option.{slice_get_within, slice_get-get_or}
 use Rattle.pb_base.specs.NamedSet.{named}
 use Rattle.pb_base.specs.Rule.{holds}
-use Rattle.pb_base.specs.Sets.{has}
 use Rattle.book_model.specs.Contents.{Contents}
-use Rattle.clause_pool.specs.Clause.{Sat}
+use Rattle.book_model.specs.Parts.{is_active_position, variants_of}
+use Rattle.book_model.specs.declared.record.Position.{Position}
 use Rattle.clause_pool.specs.Literal.{is_true}
-use Rattle.clausify.specs.Choices.{usage}
+use Rattle.clausify.specs.Choices.{usage, active_variants}
 use Rattle.clausify.specs.declared.usage.Usage.{Usage}
 use Rattle.clausify.proofs.GoalLaws.{AllRight}
 use Rattle.clausify.proofs.ListLaws.{all_filtered}
 use Rattle.chosen_parts.specs.Chosen.{position_place, part_use, is_same_use}
 use Rattle.chosen_parts.specs.declared.part_use.PartUse.{PartUse}
-use Rattle.book_compare.specs.Asked.{is_variant_of, usages_in, usages_at, uses, keys_of, literals_with, key_literals}
-use Rattle.book_compare.specs.Common.{AreNamed, IsCommon, AreAlike}
-use Rattle.book_compare.specs.JointItems.{renamed_usage, joint_clauses, first_usages, second_usages, IsJoint}
+use Rattle.book_compare.specs.Asked.{is_variant_of, usages_in, usages_at, uses, keys_of, key_literals}
+use Rattle.book_compare.specs.Common.{AreAlike}
+use Rattle.book_compare.specs.JointItems.{renamed_usage, first_usages, second_usages}
 use Rattle.book_compare.specs.Numbering.{numbers_of}
-use Rattle.book_compare.specs.Same.{IsSameUsage, AreSameBelow, AreSameUsages}
+use Rattle.book_compare.specs.Same.{active_of, variants_on, variants_at, IsSameUsage, AreSameBelow, AreSameUsages}
 use Rattle.book_compare.specs.Searched.{AreBooks}
-use Rattle.book_compare.specs.declared.joint.Joint.{Joint}
 use Rattle.book_compare.proofs.ChoiceLaws.{none_differs}
 use Rattle.book_compare.proofs.JointLaws.{first_right, second_right, same_truth}
 use Rattle.book_compare.proofs.NoteLaws.{alike_over}
-use Rattle.book_compare.proofs.UsageLaws.{true_with}
+use Rattle.book_compare.proofs.StepRuns.{filtered_in_range}
+use Rattle.book_compare.proofs.UsageLaws.{true_with, variants_by_id, first_variants, renamed_variants}
 
-pub same_more : (numbers : List ℕ) (first : Contents) (us : List Usage) (second : Contents) (ws : List Usage) (i : ℕ) → AreSameBelow numbers first us second ws i
-    → ((u w : Usage) → slice_get us i ≡ Some u → slice_get ws i ≡ Some w → IsSameUsage numbers first second u w) → AreSameBelow numbers first us second ws (i + 1)
+pub same_more : (numbers : List ℕ) (first : Contents) (us : List ℕ) (second : Contents) (ws : List ℕ) (i : ℕ) → AreSameBelow numbers first us second ws i
+    → ((u w : ℕ) → slice_get us i ≡ Some u → slice_get ws i ≡ Some w → IsSameUsage numbers first second u w) → AreSameBelow numbers first us second ws (i + 1)
 same_more numbers first us second ws i before here k u w within own other = elim (cases_lt k i) [
   | inl low ↦ before k u w low own other
   | inr high ↦
@@ -44,12 +45,12 @@ read_is xs i x y within read there =
     let same : get_or xs i x ≡ y = cc in
     read ∙ same
 
-pub same_step : (numbers : List ℕ) (first : Contents) (us : List Usage) (second : Contents) (ws : List Usage) (i : ℕ) (u w : Usage) → i < length us → i < length ws → u ≡ get_or us i u → w ≡ get_or ws i w
+pub same_step : (numbers : List ℕ) (first : Contents) (us : List ℕ) (second : Contents) (ws : List ℕ) (i u w : ℕ) → i < length us → i < length ws → u ≡ get_or us i u → w ≡ get_or ws i w
     → AreSameBelow numbers first us second ws i → IsSameUsage numbers first second u w → AreSameBelow numbers first us second ws (i + 1)
 same_step numbers first us second ws i u w within inside one other before here =
     same_more numbers first us second ws i before (λ v t there found.
-    subst (λ (s : Usage). IsSameUsage numbers first second s t) (read_is us i u v within one there)
-    (subst (λ (s : Usage). IsSameUsage numbers first second u s) (read_is ws i w t inside other found) here))
+    subst (λ (s : ℕ). IsSameUsage numbers first second s t) (read_is us i u v within one there)
+    (subst (λ (s : ℕ). IsSameUsage numbers first second u s) (read_is ws i w t inside other found) here))
 
 -- two lists that are the same so far
 pub same_taken : {X : Type 0} (xs ys : List X) (i : ℕ) (d e : X) → i < length xs → i < length ys → take i xs ≡ take i ys → get_or xs i d ≡ get_or ys i e → take (i + 1) xs ≡ take (i + 1) ys
@@ -60,17 +61,16 @@ same_taken {X} xs ys i d e within inside before same =
 -- what is chosen by key, over variants one by one the same
 same_any : (numbers : List ℕ) (first second : Contents) (x y : List Bool) (key : PartUse)
     → ((u w : ℕ) → usage first u ≡ renamed_usage numbers second w → holds (usage first u) x ≡ holds (usage second w) y)
-    → (us ws : List Usage) → length us ≡ length ws → ((k : ℕ) (u w : Usage) → slice_get us k ≡ Some u → slice_get ws k ≡ Some w → IsSameUsage numbers first second u w)
-    → list_any (λ k. is_same_use (part_use first k) key && holds (usage first k) x) (map (λ (u : Usage). u.variant) us)
-    ≡ list_any (λ k. is_same_use (part_use second k) key && holds (usage second k) y) (map (λ (w : Usage). w.variant) ws)
+    → (us ws : List ℕ) → length us ≡ length ws → ((k u w : ℕ) → slice_get us k ≡ Some u → slice_get ws k ≡ Some w → IsSameUsage numbers first second u w)
+    → list_any (λ k. is_same_use (part_use first k) key && holds (usage first k) x) us ≡ list_any (λ k. is_same_use (part_use second k) key && holds (usage second k) y) ws
 same_any numbers first second x y key truth [] [] count each = refl
 same_any numbers first second x y key truth [] (w ∷ ws) count each = absurd (omega (arith, count))
 same_any numbers first second x y key truth (u ∷ us) [] count each = absurd (omega (arith, count))
 same_any numbers first second x y key truth (u ∷ us) (w ∷ ws) count each =
     let here : IsSameUsage numbers first second u w = each 0 u w refl refl in
-    ap (λ p. (is_same_use p key && holds (usage first u.variant) x) || list_any (λ k. is_same_use (part_use first k) key && holds (usage first k) x) (map (λ (v : Usage). v.variant) us)) here.part
-    ∙ ap (λ t. (is_same_use (part_use second w.variant) key && t) || list_any (λ k. is_same_use (part_use first k) key && holds (usage first k) x) (map (λ (v : Usage). v.variant) us)) (truth u.variant w.variant here.rule)
-    ∙ ap (λ t. (is_same_use (part_use second w.variant) key && holds (usage second w.variant) y) || t)
+    ap (λ p. (is_same_use p key && holds (usage first u) x) || list_any (λ k. is_same_use (part_use first k) key && holds (usage first k) x) us) here.part
+    ∙ ap (λ t. (is_same_use (part_use second w) key && t) || list_any (λ k. is_same_use (part_use first k) key && holds (usage first k) x) us) (truth u w here.rule)
+    ∙ ap (λ t. (is_same_use (part_use second w) key && holds (usage second w) y) || t)
     (same_any numbers first second x y key truth us ws (omega (arith, count)) (λ k v t own other. each (suc k) v t own other))
 
 -- the literals of a position's usages are the truth of theirs
@@ -84,7 +84,7 @@ right_at b id x a us right = by (position_place b id) refl
         (all_filtered (λ u. is_true a u.literal ≡ holds (usage b u.variant) x) (λ u. is_variant_of b place u.variant) us right)
 
 module _ (first second : Contents) (day : ℕ) (id : List ℕ) (books : AreBooks first second day)
-    (same : AreSameUsages (numbers_of first.codes second.codes) first (usages_at first id (first_usages first second day)) second (usages_at second id (second_usages first second day))) where
+    (same : AreSameUsages (numbers_of first.codes second.codes) first (variants_at first day id) second (variants_at second day id)) where
   abbrev us : List Usage
   us = usages_at first id (first_usages first second day)
 
@@ -93,19 +93,49 @@ module _ (first second : Contents) (day : ℕ) (id : List ℕ) (books : AreBooks
 
   pub alike_when_same : AreAlike first second day id
   alike_when_same names common =
-      alike_over first second day id books names common (λ a begins sat.
+      alike_over first second day books names common id (λ a begins sat.
       none_differs a (key_literals first us second ws) (keys_of (uses first us) (uses second ws)) (λ key.
       true_with first (named first.codes names) a key us (right_at first id (named first.codes names) a (first_usages first second day) (first_right first second day books.one.book books.other.book names a common.in_first begins sat))
+      ∙ ap (list_any (λ k. is_same_use (part_use first k) key && holds (usage first k) (named first.codes names))) (variants_by_id first day id (first_usages first second day) (first_variants first day (length first.codes) _))
       ∙ same_any (numbers_of first.codes second.codes) first second (named first.codes names) (named second.codes names) key
-      (same_truth first second day books.one.book books.other.book names common.in_first) us ws same.count
-      (λ k u w own other. same.each k u w (slice_get_within us k u own) own other)
+      (same_truth first second day books.one.book books.other.book names common.in_first) (variants_at first day id) (variants_at second day id) same.count
+      (λ k u w own other. same.each k u w (slice_get_within (variants_at first day id) k u own) own other)
+      ∙ sym (ap (list_any (λ k. is_same_use (part_use second k) key && holds (usage second k) (named second.codes names))) (variants_by_id second day id (second_usages first second day) (renamed_variants _ second (length first.codes) _ _)))
       ∙ sym (true_with second (named second.codes names) a key ws (right_at second id (named second.codes names) a (second_usages first second day) (second_right first second day books.one.book books.other.book names a common.in_first begins sat)))))
 
 -- the same of what a body has
-pub alike_when : (first second : Contents) (day : ℕ) (id : List ℕ) (joint : Joint) (own other : List Usage) → AreBooks first second day → IsJoint first second day joint
-    → own ≡ usages_at first id joint.first.items → other ≡ usages_at second id joint.second.items → AreSameUsages joint.numbers.items first own second other → AreAlike first second day id
-alike_when first second day id joint own other books is own_is other_is same =
+pub alike_when : (first second : Contents) (day : ℕ) (id : List ℕ) (numbers own other : List ℕ) → AreBooks first second day → numbers ≡ numbers_of first.codes second.codes
+    → own ≡ variants_at first day id → other ≡ variants_at second day id → AreSameUsages numbers first own second other → AreAlike first second day id
+alike_when first second day id numbers own other books are own_is other_is same =
     alike_when_same first second day id books
-    (subst (λ (ns : List ℕ). AreSameUsages ns first (usages_at first id (first_usages first second day)) second (usages_at second id (second_usages first second day))) is.numbers
-    (subst (λ (us : List Usage). AreSameUsages joint.numbers.items first us second (usages_at second id (second_usages first second day))) (own_is ∙ ap (usages_at first id) is.first_usages)
-    (subst (λ (ws : List Usage). AreSameUsages joint.numbers.items first own second ws) (other_is ∙ ap (usages_at second id) is.second_usages) same)))
+    (subst (λ (ns : List ℕ). AreSameUsages ns first (variants_at first day id) second (variants_at second day id)) are
+    (subst (λ (us : List ℕ). AreSameUsages numbers first us second (variants_at second day id)) own_is
+    (subst (λ (ws : List ℕ). AreSameUsages numbers first own second ws) other_is same)))
+
+-- the active variants of a position, by what is found
+pub at_place : (b : Contents) (day : ℕ) (id : List ℕ) (place : ℕ) → position_place b id ≡ Some place → variants_at b day id ≡ variants_on b day place
+at_place b day id place is = ap (λ o. option_map_or (variants_on b day) o []) is
+
+pub at_none : (b : Contents) (day : ℕ) (id : List ℕ) → position_place b id ≡ None → variants_at b day id ≡ []
+at_none b day id is = ap (λ o. option_map_or (variants_on b day) o []) is
+
+pub on_active : (b : Contents) (day place : ℕ) → option_map_or (is_active_position day) (slice_get b.positions place) false ≡ true → variants_on b day place ≡ active_variants b day place
+on_active b day place active = by (slice_get b.positions place) refl
+  where
+    by : (o : Option Position) → slice_get b.positions place ≡ o → variants_on b day place ≡ active_variants b day place
+    by None is = absurd (false≢true (sym (ap (λ o. option_map_or (is_active_position day) o false) is) ∙ active))
+    by (Some p) is =
+        ap (λ o. option_map_or (active_of b day place) o []) is
+        ∙ cond-true (is_active_position day p) (active_variants b day place) [] (sym (ap (λ o. option_map_or (is_active_position day) o false) is) ∙ active)
+
+pub on_passive : (b : Contents) (day place : ℕ) → option_map_or (is_active_position day) (slice_get b.positions place) false ≡ false → variants_on b day place ≡ []
+on_passive b day place passive = by (slice_get b.positions place) refl
+  where
+    by : (o : Option Position) → slice_get b.positions place ≡ o → variants_on b day place ≡ []
+    by None is = ap (λ o. option_map_or (active_of b day place) o []) is
+    by (Some p) is =
+        ap (λ o. option_map_or (active_of b day place) o []) is
+        ∙ cond-false (is_active_position day p) (active_variants b day place) [] (sym (ap (λ o. option_map_or (is_active_position day) o false) is) ∙ passive)
+
+pub active_within : (b : Contents) (day place : ℕ) → All (λ v. v < length b.variants) (active_variants b day place)
+active_within b day place = All-from_recursion (λ v. v < length b.variants) (active_variants b day place) (filtered_in_range b day (variants_of place b.variants))

@@ -1,8 +1,8 @@
 -- One step of a loop over codes or positions.
-use Rattle.std.proofs.Common.{◌≡◌, ℕ, suc, ◌+◌, ◌<◌, Bool, true, false, cond, List, [], ◌∷◌, ◌++◌, Option, Some, None, length, get_or, map, drop, refl, sym, ap, subst, ◌∙◌, inl, inr, arith, append_assoc, append-nil, drop-cons}
+use Rattle.std.proofs.Common.{◌≡◌, ℕ, suc, ◌+◌, ◌<◌, true, false, cond, List, [], ◌∷◌, ◌++◌, Option, Some, None, length, get_or, map, drop, refl, sym, ap, subst, ◌∙◌, inl, inr, arith, append_assoc, append-nil, drop-cons}
 use Rattle.std.specs.List.{slice_get, filter, flat_map, list_any, All, AllByRecursion}
 use Rattle.std.specs.Option.{is_none, option_map_or}
-use Rattle.std.proofs.lemmas.Bool.{cases_Bool, cond-true, cond-false, false≢true, lt-ltb}
+use Rattle.std.proofs.lemmas.Bool.{cases_Bool, cond-true, cond-false, false≢true}
 use Rattle.std.proofs.lemmas.List.Elements.{All-from_recursion}
 use Rattle.std.proofs.lemmas.Option.{slice_get-get_or, slice_get_within}
 use Rattle.pb_base.specs.Names.{place_in}
@@ -11,10 +11,9 @@ use Rattle.book_model.specs.Contents.{Contents}
 use Rattle.book_model.specs.declared.record.Position.{Position}
 use Rattle.book_model.specs.declared.record.Variant.{Variant}
 use Rattle.book_model.specs.Parts.{variants_of}
-use Rattle.chosen_parts.specs.Chosen.{use_of, part_use, is_same_use}
+use Rattle.chosen_parts.specs.Chosen.{part_use, is_same_use}
 use Rattle.chosen_parts.specs.declared.part_use.PartUse.{PartUse}
-use Rattle.clausify.specs.Choices.{Choice, choices_from, choices, active_variants, is_active_variant}
-use Rattle.clausify.specs.Goals.{all_usages}
+use Rattle.clausify.specs.Choices.{Choice, choices_from, active_variants, is_active_variant}
 use Rattle.clausify.specs.declared.usage.Usage.{Usage}
 use Rattle.clausify.proofs.ListLaws.{all-append}
 use Rattle.clausify.specs.Encoding.{Encodes, EncodesItem}
@@ -134,7 +133,7 @@ active_in_range b day k active = by (slice_get b.variants k) refl
     by (Some v) is = slice_get_within b.variants k v is
     by None is = absurd (false≢true (sym (ap (λ o. option_map_or (λ (v : Variant). is_within v.from v.until day) o false) is) ∙ active))
 
-filtered_in_range : (b : Contents) (day : ℕ) (ks : List ℕ) → AllByRecursion (λ k. k < length b.variants) (filter (is_active_variant b day) ks)
+pub filtered_in_range : (b : Contents) (day : ℕ) (ks : List ℕ) → AllByRecursion (λ k. k < length b.variants) (filter (is_active_variant b day) ks)
 filtered_in_range b day [] = tt
 filtered_in_range b day (k ∷ ks) = elim (cases_Bool (is_active_variant b day k)) [
   | inl active ↦

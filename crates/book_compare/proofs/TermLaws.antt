@@ -1,5 +1,5 @@
 -- A day of the terms of both books.
-use Rattle.std.proofs.Common.{◌≡◌, ℕ, ◌≤◌, Bool, true, false, nat_le, ◌&&◌, Option, Some, None, refl, sym, ap, ◌∙◌}
+use Rattle.std.proofs.Common.{◌≡◌, ℕ, Bool, true, false, nat_le, Some, None, refl}
 use Rattle.std.specs.Prelude.{if◌then◌else◌}
 use Rattle.std.proofs.lemmas.Bool.{and_parts, leb-true}
 use Rattle.book_model.specs.Activity.{is_within}
@@ -8,7 +8,6 @@ use Rattle.book_model.specs.Contents.{Contents}
 use Rattle.book_model.specs.Sound.{IsReleasable}
 use Rattle.book_compare.specs.Comparison.{outside}
 use Rattle.book_compare.specs.Searched.{IsOfTerm, AreBooks}
-use Rattle.book_compare.specs.declared.note.Outside.{Outside}
 use Rattle.book_compare.specs.declared.note.Outside.TheVariants.{First, Second}
 
 of_term : (b : Contents) (day : ℕ) → IsBook b → IsReleasable b → is_within b.first b.last day ≡ true → IsOfTerm b day

@@ -1,11 +1,10 @@
 -- The usages of a position have a key, with a literal that is true, just where the book chooses the key for the car.
-use Rattle.std.proofs.Common.{◌≡◌, ℕ, zero, suc, ◌+◌, ◌<◌, ◌≤◌, Bool, true, false, cond, ◌&&◌, ◌||◌, ◌==◌, List, [], ◌∷◌, ◌++◌, Option, Some, None, length, map, refl, sym, ap, subst, ◌∙◌, inl, inr, arith, append-nil, if◌then◌else◌}
+use Rattle.std.proofs.Common.{◌≡◌, ℕ, zero, suc, ◌+◌, ◌<◌, Bool, true, false, ◌&&◌, ◌||◌, ◌==◌, List, [], ◌∷◌, ◌++◌, Option, Some, None, map, refl, sym, ap, subst, ◌∙◌, inl, inr, arith, append-nil}
 use Rattle.std.specs.List.{filter, flat_map, list_any, slice_get, AllByRecursion}
 use Rattle.std.specs.Option.{option_map_or}
-use Rattle.std.proofs.lemmas.Bool.{cases_Bool, cond-true, cond-false, eq-eqb, ne_eqb, cases_eq, true≢false}
+use Rattle.std.proofs.lemmas.Bool.{cases_Bool, cond-true, cond-false, eq-eqb, ne_eqb, cases_eq}
 use Rattle.std.proofs.lemmas.List.Elements.{filter-append}
-use Rattle.std.proofs.lemmas.Option.{slice_get_within}
-use Rattle.pb_base.specs.Rule.{Rule, holds, never}
+use Rattle.pb_base.specs.Rule.{holds, never}
 use Rattle.book_model.specs.Activity.{is_within}
 use Rattle.book_model.specs.Contents.{Contents}
 use Rattle.book_model.specs.Parts.{variants_from, variants_of, is_selected, is_selected_at, is_active_position, selected_of, selected}
@@ -19,11 +18,12 @@ use Rattle.clausify.specs.Goals.{usages_from, all_usages}
 use Rattle.clausify.specs.declared.usage.Usage.{Usage}
 use Rattle.clausify.proofs.GoalLaws.{AllRight}
 use Rattle.clausify.proofs.ListLaws.{all_filtered}
-use Rattle.chosen_parts.specs.Chosen.{position_place, part_use, is_same_use, selected_at, chosen_at, chosen}
+use Rattle.chosen_parts.specs.Chosen.{position_place, part_use, is_same_use, chosen_at, chosen}
 use Rattle.chosen_parts.specs.declared.part_use.PartUse.{PartUse}
 use Rattle.chosen_parts.proofs.PlaceLaws.{IsPositionOf, position_found}
 use Rattle.chosen_parts.proofs.SameLaws.{chosen_none, chosen_some}
 use Rattle.book_compare.specs.Asked.{is_variant_of, usages_in, usages_at, literals_with}
+use Rattle.book_compare.specs.Same.{active_of, variants_on, variants_at}
 use Rattle.book_compare.specs.JointItems.{day_variants, renamed_usages, renamed_usage}
 
 -- the variants of usages
@@ -102,10 +102,6 @@ other_left b place other (k ∷ ks) apart at =
     (ap (λ o. option_map_or (λ v. v.position == place) o false) at.0.1 ∙ ne_eqb at.0.0.position place (λ same. apart (sym at.0.2 ∙ same)))
     ∙ other_left b place other ks apart at.1
 
--- what a position has that day
-abbrev active_of : Contents → ℕ → ℕ → Position → List ℕ
-active_of b day place p = if is_active_position day p then active_variants b day place else []
-
 first_and_rest : (b : Contents) (day i : ℕ) (p : Position) (ps : List Position)
     → flat_map (λ c. c.variants) (choices_from i b day (p ∷ ps)) ≡ active_of b day i p ++ flat_map (λ c. c.variants) (choices_from (suc i) b day ps)
 first_and_rest b day i p ps = by (is_active_position day p) refl
@@ -157,13 +153,28 @@ variants_here b day i (suc k) (q ∷ ps) p is =
     ∙ subst (λ place. filter (is_variant_of b place) (flat_map (λ c. c.variants) (choices_from (suc i) b day ps)) ≡ active_of b day place p) there
     (variants_here b day (suc i) k ps p is)
 
-pub variants_at : (b : Contents) (day place : ℕ) (p : Position) (us : List Usage) → map (λ (u : Usage). u.variant) us ≡ day_variants b day → slice_get b.positions place ≡ Some p
+pub variants_there : (b : Contents) (day place : ℕ) (p : Position) (us : List Usage) → map (λ (u : Usage). u.variant) us ≡ day_variants b day → slice_get b.positions place ≡ Some p
     → map (λ (u : Usage). u.variant) (usages_in b place us) ≡ active_of b day place p
-variants_at b day place p us variants is =
+variants_there b day place p us variants is =
     let here : 0 + place ≡ place = omega arith in
     filter-map (is_variant_of b place) (λ (u : Usage). u.variant) us
     ∙ ap (filter (is_variant_of b place)) variants
     ∙ subst (λ at. filter (is_variant_of b at) (flat_map (λ c. c.variants) (choices_from 0 b day b.positions)) ≡ active_of b day at p) here (variants_here b day 0 place b.positions p is)
+
+-- the same by the id of the position
+pub variants_by_id : (b : Contents) (day : ℕ) (id : List ℕ) (us : List Usage) → map (λ (u : Usage). u.variant) us ≡ day_variants b day → map (λ (u : Usage). u.variant) (usages_at b id us) ≡ variants_at b day id
+variants_by_id b day id us variants = by (position_place b id) refl
+  where
+    by : (o : Option ℕ) → position_place b id ≡ o → map (λ (u : Usage). u.variant) (usages_at b id us) ≡ variants_at b day id
+    by None is =
+        ap (λ o. map (λ (u : Usage). u.variant) (option_map_or (λ place. usages_in b place us) o [])) is
+        ∙ sym (ap (λ o. option_map_or (variants_on b day) o []) is)
+    by (Some place) is =
+        let found : IsPositionOf b id place = position_found b id place is in
+        ap (λ o. map (λ (u : Usage). u.variant) (option_map_or (λ at. usages_in b at us) o [])) is
+        ∙ variants_there b day place found.position us variants found.there
+        ∙ sym (ap (λ o. option_map_or (active_of b day place) o []) found.there)
+        ∙ sym (ap (λ o. option_map_or (variants_on b day) o []) is)
 
 -- what is chosen, by key
 
@@ -247,7 +258,7 @@ chosen_by_key b day x a id us key right variants = by (position_place b id) refl
         let found : IsPositionOf b id place = position_found b id place is in
         ap (λ o. list_any (is_true a) (literals_with b (option_map_or (λ at. usages_in b at us) o []) key)) is
         ∙ true_with b x a key (usages_in b place us) (all_filtered (λ u. is_true a u.literal ≡ holds (usage b u.variant) x) (λ u. is_variant_of b place u.variant) us right)
-        ∙ ap (list_any (λ k. is_same_use (part_use b k) key && holds (usage b k) x)) (variants_at b day place found.position us variants found.there)
+        ∙ ap (list_any (λ k. is_same_use (part_use b k) key && holds (usage b k) x)) (variants_there b day place found.position us variants found.there)
         ∙ at_position place found.position found.there
         ∙ sym (ap (has_use key) (chosen_some b day id x place is))
       where

@@ -1,7 +1,7 @@
 -- The lines that tell what a comparison of two books found.
 --     note_line note       a position with a car that gets other parts there, or one that was left undecided
 --     compare_text notes   the lines, then how many positions differ
-use Rattle.std.specs.Prelude.{ℕ, Bool, true, false, List, [], ◌∷◌, ◌++◌, codes, length, filter}
+use Rattle.std.specs.Prelude.{ℕ, Bool, true, false, List, ◌∷◌, ◌++◌, codes, length, filter}
 use Rattle.std.specs.List.{flat_map}
 use Rattle.desk_words.specs.Lines.{line, number_behind}
 use Rattle.book_compare.specs.declared.note.CompareNote.{CompareNote}

@@ -3,7 +3,7 @@
 --                                                  none, or that the search was given up, with the clauses that it learnt
 --     IsComparison first second day budget notes   of each position of either book, the first book's first
 --     outside first second day                     the first of the books in whose term the day is not
-use Rattle.std.specs.Prelude.{◌≡◌, ℕ, List, [], ◌∷◌, ◌++◌, Option, None, Some, if◌then◌else◌}
+use Rattle.std.specs.Prelude.{◌≡◌, ℕ, List, [], ◌∷◌, Option, None, Some, if◌then◌else◌}
 use Rattle.pb_base.specs.InParts.{InParts}
 use Rattle.book_model.specs.Activity.{is_within}
 use Rattle.book_model.specs.Contents.{Contents}
@@ -15,6 +15,7 @@ use Rattle.book_compare.specs.declared.note.CompareNote.{CompareNote}
 use Rattle.book_compare.specs.declared.note.CompareNote.TheVariants.{Finding, Undecided}
 use Rattle.book_compare.specs.declared.note.Outside.{Outside}
 use Rattle.book_compare.specs.declared.note.Outside.TheVariants.{First, Second}
+use Rattle.book_compare.specs.declared.place.Place.{Place}
 
 -- the search over the position's clauses was given up, after so many clauses that it learnt
 abbrev pub IsLeft : Contents → Contents → ℕ → ℕ → List ℕ → List (List ℕ) → Type 0
@@ -37,8 +38,9 @@ abbrev pub outside : Contents → Contents → ℕ → Option Outside
 outside first second day =
     if is_within first.first first.last day then (if is_within second.first second.last day then None else Some Second) else Some First
 
--- the notes on these positions, behind others
-pub record AddsNotes (first second : Contents) (day budget : ℕ) (ids : List (List ℕ)) (old new : List CompareNote) : Type 0 where
-  pub notes : List CompareNote
-  pub behind : new ≡ old ++ notes
-  pub each : InParts (IsNoted first second day budget) ids notes
+-- the notes on positions that were searched
+abbrev pub IsNotedAt : Contents → Contents → ℕ → ℕ → Place → List CompareNote → Type 0
+IsNotedAt first second day budget p notes = IsNoted first second day budget p.id notes
+
+abbrev pub AreNoted : Contents → Contents → ℕ → ℕ → List Place → List CompareNote → Type 0
+AreNoted first second day budget ps notes = InParts (IsNotedAt first second day budget) ps notes

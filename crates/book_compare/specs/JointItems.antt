@@ -12,7 +12,7 @@ use Rattle.pb_base.specs.Rule.{Rule, code, negation}
 use Rattle.pb_base.specs.Leaves.{with_places}
 use Rattle.book_model.specs.Contents.{Contents}
 use Rattle.clausify.specs.Formulas.{connectives, formula_literal}
-use Rattle.clausify.specs.Items.{Claim, adds, needed_by, needed, one_of, most_of, free, Item, rule_item, free_item, rule_items, usage_item, items, variables_of, encoded_items}
+use Rattle.clausify.specs.Items.{Claim, adds, needed_by, needed, one_of, most_of, free, Item, rule_item, free_item, rule_items, items, variables_of, encoded_items}
 use Rattle.clausify.specs.Choices.{choices, usage}
 use Rattle.clausify.specs.Goals.{all_usages}
 use Rattle.clausify.specs.declared.usage.Usage.{Usage}

@@ -7,7 +7,7 @@
 --     keys_clauses n v ks           the clauses of the keys, where v is the first variable that they take
 --     position_clauses n v ks       the same with those of the last variable
 --     position_goal v ks            its literal
-use Rattle.std.specs.Prelude.{ℕ, ◌+◌, ◌-◌, true, false, List, [], ◌∷◌, ◌++◌, length}
+use Rattle.std.specs.Prelude.{ℕ, ◌+◌, true, false, List, [], ◌∷◌, ◌++◌, length}
 use Rattle.clause_pool.specs.Literal.{literal, complement}
 use Rattle.clause_pool.specs.Clause.{clause_of}
 use Rattle.clausify.specs.Formulas.{either_clauses}

@@ -3,6 +3,7 @@ pub mod Numbering
 pub mod JointItems
 pub mod Keys
 pub mod Asked
+pub mod Together
 pub mod Asking
 pub mod Picked
 pub mod Comparison

@@ -6,6 +6,7 @@ mod joint;
 mod keys;
 mod note;
 mod numbering;
+mod place;
 mod position;
 mod positions;
 mod renaming;

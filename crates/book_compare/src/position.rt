@@ -1,22 +1,35 @@
-//! The clauses of one position, behind those of the two books.
+//! The clauses of positions, behind those of the two books.
 ghost use Rattle.std.specs.Prelude.{◌≡◌, ◌+◌, ◌++◌, ◌<◌, [], ◌∷◌, All, IfOk, OnOk, length, map, true, false};
 ghost use Rattle.clause_pool.specs.Literal.{literal};
 ghost use Rattle.clause_pool.specs.Clause.{clause_of};
 ghost use Rattle.clausify.specs.Formulas.{either_clauses};
-ghost use Rattle.book_compare.specs.Asked.{key_literals};
-ghost use Rattle.book_compare.specs.Keys.{any_clauses, any_literal, either_all, either_literal, joins};
-ghost use Rattle.book_compare.specs.Asking.{Takes, TakesKey, TakesKeys, key_of};
+ghost use Rattle.book_compare.specs.Asked.{key_literals, keys_literals, asked_keys};
+ghost use Rattle.book_compare.specs.Keys.{any_clauses, any_literal, either_all, either_literal, joins, position_goal};
+ghost use Rattle.book_compare.specs.Asking.{Takes, TakesKey, TakesKeys, TakesPosition, TakesPositions, key_of};
+ghost use Rattle.book_compare.specs.JointItems.{IsJoint};
+ghost use Rattle.book_compare.specs.Searched.{IsAskedOf};
+ghost use Rattle.book_compare.specs.Together.{place_keys, together_goals};
 
 use crate::joint::Joint as Both;
-use crate::keys::literals_with;
+use crate::keys::{keys_of, literals_with, usages_at};
+use crate::place::Place;
 use book_model::Book;
 use chosen_parts::PartUse;
 use clause_pool::{Lit, Pool};
 use clausify::{Joint, Usage, tie};
-use pb_base::Memory;
+use pb_base::{Day, Memory};
 use std::alloc::Global;
 
-/// The clauses in the making, the variable that is taken next, and the literals of which one has to be true.
+/// The clauses of some positions, how many variables they have, and for each position the literal that asks of it.
+#[derive(Drop)]
+pub(crate) struct Asked {
+    pub(crate) pool: Pool,
+    pub(crate) vars: u32,
+    pub(crate) goals: Vec<Lit>,
+}
+
+/// The clauses in the making, the variable that is taken next, and the literals of which one has to be true at the position in the
+/// making.
 #[derive(Drop)]
 pub(crate) struct Asking {
     pub(crate) pool: Pool,
@@ -24,12 +37,67 @@ pub(crate) struct Asking {
     pub(crate) ways: Vec<Lit>,
 }
 
-/// The clauses of a position, how many variables they have, and the literal that is assumed.
-#[derive(Drop)]
-pub(crate) struct Asked {
-    pub(crate) pool: Pool,
-    pub(crate) vars: u32,
-    pub(crate) goal: Lit,
+/// The clauses of these positions, one behind the other.
+pub(crate) fn asked_of(
+    alloc: Global,
+    joint: &Both,
+    first: &Book,
+    second: &Book,
+    day: Day,
+    places: &[Place],
+) -> Result<Asked, Memory>
+    requires joint { IsJoint first.now second.now day joint.now }
+    ensures { IfOk result (IsAskedOf first.now second.now day places.now) }
+{
+    let mut asking = Asking::behind(alloc, joint)?;
+    let goals = add_positions(alloc, &mut asking, joint, first, second, day, places)?;
+    Ok(asking.asked(goals))
+}
+
+// The clauses of these positions, and the literals that ask of them.
+fn add_positions(
+    alloc: Global,
+    asking: &mut Asking,
+    joint: &Both,
+    first: &Book,
+    second: &Book,
+    day: Day,
+    places: &[Place],
+) -> Result<Vec<Lit>, Memory>
+    requires joint { IsJoint first.now second.now day joint.now }
+    ensures made { let keys = place_keys first.now second.now day places.now in
+        OnOk result (TakesPositions (length first.now.codes) asking.old asking.new keys) }
+    ensures goals { let keys = place_keys first.now second.now day places.now in
+        IfOk result (λ goals. goals.items ≡ together_goals asking.old.next keys) }
+{
+    let mut goals = Vec::new(alloc);
+    for place in places {
+        let lit = add_position(alloc, asking, joint, first, second, day, *place)?;
+        goals.push(lit)?;
+    }
+    Ok(goals)
+}
+
+// The clauses of a position, and the literal that asks of it.
+fn add_position(
+    alloc: Global,
+    asking: &mut Asking,
+    joint: &Both,
+    first: &Book,
+    second: &Book,
+    day: Day,
+    place: Place,
+) -> Result<Lit, Memory>
+    requires joint { IsJoint first.now second.now day joint.now }
+    ensures made { let keys = asked_keys first.now second.now day place.id in
+        OnOk result (TakesPosition (length first.now.codes) asking.old asking.new keys) }
+    ensures goal { let keys = asked_keys first.now second.now day place.id in
+        IfOk result (λ l. l ≡ position_goal asking.old.next keys) }
+{
+    let own = usages_at(alloc, first, &joint.first, &place.id, place.guess)?;
+    let other = usages_at(alloc, second, &joint.second, &place.id, place.guess)?;
+    let lit = asking.with_usages(alloc, first, &own, second, &other)?;
+    Ok(lit)
 }
 
 impl Asking {
@@ -108,8 +176,8 @@ impl Asking {
         self.way(one.not(), other)
     }
 
-    /// All keys of a position.
-    pub(crate) fn keys(
+    // All keys of a position.
+    fn keys(
         &mut self,
         alloc: Global,
         first: &Book,
@@ -132,35 +200,63 @@ impl Asking {
         Ok(())
     }
 
-    /// The last clause: one of the ways is true where the last variable is.
-    pub(crate) fn asked(self, alloc: Global) -> Result<Asked, Memory>
-        ensures clauses { IfOk result (λ a. a.pool.clauses ≡ self.pool.clauses
-            ++ clause_of (literal self.next false ∷ self.ways.items) ∷ []) }
-        ensures vars { IfOk result (λ a. a.vars ≡ self.next + 1) }
-        ensures goal { IfOk result (λ a. a.goal ≡ literal self.next true) }
+    // The last clause: one of the ways is true where the last variable is.
+    fn last(&mut self, alloc: Global) -> Result<Lit, Memory>
+        ensures clauses { OnOk result (self.new.pool.clauses ≡ self.old.pool.clauses
+            ++ clause_of (literal self.old.next false ∷ self.old.ways.items) ∷ []) }
+        ensures next { OnOk result (self.new.next ≡ self.old.next + 1) }
+        ensures goal { IfOk result (λ l. l ≡ literal self.old.next true) }
     {
-        let mut asking = self;
-        let var = asking.take()?;
+        let var = self.take()?;
         let mut last = Vec::with_capacity(alloc, 1)?;
         last.push(Lit::new(var, false))?;
-        last.extend_from_slice(&asking.ways)?;
-        asking.pool.add(&last)?;
+        last.extend_from_slice(&self.ways)?;
+        self.pool.add(&last)?;
+        Ok(Lit::new(var, true))
+    }
+
+    // All clauses of a position with these usages, and the literal that asks of it.
+    fn with_usages(
+        &mut self,
+        alloc: Global,
+        first: &Book,
+        own: &[Usage],
+        second: &Book,
+        other: &[Usage],
+    ) -> Result<Lit, Memory>
+        requires first { All (λ u. u.variant < length first.now.variants) own.now }
+        requires second { All (λ u. u.variant < length second.now.variants) other.now }
+        ensures made { let keys = keys_literals first.now own.now second.now other.now in
+            OnOk result (TakesPosition (length first.now.codes) self.old self.new keys) }
+        ensures goal { let keys = keys_literals first.now own.now second.now other.now in
+            IfOk result (λ l. l ≡ position_goal self.old.next keys) }
+    {
+        let uses = keys_of(alloc, first, own, second, other)?;
+        self.ways.clear();
+        self.keys(alloc, first, own, second, other, &uses)?;
+        let lit = self.last(alloc)?;
+        Ok(lit)
+    }
+
+    fn asked(self, goals: Vec<Lit>) -> Asked
+        ensures clauses { result.pool.clauses ≡ self.pool.clauses }
+        ensures vars { result.vars ≡ self.next }
+        ensures goals { result.goals.items ≡ goals.items }
+    {
         let Asking {
             pool,
             next,
             ways: _ways,
-        } = asking;
-        Ok(Asked {
+        } = self;
+        Asked {
             pool,
             vars: next,
-            goal: Lit::new(var, true),
-        })
+            goals,
+        }
     }
-}
 
-impl Asking {
-    /// The clauses of both books, with none of a position.
-    pub(crate) fn behind(alloc: Global, joint: &Both) -> Result<Asking, Memory>
+    // The clauses of both books, with none of a position.
+    fn behind(alloc: Global, joint: &Both) -> Result<Asking, Memory>
         ensures clauses { IfOk result (λ a. a.pool.clauses ≡ joint.now.pool.clauses) }
         ensures next { IfOk result (λ a. a.next ≡ joint.now.vars) }
         ensures ways { IfOk result (λ a. a.ways.items ≡ []) }

@@ -5,13 +5,15 @@ ghost use Rattle.pb_base.specs.Answers.{IfRefused};
 ghost use Rattle.pb_base.specs.declared.limits.TheConstants.{MOST_BUDGET};
 ghost use Rattle.book_model.specs.Activity.{is_within};
 ghost use Rattle.chosen_parts.specs.Chosen.{position_place, position_ids, added_ids};
-ghost use Rattle.book_compare.specs.Comparison.{IsNoted, IsComparison, outside, AddsNotes};
-ghost use Rattle.book_compare.specs.JointItems.{IsJoint};
-ghost use Rattle.book_compare.specs.Searched.{AreBooks};
+ghost use Rattle.book_compare.specs.Comparison.{IsComparison, outside};
+ghost use Rattle.book_compare.specs.Numbering.{numbers_of};
+ghost use Rattle.book_compare.specs.Searched.{AreBooks, IsPut, ArePut, AddsPlaces};
 
-use crate::answer::note_at;
+use crate::answer::notes_on;
 use crate::joint::Joint;
 use crate::note::{CompareNote, Outside};
+use crate::place::Place;
+use crate::same::same_at;
 use book_model::{Book, active};
 use chosen_parts::place_of_position;
 use pb_base::{Day, Fail, Id, Memory};
@@ -76,93 +78,122 @@ fn compare_on(
     ensures { IfOk result (λ notes. IsComparison first.now second.now day budget notes.items) }
 {
     let joint = Joint::of(alloc, first, second, day)?;
-    let mut notes = Vec::new(alloc);
-    note_first(alloc, &mut notes, &joint, first, second, day, budget)?;
-    note_added(alloc, &mut notes, &joint, first, second, day, budget)?;
+    let places = places_to_search(alloc, &joint.numbers, first, second, day)?;
+    let notes = notes_on(alloc, &joint, first, second, day, budget, &places)?;
     Ok(notes)
 }
 
-// The positions of the first book.
-fn note_first(
+// The positions that have to be searched, since their variants aren't the same in both books.
+fn places_to_search(
     alloc: Global,
-    notes: &mut Vec<CompareNote>,
-    joint: &Joint,
+    numbers: &[u32],
     first: &Book,
     second: &Book,
     day: Day,
-    budget: u32,
+) -> Result<Vec<Place>, Memory>
+    requires books { AreBooks first.now second.now day }
+    requires numbers { numbers.now ≡ numbers_of first.now.codes second.now.codes }
+    ensures { IfOk result (λ places. ArePut first.now second.now day places.items) }
+{
+    let mut places = Vec::new(alloc);
+    put_first(alloc, &mut places, numbers, first, second, day)?;
+    put_added(alloc, &mut places, numbers, first, second, day)?;
+    Ok(places)
+}
+
+// The positions of the first book.
+fn put_first(
+    alloc: Global,
+    places: &mut Vec<Place>,
+    numbers: &[u32],
+    first: &Book,
+    second: &Book,
+    day: Day,
 ) -> Result<(), Memory>
     requires books { AreBooks first.now second.now day }
-    requires joint { IsJoint first.now second.now day joint.now }
-    requires some { 0 < budget }
-    requires most { budget ≤ MOST_BUDGET }
-    ensures { OnOk result (AddsNotes first.now second.now day budget (position_ids first.now)
-        notes.old.items notes.new.items) }
+    requires numbers { numbers.now ≡ numbers_of first.now.codes second.now.codes }
+    ensures { OnOk result (AddsPlaces first.now second.now day (position_ids first.now)
+        places.old.items places.new.items) }
 {
     for (place, position) in first.positions().iter().enumerate() {
         let id = &position.id;
-        let note = note_at(alloc, joint, first, second, day, budget, id, place)?;
-        put(notes, note)?;
+        let found = place_of(alloc, numbers, first, second, day, id, place)?;
+        put(places, found)?;
     }
     Ok(())
 }
 
 // The positions that only the second book has.
-fn note_added(
+fn put_added(
     alloc: Global,
-    notes: &mut Vec<CompareNote>,
-    joint: &Joint,
+    places: &mut Vec<Place>,
+    numbers: &[u32],
     first: &Book,
     second: &Book,
     day: Day,
-    budget: u32,
 ) -> Result<(), Memory>
     requires books { AreBooks first.now second.now day }
-    requires joint { IsJoint first.now second.now day joint.now }
-    requires some { 0 < budget }
-    requires most { budget ≤ MOST_BUDGET }
-    ensures { OnOk result (AddsNotes first.now second.now day budget (added_ids first.now second.now)
-        notes.old.items notes.new.items) }
+    requires numbers { numbers.now ≡ numbers_of first.now.codes second.now.codes }
+    ensures { OnOk result (AddsPlaces first.now second.now day (added_ids first.now second.now)
+        places.old.items places.new.items) }
 {
     for (place, position) in second.positions().iter().enumerate() {
         let id = &position.id;
-        let note = note_if_added(alloc, joint, first, second, day, budget, id, place)?;
-        put(notes, note)?;
+        let found = place_if_added(alloc, numbers, first, second, day, id, place)?;
+        put(places, found)?;
     }
     Ok(())
 }
 
-// The note on a position of the second book, if the first lacks it.
-fn note_if_added(
+// The position of an id, if it has to be searched. The guess is where it stands in one of the books.
+fn place_of(
     alloc: Global,
-    joint: &Joint,
+    numbers: &[u32],
     first: &Book,
     second: &Book,
     day: Day,
-    budget: u32,
     id: &Id,
     guess: usize,
-) -> Result<Option<CompareNote>, Memory>
+) -> Result<Option<Place>, Memory>
     requires books { AreBooks first.now second.now day }
-    requires joint { IsJoint first.now second.now day joint.now }
-    requires some { 0 < budget }
-    requires most { budget ≤ MOST_BUDGET }
+    requires numbers { numbers.now ≡ numbers_of first.now.codes second.now.codes }
+    ensures { IfOk result (λ place. IsPut first.now second.now day id.now (option_to_list place)) }
+{
+    if same_at(alloc, numbers, first, second, day, id, guess)? {
+        return Ok(None);
+    }
+    Ok(Some(Place { id: *id, guess }))
+}
+
+// The same of a position of the second book, if the first lacks it.
+fn place_if_added(
+    alloc: Global,
+    numbers: &[u32],
+    first: &Book,
+    second: &Book,
+    day: Day,
+    id: &Id,
+    guess: usize,
+) -> Result<Option<Place>, Memory>
+    requires books { AreBooks first.now second.now day }
+    requires numbers { numbers.now ≡ numbers_of first.now.codes second.now.codes }
     ensures added { position_place first.now id.now ≡ None
-        → IfOk result (λ note. IsNoted first.now second.now day budget id.now (option_to_list note)) }
-    ensures shared { (place : ℕ) → position_place first.now id.now ≡ Some place → IfOk result (λ note. note ≡ None) }
+        → IfOk result (λ place. IsPut first.now second.now day id.now (option_to_list place)) }
+    ensures shared { (at : ℕ) → position_place first.now id.now ≡ Some at
+        → IfOk result (λ place. place ≡ None) }
 {
     if place_of_position(first, id, guess).is_some() {
         return Ok(None);
     }
-    note_at(alloc, joint, first, second, day, budget, id, guess)
+    place_of(alloc, numbers, first, second, day, id, guess)
 }
 
-// Puts a note behind the others, if there is one.
-fn put(notes: &mut Vec<CompareNote>, note: Option<CompareNote>) -> Result<(), Memory>
-    ensures { OnOk result (notes.new.items ≡ notes.old.items ++ option_to_list note) }
+// Puts a position behind the others, if there is one.
+fn put(places: &mut Vec<Place>, place: Option<Place>) -> Result<(), Memory>
+    ensures { OnOk result (places.new.items ≡ places.old.items ++ option_to_list place) }
 {
-    match note {
-        Some(note) => notes.push(note)?,
+    match place {
+        Some(place) => places.push(place)?,
         None => {}
     }
     Ok(())

@@ -153,8 +153,13 @@ fn day_variants(alloc: Global, book: &Book, day: Day) -> Result<Vec<u32>, Memory
     Ok(variants)
 }
 
-// The places of the active variants of the position at a place, behind the others.
-fn push_active(variants: &mut Vec<u32>, book: &Book, day: Day, position: u32) -> Result<(), Memory>
+/// The places of the active variants of the position at a place, behind the others.
+pub(crate) fn push_active(
+    variants: &mut Vec<u32>,
+    book: &Book,
+    day: Day,
+    position: u32,
+) -> Result<(), Memory>
     requires { position < length book.now.positions }
     ensures { OnOk result (variants.new.items ≡ variants.old.items ++ active_variants book.now day position) }
 {

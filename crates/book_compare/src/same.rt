@@ -1,23 +1,24 @@
 //! Positions that have the same variants in both books. No search is needed there.
-ghost use Rattle.std.specs.Prelude.{◌≡◌, ◌<◌, All, IfOk, length, true};
+ghost use Rattle.std.specs.Prelude.{◌≡◌, ◌<◌, All, IfOk, false, length, slice_get, true};
+ghost use Rattle.std.specs.Option.{option_map_or};
+ghost use Rattle.book_model.specs.Parts.{is_active_position};
+ghost use Rattle.clausify.specs.Choices.{active_variants};
 ghost use Rattle.book_compare.specs.Common.{AreAlike};
-ghost use Rattle.book_compare.specs.JointItems.{IsJoint};
-ghost use Rattle.book_compare.specs.Same.{IsSameVariant, IsSameUsage, AreSameUsages};
+ghost use Rattle.book_compare.specs.Numbering.{numbers_of};
+ghost use Rattle.book_compare.specs.Same.{variants_on, variants_at, IsSameVariant, IsSameUsage, AreSameUsages};
 ghost use Rattle.book_compare.specs.Searched.{AreBooks};
 
-use crate::joint::Joint;
-use crate::keys::usages_at;
-use book_model::{Book, Variant};
-use chosen_parts::same_use;
-use clausify::Usage;
+use crate::renaming::push_active;
+use book_model::{Book, Variant, active};
+use chosen_parts::{place_of_position, same_use};
 use pb_base::{Day, Formula, Id, Memory, Node, Renamed};
 use std::alloc::Global;
 
-/// Whether the active variants at the position of an id are the same in both books. The place is a guess where the position
-/// stands.
+/// Whether the active variants at the position of an id are the same in both books. The guess is where the position stands in one
+/// of them.
 pub(crate) fn same_at(
     alloc: Global,
-    joint: &Joint,
+    numbers: &[u32],
     first: &Book,
     second: &Book,
     day: Day,
@@ -25,26 +26,81 @@ pub(crate) fn same_at(
     guess: usize,
 ) -> Result<bool, Memory>
     requires books { AreBooks first.now second.now day }
-    requires joint { IsJoint first.now second.now day joint.now }
+    requires numbers { numbers.now ≡ numbers_of first.now.codes second.now.codes }
     ensures { IfOk result (λ same. same ≡ true → AreAlike first.now second.now day id.now) }
 {
-    let own = usages_at(alloc, first, &joint.first, id, guess)?;
-    let other = usages_at(alloc, second, &joint.second, id, guess)?;
-    let same = same_usages(alloc, &joint.numbers, first, &own, second, &other)?;
+    let own = variants_at(alloc, first, day, id, guess)?;
+    let other = variants_at(alloc, second, day, id, guess)?;
+    let same = same_usages(alloc, numbers, first, &own, second, &other)?;
     Ok(same)
 }
 
-// Whether these usages of the first book are those of the second, one by one.
+// The places of the active variants of the position of an id; none where the book has no such position, or it isn't active.
+#[tactic(auto, using(crate::proofs::SameLaws::at_place, crate::proofs::SameLaws::at_none))]
+fn variants_at(
+    alloc: Global,
+    book: &Book,
+    day: Day,
+    id: &Id,
+    guess: usize,
+) -> Result<Vec<u32>, Memory>
+    ensures variants { IfOk result (λ vs. vs.items ≡ variants_at book.now day id.now) }
+    ensures in_range { IfOk result (λ vs. All (λ v. v < length book.now.variants) vs.items) }
+{
+    match place_of_position(book, id, guess) {
+        Some(place) => variants_on(alloc, book, day, place),
+        None => Ok(Vec::new(alloc)),
+    }
+}
+
+// The same of the position at a place.
+#[tactic(auto, using(crate::proofs::SameLaws::on_passive))]
+fn variants_on(alloc: Global, book: &Book, day: Day, place: u32) -> Result<Vec<u32>, Memory>
+    ensures variants { IfOk result (λ vs. vs.items ≡ variants_on book.now day place) }
+    ensures in_range { IfOk result (λ vs. All (λ v. v < length book.now.variants) vs.items) }
+{
+    if !is_active_at(book, day, place) {
+        return Ok(Vec::new(alloc));
+    }
+    active_on(alloc, book, day, place)
+}
+
+// Whether there is a position at the place, and it is active.
+fn is_active_at(book: &Book, day: Day, place: u32) -> bool
+    ensures value { let found = slice_get book.now.positions place in
+        result ≡ option_map_or (is_active_position day) found false }
+    ensures within { result ≡ true → place < length book.now.positions }
+{
+    match book.positions().get(place as usize) {
+        Some(position) => active(position.from, position.until, day),
+        None => false,
+    }
+}
+
+#[tactic(auto, using(crate::proofs::SameLaws::on_active, crate::proofs::SameLaws::active_within))]
+fn active_on(alloc: Global, book: &Book, day: Day, place: u32) -> Result<Vec<u32>, Memory>
+    requires within { place < length book.now.positions }
+    requires active { let found = slice_get book.now.positions place in
+        option_map_or (is_active_position day) found false ≡ true }
+    ensures variants { IfOk result (λ vs. vs.items ≡ variants_on book.now day place) }
+    ensures in_range { IfOk result (λ vs. All (λ v. v < length book.now.variants) vs.items) }
+{
+    let mut variants = Vec::new(alloc);
+    push_active(&mut variants, book, day, place)?;
+    Ok(variants)
+}
+
+// Whether these variants of the first book are those of the second, one by one.
 fn same_usages(
     alloc: Global,
     numbers: &[u32],
     first: &Book,
-    own: &[Usage],
+    own: &[u32],
     second: &Book,
-    other: &[Usage],
+    other: &[u32],
 ) -> Result<bool, Memory>
-    requires first { All (λ u. u.variant < length first.now.variants) own.now }
-    requires second { All (λ u. u.variant < length second.now.variants) other.now }
+    requires first { All (λ v. v < length first.now.variants) own.now }
+    requires second { All (λ v. v < length second.now.variants) other.now }
     ensures { IfOk result (λ same. same ≡ true
         → AreSameUsages numbers.now first.now own.now second.now other.now) }
 {
@@ -63,21 +119,16 @@ fn same_usage(
     alloc: Global,
     numbers: &[u32],
     first: &Book,
-    own: Usage,
+    own: u32,
     second: &Book,
-    other: Usage,
+    other: u32,
 ) -> Result<bool, Memory>
-    requires first { own.variant < length first.now.variants }
-    requires second { other.variant < length second.now.variants }
+    requires first { own < length first.now.variants }
+    requires second { other < length second.now.variants }
     ensures { IfOk result (λ same. same ≡ true → IsSameUsage numbers.now first.now second.now own other) }
 {
-    let variant = &first.variants()[own.variant as usize];
-    same_variant(
-        alloc,
-        numbers,
-        variant,
-        &second.variants()[other.variant as usize],
-    )
+    let variant = &first.variants()[own as usize];
+    same_variant(alloc, numbers, variant, &second.variants()[other as usize])
 }
 
 // Whether two variants use the same part, and as many of it, where the same formula is true.

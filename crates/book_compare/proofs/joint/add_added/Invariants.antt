@@ -1,4 +1,4 @@
-use Rattle.std.proofs.Common.{◌≡◌, ◌+◌, ◌≤◌, drop, length, map}
+use Rattle.std.proofs.Common.{◌+◌, ◌≤◌, drop, length, map}
 use Rattle.clausify.proofs.Remaining.{ItemsLeft}
 use Rattle.book_compare.specs.JointItems.{absent_item}
 use Rattle.book_compare.specs.Numbering.{added_from}

@@ -1,4 +1,3 @@
-use Rattle.std.proofs.Common.{sym}
 use Rattle.book_compare.proofs.JointRuns.{absent_made, first_truth, first_room, first_made, second_room, second_made, all_made, numbers_counted}
 use Rattle.book_compare.proofs.joint.encode.Goals as goal
 

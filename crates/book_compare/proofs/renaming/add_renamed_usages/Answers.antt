@@ -1,4 +1,3 @@
-use Rattle.std.proofs.Common.{◌<◌, All, List, ℕ, length, sym, subst}
 use Rattle.book_compare.proofs.StepRuns.{day_variants_in_range}
 use Rattle.book_compare.proofs.renaming.add_renamed_usages.Goals as goal
 

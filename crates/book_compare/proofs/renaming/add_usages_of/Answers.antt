@@ -1,4 +1,4 @@
-use Rattle.std.proofs.Common.{◌≡◌, ◌<◌, ℕ, length, get_or, ap, ◌∙◌, arith}
+use Rattle.std.proofs.Common.{◌<◌, ℕ, length, get_or, ap, ◌∙◌, arith}
 use Rattle.pb_base.specs.Leaves.{with_places}
 use Rattle.book_compare.proofs.StepRuns.{read_zero, usage_made, usage_pushed}
 use Rattle.book_compare.proofs.renaming.add_usages_of.Goals as goal

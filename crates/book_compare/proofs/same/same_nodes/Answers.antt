@@ -1,4 +1,4 @@
-use Rattle.std.proofs.Common.{sym, ap, ◌∙◌, arith}
+use Rattle.std.proofs.Common.{sym, ◌∙◌, arith}
 use Rattle.std.proofs.lemmas.List.{take_all}
 use Rattle.book_compare.proofs.SameLaws.{same_taken}
 use Rattle.book_compare.proofs.same.same_nodes.Goals as goal

@@ -1,4 +1,4 @@
-use Rattle.std.proofs.Common.{◌≡◌, ◌+◌, ◌++◌, drop, length}
+use Rattle.std.proofs.Common.{◌≡◌, ◌+◌, ◌++◌, drop}
 use Rattle.book_compare.specs.Keys.{any_clauses, any_literal}
 use Rattle.book_compare.proofs.position.Asking.any.Given as goal
 

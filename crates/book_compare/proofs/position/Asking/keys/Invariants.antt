@@ -1,6 +1,5 @@
-use Rattle.std.proofs.Common.{◌≡◌, ◌+◌, ◌++◌, drop, length, map}
+use Rattle.std.proofs.Common.{drop, length, map}
 use Rattle.book_compare.specs.Asked.{key_literals}
-use Rattle.book_compare.specs.Keys.{keys_clauses, keys_variables, ways}
 use Rattle.book_compare.proofs.KeyRuns.{KeysLeft}
 use Rattle.book_compare.proofs.position.Asking.keys.Given as goal
 

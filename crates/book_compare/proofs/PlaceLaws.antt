@@ -1,0 +1,125 @@
+-- The positions that have to be searched, one behind the other.
+use Rattle.std.proofs.Common.{◌≡◌, ℕ, ◌+◌, ◌-◌, ◌<◌, ◌≤◌, List, [], ◌∷◌, ◌++◌, Option, Some, None, true, false, cond, length, get_or, map, take, drop, take-add, refl, sym, ap, subst, ◌∙◌, arith, append_assoc, append-nil}
+use Rattle.std.specs.List.{filter}
+use Rattle.std.specs.Option.{is_none, option_to_list}
+use Rattle.std.proofs.lemmas.List.{take_more}
+use Rattle.std.proofs.lemmas.List.Elements.{filter-append}
+use Rattle.pb_base.specs.InParts.{InParts}
+use Rattle.pb_base.proofs.PartLaws.{parts_more}
+use Rattle.book_model.specs.Contents.{Contents}
+use Rattle.book_model.specs.declared.record.Position.{Position}
+use Rattle.chosen_parts.specs.Chosen.{position_place, position_ids, added_ids, ids_of_either}
+use Rattle.book_compare.specs.Comparison.{IsNoted, IsNotedAt, AreNoted, IsComparison}
+use Rattle.book_compare.specs.Searched.{IsPut, ArePut, AddsPlaces}
+use Rattle.book_compare.specs.declared.note.CompareNote.{CompareNote}
+use Rattle.book_compare.specs.declared.place.Place.{Place}
+use Rattle.book_compare.proofs.MapLaws.{map-append}
+
+in_parts_append : {X N : Type 0} (IsPart : X → List N → Type 0) (xs ys : List X) (ms ns : List N) → InParts IsPart xs ms → InParts IsPart ys ns → InParts IsPart (xs ++ ys) (ms ++ ns)
+in_parts_append IsPart [] ys ms ns one other = subst (InParts IsPart ys) (sym (ap (λ ks. ks ++ ns) one)) other
+in_parts_append IsPart (x ∷ xs) ys ms ns one other =
+    (one.0, one.1 ++ ns, ap (λ ks. ks ++ ns) one.2 ∙ append_assoc one.0 one.1 ns, one.3, in_parts_append IsPart xs ys one.1 ns one.4 other)
+
+module _ (first second : Contents) (day : ℕ) where
+  pub adds_none : (old : List Place) → AddsPlaces first second day [] old old
+  adds_none old = record { places = []; behind = sym (append-nil old); each = refl }
+
+  pub adds_more : (ids : List (List ℕ)) (id : List ℕ) (old mid new own : List Place) → AddsPlaces first second day ids old mid → IsPut first second day id own → new ≡ mid ++ own
+      → AddsPlaces first second day (ids ++ id ∷ []) old new
+  adds_more ids id old mid new own so_far is_put put = record {
+    places = so_far.places ++ own;
+    behind = put ∙ ap (λ (qs : List Place). qs ++ own) so_far.behind ∙ append_assoc old so_far.places own;
+    each = parts_more (IsPut first second day) ids id so_far.places own so_far.each is_put;
+  }
+
+  ids_more : (ps : List Position) (i : ℕ) (p : Position) → i < length ps → p ≡ get_or ps i p → map (λ (q : Position). q.id) (take (i + 1) ps) ≡ map (λ (q : Position). q.id) (take i ps) ++ p.id ∷ []
+  ids_more ps i p within read =
+      ap (map (λ (q : Position). q.id)) (take_more ps i p within) ∙ map-append (λ (q : Position). q.id) (take i ps) (get_or ps i p ∷ [])
+      ∙ ap (λ (q : Position). map (λ (r : Position). r.id) (take i ps) ++ q.id ∷ []) (sym read)
+
+  pub first_more : (ps : List Position) (i : ℕ) (p : Position) (old mid new own : List Place) → i < length ps → p ≡ get_or ps i p
+      → AddsPlaces first second day (map (λ q. q.id) (take i ps)) old mid → IsPut first second day p.id own → new ≡ mid ++ own
+      → AddsPlaces first second day (map (λ q. q.id) (take (i + 1) ps)) old new
+  first_more ps i p old mid new own within read so_far is_put put =
+      subst (λ (ids : List (List ℕ)). AddsPlaces first second day ids old new) (sym (ids_more ps i p within read))
+      (adds_more (map (λ (q : Position). q.id) (take i ps)) p.id old mid new own so_far is_put put)
+
+  added_split : (ps : List Position) (i : ℕ) (p : Position) → i < length ps → p ≡ get_or ps i p
+      → filter (λ id. is_none (position_place first id)) (map (λ q. q.id) (take (i + 1) ps))
+      ≡ filter (λ id. is_none (position_place first id)) (map (λ q. q.id) (take i ps)) ++ cond (is_none (position_place first p.id)) (p.id ∷ []) []
+  added_split ps i p within read =
+      ap (filter (λ id. is_none (position_place first id))) (ids_more ps i p within read)
+      ∙ filter-append (λ id. is_none (position_place first id)) (map (λ (q : Position). q.id) (take i ps)) (p.id ∷ [])
+
+  pub added_more : (ps : List Position) (i : ℕ) (p : Position) (old mid new own : List Place) → i < length ps → p ≡ get_or ps i p → is_none (position_place first p.id) ≡ true
+      → AddsPlaces first second day (filter (λ id. is_none (position_place first id)) (map (λ q. q.id) (take i ps))) old mid → IsPut first second day p.id own → new ≡ mid ++ own
+      → AddsPlaces first second day (filter (λ id. is_none (position_place first id)) (map (λ q. q.id) (take (i + 1) ps))) old new
+  added_more ps i p old mid new own within read only so_far is_put put =
+      subst (λ (ids : List (List ℕ)). AddsPlaces first second day ids old new)
+      (sym (added_split ps i p within read ∙ ap (λ t. filter (λ id. is_none (position_place first id)) (map (λ (q : Position). q.id) (take i ps)) ++ cond t (p.id ∷ []) []) only))
+      (adds_more (filter (λ id. is_none (position_place first id)) (map (λ (q : Position). q.id) (take i ps))) p.id old mid new own so_far is_put put)
+
+  pub added_same : (ps : List Position) (i : ℕ) (p : Position) (old new : List Place) → i < length ps → p ≡ get_or ps i p → is_none (position_place first p.id) ≡ false
+      → AddsPlaces first second day (filter (λ id. is_none (position_place first id)) (map (λ q. q.id) (take i ps))) old new
+      → AddsPlaces first second day (filter (λ id. is_none (position_place first id)) (map (λ q. q.id) (take (i + 1) ps))) old new
+  added_same ps i p old new within read shared so_far =
+      subst (λ (ids : List (List ℕ)). AddsPlaces first second day ids old new)
+      (sym (added_split ps i p within read ∙ ap (λ t. filter (λ id. is_none (position_place first id)) (map (λ (q : Position). q.id) (take i ps)) ++ cond t (p.id ∷ []) []) shared
+      ∙ append-nil (filter (λ id. is_none (position_place first id)) (map (λ (q : Position). q.id) (take i ps)))))
+      so_far
+
+  pub added_step : (ps : List Position) (i : ℕ) (p : Position) (old mid new : List Place) (place : Option Place) → i < length ps → p ≡ get_or ps i p
+      → AddsPlaces first second day (filter (λ id. is_none (position_place first id)) (map (λ q. q.id) (take i ps))) old mid
+      → (position_place first p.id ≡ None → IsPut first second day p.id (option_to_list place)) → ((at : ℕ) → position_place first p.id ≡ Some at → place ≡ None)
+      → new ≡ mid ++ option_to_list place → AddsPlaces first second day (filter (λ id. is_none (position_place first id)) (map (λ q. q.id) (take (i + 1) ps))) old new
+  added_step ps i p old mid new place within read so_far added shared put = by (position_place first p.id) refl
+    where
+      by : (o : Option ℕ) → position_place first p.id ≡ o → AddsPlaces first second day (filter (λ id. is_none (position_place first id)) (map (λ q. q.id) (take (i + 1) ps))) old new
+      by None is = added_more ps i p old mid new (option_to_list place) within read (ap is_none is) so_far (added is) put
+      by (Some at) is =
+          let same : new ≡ mid = put ∙ ap (λ (o : Option Place). mid ++ option_to_list o) (shared at is) ∙ append-nil mid in
+          subst (λ (qs : List Place). AddsPlaces first second day (filter (λ id. is_none (position_place first id)) (map (λ q. q.id) (take (i + 1) ps))) old qs) (sym same)
+          (added_same ps i p old mid within read (ap is_none is) so_far)
+
+  pub whole : (start mid all : List Place) → start ≡ [] → AddsPlaces first second day (position_ids first) start mid → AddsPlaces first second day (added_ids first second) mid all → ArePut first second day all
+  whole start mid all none one other =
+      subst (ArePut first second day)
+      (sym (other.behind ∙ ap (λ (qs : List Place). qs ++ other.places) (one.behind ∙ ap (λ (qs : List Place). qs ++ one.places) none)))
+      (in_parts_append (IsPut first second day) (position_ids first) (added_ids first second) one.places other.places one.each other.each)
+
+  -- the notes on what was searched are those on all positions
+  module _ (budget : ℕ) where
+    noted_step : (id : List ℕ) (ids : List (List ℕ)) (own rest : List Place) (notes : List CompareNote)
+        → ((ns : List CompareNote) → AreNoted first second day budget rest ns → InParts (IsNoted first second day budget) ids ns)
+        → IsPut first second day id own → AreNoted first second day budget (own ++ rest) notes → InParts (IsNoted first second day budget) (id ∷ ids) notes
+    noted_step id ids [] rest notes later put noted = ([], notes, refl, put, later notes noted)
+    noted_step id ids (p ∷ []) rest notes later put noted =
+        (noted.0, noted.1, noted.2, subst (λ (name : List ℕ). IsNoted first second day budget name noted.0) put noted.3, later noted.1 noted.4)
+    noted_step id ids (p ∷ q ∷ own) rest notes later put noted = absurd put
+
+    noted_all : (ids : List (List ℕ)) (ps : List Place) (notes : List CompareNote) → InParts (IsPut first second day) ids ps → AreNoted first second day budget ps notes
+        → InParts (IsNoted first second day budget) ids notes
+    noted_all [] ps notes put noted = subst (λ (qs : List Place). AreNoted first second day budget qs notes) put noted
+    noted_all (id ∷ ids) ps notes put noted =
+        noted_step id ids put.0 put.1 notes (λ ns h. noted_all ids put.1 ns put.4 h) put.3
+        (subst (λ (qs : List Place). AreNoted first second day budget qs notes) put.2 noted)
+
+    pub compared : (ps : List Place) (notes : List CompareNote) → ArePut first second day ps → AreNoted first second day budget ps notes → IsComparison first second day budget notes
+    compared ps notes put noted = noted_all (ids_of_either first second) ps notes put noted
+
+    -- the note on one more
+    pub noted_more : (ps : List Place) (at : ℕ) (p : Place) (old new own : List CompareNote) → at < length ps → p ≡ get_or ps at p → AreNoted first second day budget (take at ps) old
+        → IsNoted first second day budget p.id own → new ≡ old ++ own → AreNoted first second day budget (take (at + 1) ps) new
+    noted_more ps at p old new own within read so_far noted put =
+        subst (λ (ns : List CompareNote). AreNoted first second day budget (take (at + 1) ps) ns) (sym put)
+        (subst (λ (qs : List Place). AreNoted first second day budget qs (old ++ own)) (sym (take_more ps at p within ∙ ap (λ (q : Place). take at ps ++ q ∷ []) (sym read)))
+        (parts_more (IsNotedAt first second day budget) (take at ps) p old own so_far noted))
+
+    -- and those on further positions
+    pub noted_further : (ps : List Place) (at end : ℕ) (old own new : List CompareNote) → at ≤ end → AreNoted first second day budget (take at ps) old
+        → AreNoted first second day budget (take (end - at) (drop at ps)) own → new ≡ old ++ own → AreNoted first second day budget (take end ps) new
+    noted_further ps at end old own new order so_far further put =
+        let whole : at + (end - at) ≡ end = omega arith in
+        subst (λ (ns : List CompareNote). AreNoted first second day budget (take end ps) ns) (sym put)
+        (subst (λ (qs : List Place). AreNoted first second day budget qs (old ++ own)) (sym (take-add at (end - at) ps) ∙ ap (λ (n : ℕ). take n ps) whole)
+        (in_parts_append (IsNotedAt first second day budget) (take at ps) (take (end - at) (drop at ps)) old own so_far further))

@@ -1,0 +1,10 @@
+use Rattle.std.proofs.Common.{map, take}
+use Rattle.std.specs.List.{filter}
+use Rattle.std.specs.Option.{is_none}
+use Rattle.chosen_parts.specs.Chosen.{position_place}
+use Rattle.book_compare.specs.Searched.{AddsPlaces}
+use Rattle.book_compare.proofs.positions.put_added.Given as goal
+
+abbrev pub invariant-loop-place : goal.invariant-loop-place
+invariant-loop-place l =
+    AddsPlaces l.first l.second l.day (filter (λ id. is_none (position_place l.first id)) (map (λ p. p.id) (take l.place l.second.positions))) l.initial.places.items l.places.items
