@@ -1,3 +1,3 @@
-pub mod AcceptedLaws
+pub mod OrderedLaws
 pub mod GatheredLaws
 pub mod AloneLaws

@@ -1,17 +1,23 @@
 //! One order, judged by its own book and by another.
-ghost use Rattle.std.specs.Prelude.{◌≡◌, IfOk, length, true};
+ghost use Rattle.std.specs.Prelude.{◌≡◌, None, IfOk, length, true};
+ghost use Rattle.pb_base.specs.NamedSet.{named};
+ghost use Rattle.parts_usage.specs.Fault.{order_fault};
 ghost use Rattle.release.specs.Accepting.{accepts};
 ghost use Rattle.release.specs.Orders.{supplemented};
 ghost use Rattle.chosen_parts.specs.Chosen.{AreFew};
 ghost use Rattle.order_again.specs.Again.{IsAgain, IsSameAgain};
+ghost use Rattle.order_again.specs.Ordered.{ordered_of};
 
+use crate::completed::{completed_set, ordered_set};
 use crate::outcome::Again;
 use chosen_parts::same_parts;
+use parts_usage::first_broken;
 use pb_base::{CodeName, CodeSet, Day, Fail, Memory};
 use release::{Judged, Released, judge};
 use std::alloc::Global;
 
-/// What an order of these codes for this day, accepted by its own book, comes to by the other.
+/// What an order of these codes for this day, accepted by its own book, comes to by the other. No parts list is made, and variants
+/// are looked at only where both books accept the order, since the parts of an order that breaks no rule always fit.
 pub(crate) fn judge_again(
     alloc: Global,
     own: &Released,
@@ -23,9 +29,52 @@ pub(crate) fn judge_again(
     ensures { IfOk result (IsAgain own.now.book to.now.book day codes.now) }
 {
     let book = to.book();
+    let found = ordered_set(alloc, book, day, codes)?;
+    match found {
+        Some(ordered) => judge_ordered(alloc, own, to, day, codes, ordered),
+        None => fault_again(alloc, own, to, day, codes),
+    }
+}
+
+// The same of an order in which the other book finds no fault.
+fn judge_ordered(
+    alloc: Global,
+    own: &Released,
+    to: &Released,
+    day: Day,
+    codes: &[CodeName],
+    ordered: CodeSet,
+) -> Result<Again, Memory>
+    requires accepted { accepts own.now.book day codes.now ≡ true }
+    requires faultless { order_fault to.now.book day codes.now ≡ None }
+    requires ordered { ordered ≡ named to.now.book.codes codes.now }
+    ensures { IfOk result (IsAgain own.now.book to.now.book day codes.now) }
+{
+    let book = to.book();
     let _codes = book.codes();
+    let set = completed_set(alloc, book, day, ordered)?;
+    match first_broken(book, day, &set) {
+        Some(rule) => Ok(Again::Refused(rule)),
+        None => {
+            let again = same_again(alloc, own, to, day, codes, &set)?;
+            Ok(again)
+        }
+    }
+}
+
+// The same of an order in which the other book finds a fault.
+fn fault_again(
+    alloc: Global,
+    own: &Released,
+    to: &Released,
+    day: Day,
+    codes: &[CodeName],
+) -> Result<Again, Memory>
+    requires { ordered_of to.now.book day codes.now ≡ None }
+    ensures { IfOk result (IsAgain own.now.book to.now.book day codes.now) }
+{
     match judge(alloc, to, day, codes) {
-        Ok(Judged::Accepted { set, list: _list }) => same_again(alloc, own, to, day, codes, &set),
+        Ok(Judged::Accepted { .. }) => unreachable!(),
         Ok(Judged::Refused(rule)) => Ok(Again::Refused(rule)),
         Err(Fail::Refused(fault)) => Ok(Again::Fault(fault)),
         Err(Fail::Memory) => Err(Memory),
@@ -64,10 +113,12 @@ fn own_set(alloc: Global, own: &Released, day: Day, codes: &[CodeName]) -> Resul
 {
     let book = own.book();
     let _codes = book.codes();
-    match judge(alloc, own, day, codes) {
-        Ok(Judged::Accepted { set, list: _list }) => Ok(set),
-        Ok(Judged::Refused(_)) => unreachable!(),
-        Err(Fail::Refused(_)) => unreachable!(),
-        Err(Fail::Memory) => Err(Memory),
+    let found = ordered_set(alloc, book, day, codes)?;
+    match found {
+        Some(ordered) => {
+            let set = completed_set(alloc, book, day, ordered)?;
+            Ok(set)
+        }
+        None => unreachable!(),
     }
 }

@@ -1,6 +1,7 @@
 //! Orders that were accepted, judged again by another book.
 #![tactic(auto)]
 
+mod completed;
 mod judging;
 mod kept;
 mod laws;

@@ -1,18 +1,20 @@
-use Rattle.std.proofs.Common.{◌≡◌, Ok, ap, subst, ◌∙◌}
-use Rattle.book_model.specs.Book.{IsBook}
-use Rattle.release.specs.Judged.{as_outcome}
-use Rattle.release.specs.declared.judging.Judged.{Judged}
-use Rattle.order_again.proofs.AcceptedLaws.{accepted_set}
+use Rattle.std.proofs.Common.{◌≡◌, Some, ap, sym, ◌∙◌}
+use Rattle.book_model.specs.Contents.{Contents}
+use Rattle.order_again.specs.Ordered.{ordered_of}
+use Rattle.order_again.proofs.OrderedLaws.{ordered_is}
 use Rattle.order_again.proofs.judging.judge_again.Goals as goal
 
-pub same_again-requires-clause-codes : goal.same_again-requires-clause-codes
-same_again-requires-clause-codes c =
-    let book : IsBook c.args.to.now.book = subst IsBook c.book-book.ensures.value c.codes-codes.ensures.book in
-    (accepted_set c.args.to.now.book c.args.day c.args.codes.now c.in-Ok-Accepted.set _ book
-    (c.in-Ok-Accepted.ensures.outcome ∙ ap (λ (j : Judged). Ok (as_outcome j)) c.in-Ok-Accepted.field-0-is)).counted
+pub judge_ordered-requires-clause-faultless : goal.judge_ordered-requires-clause-faultless
+judge_ordered-requires-clause-faultless c =
+    let found : ordered_of c.args.to.now.book c.args.day c.args.codes.now ≡ Some c.in-Some.ordered =
+    ap (λ (b : Contents). ordered_of b c.args.day c.args.codes.now) (sym c.book-book.ensures.value) ∙ sym c.in_ok-found.ensures ∙ c.in-Some.is in
+    (ordered_is c.args.to.now.book c.args.day c.args.codes.now c.in-Some.ordered found).faultless
 
-pub same_again-requires-clause-few : goal.same_again-requires-clause-few
-same_again-requires-clause-few c =
-    let book : IsBook c.args.to.now.book = subst IsBook c.book-book.ensures.value c.codes-codes.ensures.book in
-    (accepted_set c.args.to.now.book c.args.day c.args.codes.now c.in-Ok-Accepted.set _ book
-    (c.in-Ok-Accepted.ensures.outcome ∙ ap (λ (j : Judged). Ok (as_outcome j)) c.in-Ok-Accepted.field-0-is)).few
+pub judge_ordered-requires-clause-ordered : goal.judge_ordered-requires-clause-ordered
+judge_ordered-requires-clause-ordered c =
+    let found : ordered_of c.args.to.now.book c.args.day c.args.codes.now ≡ Some c.in-Some.ordered =
+    ap (λ (b : Contents). ordered_of b c.args.day c.args.codes.now) (sym c.book-book.ensures.value) ∙ sym c.in_ok-found.ensures ∙ c.in-Some.is in
+    (ordered_is c.args.to.now.book c.args.day c.args.codes.now c.in-Some.ordered found).is
+
+pub fault_again-requires : goal.fault_again-requires
+fault_again-requires c = ap (λ (b : Contents). ordered_of b c.args.day c.args.codes.now) (sym c.book-book.ensures.value) ∙ sym c.in_ok-found.ensures ∙ c.in-None.is

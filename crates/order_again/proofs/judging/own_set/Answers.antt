@@ -1,35 +1,29 @@
-use Rattle.std.proofs.Common.{◌≡◌, Ok, Err, ap, subst, ◌∙◌}
+use Rattle.std.proofs.Common.{◌≡◌, Some, length, ap, sym, subst, ◌∙◌}
 use Rattle.book_model.specs.Book.{IsBook}
-use Rattle.parts_usage.specs.Outcome.{outcome_of}
-use Rattle.release.specs.Judged.{as_outcome}
-use Rattle.release.specs.declared.judging.Judged.{Judged}
-use Rattle.order_again.proofs.AcceptedLaws.{accepted_set, accepts_not_refused, accepts_no_fault}
+use Rattle.book_model.specs.Contents.{Contents}
+use Rattle.chosen_parts.specs.Chosen.{AreFew}
+use Rattle.order_again.specs.Ordered.{ordered_of}
+use Rattle.order_again.proofs.OrderedLaws.{IsOrdered, ordered_is, length-named, set_is, accepts_ordered, few_accepted}
 use Rattle.order_again.proofs.judging.own_set.Goals as goal
+
+pub completed_set-requires : goal.completed_set-requires
+completed_set-requires c =
+    let b : Contents = c.args.own.now.book in
+    let found : ordered_of b c.args.day c.args.codes.now ≡ Some c.in-Some.ordered =
+    ap (λ (d : Contents). ordered_of d c.args.day c.args.codes.now) (sym c.book-book.ensures.value) ∙ sym c.in_ok-found.ensures ∙ c.in-Some.is in
+    length-named b c.args.codes.now c.in-Some.ordered (ordered_is b c.args.day c.args.codes.now c.in-Some.ordered found).is ∙ ap (λ (d : Contents). length d.codes) (sym c.book-book.ensures.value)
 
 pub unreachable-requires : goal.unreachable-requires
 unreachable-requires c =
-    accepts_not_refused c.args.own.now.book c.args.day c.args.codes.now c.in-Ok-Refused.field-0-0 c.requires
-    (c.in-Ok-Refused.ensures.outcome ∙ ap (λ (j : Judged). Ok (as_outcome j)) c.in-Ok-Refused.field-0-is)
+    accepts_ordered c.args.own.now.book c.args.day c.args.codes.now c.requires
+    (ap (λ (d : Contents). ordered_of d c.args.day c.args.codes.now) (sym c.book-book.ensures.value) ∙ sym c.in_ok-found.ensures ∙ c.in-None.is)
 
-pub unreachable-requires-in-Err-Refused : goal.unreachable-requires-in-Err-Refused
-unreachable-requires-in-Err-Refused c =
-    let found : outcome_of c.args.own.now.book c.args.day c.args.codes.now ≡ Err c.in-Err-Refused.field-0-0 = rw c.in-Err-Refused.field-0-is at c.in-Err-Refused.ensures.outcome in
-    accepts_no_fault c.args.own.now.book c.args.day c.args.codes.now c.in-Err-Refused.field-0-0 c.requires found
-
-pub returns-in-Ok-Accepted-clause-codes : goal.returns-in-Ok-Accepted-clause-codes
-returns-in-Ok-Accepted-clause-codes c =
-    let book : IsBook c.args.own.now.book = subst IsBook c.book-book.ensures.value c.codes-codes.ensures.book in
-    (accepted_set c.args.own.now.book c.args.day c.args.codes.now c.in-Ok-Accepted.set _ book
-    (c.in-Ok-Accepted.ensures.outcome ∙ ap (λ (j : Judged). Ok (as_outcome j)) c.in-Ok-Accepted.field-0-is)).counted
-
-pub returns-in-Ok-Accepted-clause-few : goal.returns-in-Ok-Accepted-clause-few
-returns-in-Ok-Accepted-clause-few c =
-    let book : IsBook c.args.own.now.book = subst IsBook c.book-book.ensures.value c.codes-codes.ensures.book in
-    (accepted_set c.args.own.now.book c.args.day c.args.codes.now c.in-Ok-Accepted.set _ book
-    (c.in-Ok-Accepted.ensures.outcome ∙ ap (λ (j : Judged). Ok (as_outcome j)) c.in-Ok-Accepted.field-0-is)).few
-
-pub returns-in-Ok-Accepted-clause-set : goal.returns-in-Ok-Accepted-clause-set
-returns-in-Ok-Accepted-clause-set c =
-    let book : IsBook c.args.own.now.book = subst IsBook c.book-book.ensures.value c.codes-codes.ensures.book in
-    (accepted_set c.args.own.now.book c.args.day c.args.codes.now c.in-Ok-Accepted.set _ book
-    (c.in-Ok-Accepted.ensures.outcome ∙ ap (λ (j : Judged). Ok (as_outcome j)) c.in-Ok-Accepted.field-0-is)).set
+pub returns-clause-few : goal.returns-clause-few
+returns-clause-few c =
+    let b : Contents = c.args.own.now.book in
+    let found : ordered_of b c.args.day c.args.codes.now ≡ Some c.in-Some.ordered =
+    ap (λ (d : Contents). ordered_of d c.args.day c.args.codes.now) (sym c.book-book.ensures.value) ∙ sym c.in_ok-found.ensures ∙ c.in-Some.is in
+    let ordered : IsOrdered b c.args.day c.args.codes.now c.in-Some.ordered = ordered_is b c.args.day c.args.codes.now c.in-Some.ordered found in
+    let set = set_is b c.book-book.result.now c.args.day c.args.codes.now c.in-Some.ordered c.in_ok-set-in-Some.set c.book-book.ensures.value ordered.is c.in_ok-set-in-Some.ensures.set in
+    subst (AreFew b c.args.day) (sym set)
+    (few_accepted b c.args.day c.args.codes.now c.requires ordered.faultless (subst IsBook c.book-book.ensures.value c.codes-codes.ensures.book) c.book-book.ensures.release.releasable)
