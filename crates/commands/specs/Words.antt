@@ -18,6 +18,7 @@ use Rattle.command_words.specs.declared.command.Command.{Command}
 use Rattle.command_words.specs.declared.command.Command.TheVariants as commands
 use Rattle.pb_base.specs.declared.limits.TheConstants.{MOST_BUDGET}
 use Rattle.book_commands.specs.declared.command.BookCommand.TheVariants.{Order, Check, Prove, Verify, Supplements, Compare}
+use Rattle.commands.specs.Service.{Service}
 use Rattle.commands.specs.declared.task.Task.{Task}
 use Rattle.commands.specs.declared.task.Task.TheVariants.{Book, Desk, Serve, Rejudge, Sample}
 
@@ -51,6 +52,12 @@ pub record NamesStore (words : Words) (store : List ℕ) : Type 0 where
   pub task : Task
   pub asked : Asks words task
   pub names : store_of task ≡ Some store
+
+-- the words ask for a service at this port of the machine
+pub record NamesPort (words : Words) (port : ℕ) : Type 0 where
+  pub service : Service
+  pub asked : Asks words (Serve service)
+  pub names : service.port ≡ port
 
 -- the words are of no form
 abbrev pub AsksNothing : Words → Type 0

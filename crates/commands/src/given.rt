@@ -7,7 +7,7 @@ ghost use Rattle.book_commands.specs.Tells.{outputs, Tells};
 ghost use Rattle.commands.specs.Outside.{keeps, opens, outside};
 ghost use Rattle.commands.specs.Does.{AnswersUsage, AnswersMemory};
 ghost use Rattle.commands.specs.Run.{IsRun};
-ghost use Rattle.commands.specs.Words.{NamesStore};
+ghost use Rattle.commands.specs.Words.{NamesPort, NamesStore};
 
 use crate::run_end::RunEnd;
 use crate::top_call::run;
@@ -46,6 +46,8 @@ pub fn run_given<
 ) -> RunEnd<P>
     requires named { IfOk given (λ words. (store : List ℕ) → NamesStore (texts_of words.items) store
         → P.may_begin keeper store) }
+    requires at_port { IfOk given (λ words. (port : ℕ) → NamesPort (texts_of words.items) port
+        → D.may_listen door.old port) }
     ensures text { let kept = keeps (P.told keeper) (P.failures keeper) in
         let kept' = keeps (P.told result.keeper) (P.failures result.keeper) in
         let door' = opens (D.told door.new) (D.faultless door.new) in

@@ -39,6 +39,7 @@ pub fn run_service<R: Threads + Wait + Sync, K: Sink, P: Keeper + Send, D: Door,
     log: &mut RunLog,
 ) -> RunEnd<P>
     requires named { P.may_begin keeper service.now.store }
+    requires at_port { D.may_listen door.old service.now.port }
     ensures { (source : SourceTold) → (files : FilesTold) →
         let kept = keeps (P.told keeper) (P.failures keeper) in
         let kept' = keeps (P.told result.keeper) (P.failures result.keeper) in
@@ -68,6 +69,7 @@ fn serve_door<R: Threads + Wait + Sync, K: Sink, P: Keeper + Send, D: Door, G: G
     gate: &G,
     log: &mut RunLog,
 ) -> RunEnd<P>
+    requires { D.may_listen door.old service.now.port }
     ensures { (source : SourceTold) → (files : FilesTold) → (kept : KeeperTold) →
         let kept' = keeps (P.told result.keeper) (P.failures result.keeper) in
         let door' = opens (D.told door.new) (D.faultless door.new) in

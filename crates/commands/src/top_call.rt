@@ -3,7 +3,7 @@ ghost use Rattle.std.specs.Prelude.{ℕ, List};
 ghost use Rattle.command_words.specs.Prepared.{texts_of};
 ghost use Rattle.commands.specs.Outside.{keeps, opens, outside};
 ghost use Rattle.commands.specs.Run.{IsRun};
-ghost use Rattle.commands.specs.Words.{NamesStore};
+ghost use Rattle.commands.specs.Words.{NamesPort, NamesStore};
 
 use crate::beginning::begin;
 use crate::begun::Begun;
@@ -19,7 +19,8 @@ use std::sync::Wait;
 use std::thread::Threads;
 
 /// Does what the words ask, and gives the status with which the program ends, and the keeper. `words` are those after the
-/// program's name; the log starts empty. The keeper may begin by the store's name in the words, and need not by another. Only a
+/// program's name; the log starts empty. The keeper may begin by the store's name in the words, and need not by another; the door may
+/// listen at their port, and need not at another. Only a
 /// service waits for others, so that of it all is said if it returns; what else the words may ask is done by `begin`, which
 /// returns.
 pub fn run<
@@ -43,6 +44,7 @@ pub fn run<
     log: &mut RunLog,
 ) -> RunEnd<P>
     requires named { (store : List ℕ) → NamesStore (texts_of words.now) store → P.may_begin keeper store }
+    requires at_port { (port : ℕ) → NamesPort (texts_of words.now) port → D.may_listen door.old port }
     ensures { let kept = keeps (P.told keeper) (P.failures keeper) in
         let kept' = keeps (P.told result.keeper) (P.failures result.keeper) in
         let door' = opens (D.told door.new) (D.faultless door.new) in

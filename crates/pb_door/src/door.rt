@@ -1,5 +1,5 @@
 //! Where ports come from.
-ghost use Rattle.std.specs.Prelude.{◌≡◌, ◌≤◌, Bool, true, All, IfOk, OnOk, OnErr, map};
+ghost use Rattle.std.specs.Prelude.{◌≡◌, ◌≤◌, ℕ, Bool, true, All, IfOk, OnOk, OnErr, map};
 ghost use Rattle.pb_outside.specs.Faults.{Fails, IsLater};
 ghost use Rattle.pb_door.specs.DoorTold.{AreLent, DoorTold, counts, faults_of, lends, takes_back};
 ghost use Rattle.pb_door.specs.PortTold.{new_ports};
@@ -18,6 +18,10 @@ pub trait Door {
     /// Whether no call on the door or on a port that it gives fails from here on.
     ghost faultless: { Self → Bool };
 
+    /// At which ports of the machine it may listen. A door listens at any; who runs one of a kind that isn't known has only the
+    /// ports of which this was said.
+    ghost may_listen: { Self → ℕ → Type 0 };
+
     /// Listens at a port of the machine, for so many links in all, which are divided among the workers.
     fn listen(
         &mut self,
@@ -26,7 +30,8 @@ pub trait Door {
         workers: u32,
         links: u32,
     ) -> Result<Vec<Self::Port>, OutError>
-        requires { 1 ≤ workers }
+        requires workers { 1 ≤ workers }
+        requires at_port { may_listen self.old port }
         ensures ports { IfOk result (λ ports. map Self.Port.told ports.items ≡ new_ports links workers) }
         ensures faultless { faultless self.old ≡ true
             → IfOk result (λ ports. All (λ p. Self.Port.faultless p ≡ true) ports.items) }

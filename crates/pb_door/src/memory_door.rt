@@ -1,5 +1,5 @@
 //! A door in memory.
-ghost use Rattle.std.specs.Prelude.{◌≡◌, ◌≤◌, ◌<◌, ◌↔◌, [], true, All, IsTrue, IfOk, OnOk, OnErr, IsSomeAnd, length, map, slice_get};
+ghost use Rattle.std.specs.Prelude.{◌≡◌, ⊤, ◌≤◌, ◌<◌, ◌↔◌, [], true, All, IsTrue, IfOk, OnOk, OnErr, IsSomeAnd, length, map, slice_get};
 ghost use Rattle.std.specs.List.{list_any};
 ghost use Rattle.pb_outside.specs.FaultPlan.{is_over, is_to_fail};
 ghost use Rattle.pb_outside.specs.Faults.{Fails, IsLater};
@@ -156,6 +156,8 @@ impl Door for MemoryDoor {
     ghost told = { told_by };
 
     ghost faultless = { is_faultless };
+
+    ghost may_listen = { λ _ _. ⊤ };
 
     fn listen(
         &mut self,

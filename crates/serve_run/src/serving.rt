@@ -37,6 +37,7 @@ pub fn serve<R: Threads + Wait + Sync, D: Door, P: Keeper + Send, G: Gate + Sync
 ) -> Served<P>
     requires workers { 1 ≤ workers }
     requires steps { 1 ≤ steps }
+    requires at_port { D.may_listen door.old port }
     ensures runs { let share = steps / workers in
         let faults = map (λ f. f.items) result.faults.items in
         IsServeRun result.how desk result.desk share links workers faults (D.told door.old) (D.told door.new) }

@@ -92,13 +92,15 @@ fn have_failed(ports: &[TcpPort]) -> bool
 }
 
 impl<R: Net<Listener = TcpListener, Stream = TcpStream>> Door for TcpDoor<'_, R> {
-    ghost use Rattle.std.specs.Prelude.{false};
+    ghost use Rattle.std.specs.Prelude.{⊤, false};
 
     type Port = TcpPort;
 
     ghost told = { λ d. d };
 
     ghost faultless = { λ _. false };
+
+    ghost may_listen = { λ _ _. ⊤ };
 
     fn listen(
         &mut self,

@@ -1,3 +1,4 @@
+use Rattle.std.proofs.Common.{refl}
 use Rattle.commands.proofs.Asked.{Does-of_service}
 use Rattle.commands.proofs.Runs.{Does-run}
 use Rattle.commands.proofs.top_call.run.Goals as goal
@@ -7,6 +8,10 @@ returns-in-Ended g c = (rw c.in-Ended.is at c.begin.ensures.ended) _
 
 pub run_service-requires-clause-named : goal.run_service-requires-clause-named
 run_service-requires-clause-named g c κs within = rw c.in-Awaited.is at c.begin.ensures.startable
+
+pub run_service-requires-clause-at_port : goal.run_service-requires-clause-at_port
+run_service-requires-clause-at_port g c κs within =
+    c.requires.at_port _ (record { service = c.in-Awaited.service; asked = rw c.in-Awaited.is at c.begin.ensures.asked; names = refl })
 
 pub returns-in-Awaited : goal.returns-in-Awaited
 returns-in-Awaited g c =
