@@ -29,6 +29,7 @@ WOULD = {
     "passes_that_are_split_with_a_step_too_many": "workers would be promised more steps than the run has",
     "the_end_of_the_last_worker_alone_is_told": "a port that failed would go unsaid where a later one ended well",
     "workers_with_half_of_their_steps": "workers would stop at half of the steps that are theirs",
+    "another_port": "a service would listen at another port than the words name, and its callers would find nobody",
     "a_finding_of_another_slice": "a rule that breaks cars would be told with the days of another slice",
     "a_pair_that_is_asked_is_skipped": "two rules that keep each other from firing would go unsaid",
     "a_rule_is_read_without_the_code": "a rule would be asked of the car as it is, and not of the car with the code that is added",
