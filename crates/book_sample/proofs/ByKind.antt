@@ -14,8 +14,8 @@ use Rattle.book_model.specs.declared.record.Variant.{Variant}
 use Rattle.book_text.specs.Names.{no_names}
 use Rattle.book_text.specs.Records.{Records, no_records, book_with}
 use Rattle.book_text.specs.declared.names.Names.{Names}
-use Rattle.written_book.specs.Item.{Item}
-use Rattle.written_book.specs.Book.{names_after, names_of, records_after, records_of, contents_of}
+use Rattle.book_sample.specs.Item.{Item}
+use Rattle.book_sample.specs.Book.{names_after, names_of, records_after, records_of, contents_of}
 use Rattle.book_sample.specs.Names.{name, names, code_name, place}
 use Rattle.book_sample.specs.declared.group.Bound.{Bound}
 use Rattle.book_sample.specs.declared.group.Choice.{Choice}

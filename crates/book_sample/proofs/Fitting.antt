@@ -8,11 +8,11 @@ use Rattle.pb_base.specs.Rule.{nodes}
 use Rattle.book_model.specs.Parts.{variants_from}
 use Rattle.book_text.specs.BookText.{book_of}
 use Rattle.book_text.specs.declared.names.Names.{Names}
-use Rattle.written_book.specs.Item.{Item, a_module}
-use Rattle.written_book.specs.Book.{names_of, text_of}
-use Rattle.written_book.specs.Written.{AreNames, HeadingFits, ItemFits, IsWritten, RuleFits}
-use Rattle.written_book.proofs.BookBack.{book_back}
-use Rattle.written_book.proofs.Length.{line_most, lines_most, text_length}
+use Rattle.book_sample.specs.Item.{Item, a_module}
+use Rattle.book_sample.specs.Book.{names_of, text_of}
+use Rattle.book_sample.specs.Written.{AreNames, HeadingFits, ItemFits, IsWritten, RuleFits}
+use Rattle.book_sample.proofs.BookBack.{book_back}
+use Rattle.book_sample.proofs.Length.{line_most, lines_most, text_length}
 use Rattle.book_sample.specs.Names.{name, names, place}
 use Rattle.book_sample.specs.Fits.{BoundFits, ChoiceFits, GroupsFit}
 use Rattle.book_sample.specs.declared.group.Bound.{Bound}

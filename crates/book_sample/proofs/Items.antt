@@ -5,7 +5,7 @@ use Rattle.std.specs.Prelude.{ℕ, zero, suc, List, [], ◌∷◌, Option, None,
 use Rattle.pb_base.specs.Rule.{Rule, code, negation, both, either}
 use Rattle.book_text.specs.declared.entry.Heading.{Heading}
 use Rattle.book_text.specs.declared.fields.Form.TheVariants as form
-use Rattle.written_book.specs.Item.{Item, a_code, a_supplement, a_construct, a_module, a_position, a_variant}
+use Rattle.book_sample.specs.Item.{Item, a_code, a_supplement, a_construct, a_module, a_position, a_variant}
 use Rattle.book_sample.specs.Names.{name, code_name, place}
 use Rattle.book_sample.specs.declared.group.Bound.{Bound}
 use Rattle.book_sample.specs.declared.group.Choice.{Choice}

@@ -10,3 +10,12 @@ pub mod GoodSet
 pub mod SoundSets
 pub mod OrdersFit
 pub mod Whole
+pub mod Distinct
+pub mod Plain
+pub mod RowsBack
+pub mod FieldsBack
+pub mod RowSaid
+pub mod NamesBack
+pub mod RecordsBack
+pub mod BookBack
+pub mod Length

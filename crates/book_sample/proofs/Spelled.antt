@@ -5,10 +5,10 @@ use Rattle.std.specs.List.{concat}
 use Rattle.std.specs.Fmt.{decimal}
 use Rattle.std.proofs.lemmas.Fmt.{decimal_digit, decimal_step}
 use Rattle.book_text.specs.declared.names.Names.{Names}
-use Rattle.written_book.specs.Item.{Item, a_module}
-use Rattle.written_book.specs.Rows.{name_at, heading_row, row_of}
-use Rattle.written_book.specs.Text.{line_of, text_of_rows}
-use Rattle.written_book.specs.Book.{text_of}
+use Rattle.book_sample.specs.Item.{Item, a_module}
+use Rattle.book_sample.specs.Rows.{name_at, heading_row, row_of}
+use Rattle.book_sample.specs.Text.{line_of, text_of_rows}
+use Rattle.book_sample.specs.Book.{text_of}
 use Rattle.book_sample.specs.Names.{name, names, code_name, place}
 use Rattle.book_sample.specs.Fits.{BoundFits, ChoiceFits, GroupsFit}
 use Rattle.book_sample.specs.Lines.{heading_line, code_line, module_line, supplement_line, some_line, alone_line, bound_line, bound_text, position_line, variant_line, codes_text, groups_text}

@@ -5,3 +5,8 @@ pub mod Fits
 pub mod Lines
 pub mod Orders
 pub mod Law
+pub mod Item
+pub mod Rows
+pub mod Text
+pub mod Book
+pub mod Written

@@ -8,7 +8,9 @@ mod law;
 mod lines;
 mod names;
 mod sampler;
+mod written;
 
 pub use book::sample_book;
 pub use law::sample_law;
 pub use sampler::Sampler;
+pub use written::reads_back;

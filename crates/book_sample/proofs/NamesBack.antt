@@ -17,12 +17,12 @@ use Rattle.book_text.specs.declared.fields.Days.{Days}
 use Rattle.book_text.specs.declared.names.Names.{Names}
 use Rattle.book_text.proofs.DistinctLemmas.{IsAbsent}
 use Rattle.book_text.proofs.PassLemmas.{pass-more, pass-end}
-use Rattle.written_book.specs.Item.{Item, a_code, a_supplement, a_construct, a_module, a_position, a_variant}
-use Rattle.written_book.specs.Rows.{row_of}
-use Rattle.written_book.specs.Book.{with_construct, with_name, names_after}
-use Rattle.written_book.specs.Written.{AreNames, ListFits, ItemFits}
-use Rattle.written_book.proofs.Distinct.{between, no_place}
-use Rattle.written_book.proofs.RowSaid.{AreSpelled, said, row_says}
+use Rattle.book_sample.specs.Item.{Item, a_code, a_supplement, a_construct, a_module, a_position, a_variant}
+use Rattle.book_sample.specs.Rows.{row_of}
+use Rattle.book_sample.specs.Book.{with_construct, with_name, names_after}
+use Rattle.book_sample.specs.Written.{AreNames, ListFits, ItemFits}
+use Rattle.book_sample.proofs.Distinct.{between, no_place}
+use Rattle.book_sample.proofs.RowSaid.{AreSpelled, said, row_says}
 
 added_where_back : (full : Bool) (which : Which) (names : List (List ℕ)) (name : List ℕ) → full ≡ false → IsAbsent name names
     → added_where full which names name ≡ Ok (names ++ name ∷ [])

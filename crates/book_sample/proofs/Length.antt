@@ -13,13 +13,13 @@ use Rattle.rule_text.specs.Printing.{printed, bracketed, is_either, is_pair}
 use Rattle.book_text.specs.Rows.{Row}
 use Rattle.book_text.specs.declared.entry.Heading.{Heading}
 use Rattle.book_text.specs.declared.names.Names.{Names}
-use Rattle.written_book.specs.Item.{Item, a_code, a_supplement, a_construct, a_module, a_position, a_variant}
-use Rattle.written_book.specs.Rows.{name_at, on_text, module_text, mandatory_text, row_of, heading_row}
-use Rattle.written_book.specs.Text.{fields_behind, line_of, text_of_rows}
-use Rattle.written_book.specs.Book.{names_of, text_of}
-use Rattle.written_book.specs.Written.{HeadingFits, ItemFits}
-use Rattle.written_book.proofs.RowSaid.{AreSpelled, name_of_code}
-use Rattle.written_book.proofs.BookBack.{spelled}
+use Rattle.book_sample.specs.Item.{Item, a_code, a_supplement, a_construct, a_module, a_position, a_variant}
+use Rattle.book_sample.specs.Rows.{name_at, on_text, module_text, mandatory_text, row_of, heading_row}
+use Rattle.book_sample.specs.Text.{fields_behind, line_of, text_of_rows}
+use Rattle.book_sample.specs.Book.{names_of, text_of}
+use Rattle.book_sample.specs.Written.{HeadingFits, ItemFits}
+use Rattle.book_sample.proofs.RowSaid.{AreSpelled, name_of_code}
+use Rattle.book_sample.proofs.BookBack.{spelled}
 
 word_length : (longest : ℕ) (word : List ℕ) → is_word longest word ≡ true → length word ≤ longest
 word_length longest word h =

@@ -11,9 +11,9 @@ use Rattle.book_text.specs.Records.{Records, no_records, book_with}
 use Rattle.book_text.specs.declared.entry.Heading.{Heading}
 use Rattle.book_text.specs.declared.fields.Days.{Days}
 use Rattle.book_text.specs.declared.names.Names.{Names}
-use Rattle.written_book.specs.Item.{Item, a_code, a_supplement, a_construct, a_module, a_position, a_variant}
-use Rattle.written_book.specs.Rows.{heading_row, row_of}
-use Rattle.written_book.specs.Text.{text_of_rows}
+use Rattle.book_sample.specs.Item.{Item, a_code, a_supplement, a_construct, a_module, a_position, a_variant}
+use Rattle.book_sample.specs.Rows.{heading_row, row_of}
+use Rattle.book_sample.specs.Text.{text_of_rows}
 
 abbrev pub with_construct : ConstructNames → List ℕ → ConstructNames
 with_construct c id = record c { ids = c.ids ++ id ∷ []; rules = c.rules + 1 }

@@ -12,17 +12,17 @@ use Rattle.book_text.specs.Names.{no_names}
 use Rattle.book_text.specs.Records.{no_records}
 use Rattle.book_text.specs.declared.entry.Heading.{Heading}
 use Rattle.book_text.specs.declared.names.Names.{Names}
-use Rattle.written_book.specs.Item.{Item}
-use Rattle.written_book.specs.Rows.{heading_row, row_of}
-use Rattle.written_book.specs.Text.{text_of_rows}
-use Rattle.written_book.specs.Book.{names_of, records_of, contents_of, text_of}
-use Rattle.written_book.specs.Written.{HeadingFits, IsWritten, ItemFits}
-use Rattle.written_book.proofs.Plain.{plain_word, plain_number}
-use Rattle.written_book.proofs.RowsBack.{IsPlainRow, rows_back, rows_utf8}
-use Rattle.written_book.proofs.FieldsBack.{name_back, number_back}
-use Rattle.written_book.proofs.RowSaid.{AreSpelled, spelled_after, row_plain}
-use Rattle.written_book.proofs.NamesBack.{names_back}
-use Rattle.written_book.proofs.RecordsBack.{records_back}
+use Rattle.book_sample.specs.Item.{Item}
+use Rattle.book_sample.specs.Rows.{heading_row, row_of}
+use Rattle.book_sample.specs.Text.{text_of_rows}
+use Rattle.book_sample.specs.Book.{names_of, records_of, contents_of, text_of}
+use Rattle.book_sample.specs.Written.{HeadingFits, IsWritten, ItemFits}
+use Rattle.book_sample.proofs.Plain.{plain_word, plain_number}
+use Rattle.book_sample.proofs.RowsBack.{IsPlainRow, rows_back, rows_utf8}
+use Rattle.book_sample.proofs.FieldsBack.{name_back, number_back}
+use Rattle.book_sample.proofs.RowSaid.{AreSpelled, spelled_after, row_plain}
+use Rattle.book_sample.proofs.NamesBack.{names_back}
+use Rattle.book_sample.proofs.RecordsBack.{records_back}
 
 heading_back : (h : Heading) → HeadingFits h → heading_of (heading_row h) ≡ Ok h
 heading_back h fits =

@@ -14,8 +14,8 @@ use Rattle.book_model.specs.Parts.{variants_of}
 use Rattle.book_text.specs.declared.entry.Heading.{Heading}
 use Rattle.book_text.specs.declared.fields.Form.TheVariants as form
 use Rattle.book_text.specs.declared.names.Names.{Names}
-use Rattle.written_book.specs.Item.{Item, a_code, a_supplement, a_construct, a_module, a_position, a_variant}
-use Rattle.written_book.specs.Book.{names_of, records_of, text_of}
+use Rattle.book_sample.specs.Item.{Item, a_code, a_supplement, a_construct, a_module, a_position, a_variant}
+use Rattle.book_sample.specs.Book.{names_of, records_of, text_of}
 
 -- a form without groups
 pub record HeadingFits (h : Heading) : Type 0 where

@@ -14,13 +14,13 @@ use Rattle.book_text.specs.declared.entry.Entry.{Entry}
 use Rattle.book_text.specs.declared.entry.Entry.TheVariants as e
 use Rattle.book_text.specs.declared.fields.Days.{Days}
 use Rattle.book_text.specs.declared.names.Names.{Names}
-use Rattle.written_book.specs.Item.{Item, a_code, a_supplement, a_construct, a_module, a_position, a_variant}
-use Rattle.written_book.specs.Rows.{name_at, on_text, module_text, mandatory_text, row_of}
-use Rattle.written_book.specs.Book.{with_name, names_after}
-use Rattle.written_book.specs.Written.{ItemFits}
-use Rattle.written_book.proofs.Plain.{is_plain, ArePlain, plain_word, plain_number, plain_rule, plain_at}
-use Rattle.written_book.proofs.RowsBack.{IsPlainRow}
-use Rattle.written_book.proofs.FieldsBack.{name_back, code_name_back, part_back, number_back}
+use Rattle.book_sample.specs.Item.{Item, a_code, a_supplement, a_construct, a_module, a_position, a_variant}
+use Rattle.book_sample.specs.Rows.{name_at, on_text, module_text, mandatory_text, row_of}
+use Rattle.book_sample.specs.Book.{with_name, names_after}
+use Rattle.book_sample.specs.Written.{ItemFits}
+use Rattle.book_sample.proofs.Plain.{is_plain, ArePlain, plain_word, plain_number, plain_rule, plain_at}
+use Rattle.book_sample.proofs.RowsBack.{IsPlainRow}
+use Rattle.book_sample.proofs.FieldsBack.{name_back, code_name_back, part_back, number_back}
 
 -- the names that records are named by are names
 pub record AreSpelled (n : Names) : Type 0 where

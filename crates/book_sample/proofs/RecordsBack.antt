@@ -20,11 +20,11 @@ use Rattle.book_text.specs.declared.entry.Heading.{Heading}
 use Rattle.book_text.specs.declared.fields.Days.{Days}
 use Rattle.book_text.specs.declared.names.Names.{Names}
 use Rattle.book_text.proofs.PassLemmas.{pass-more, pass-end}
-use Rattle.written_book.specs.Item.{Item, a_code, a_supplement, a_construct, a_module, a_position, a_variant}
-use Rattle.written_book.specs.Rows.{name_at, row_of}
-use Rattle.written_book.specs.Book.{with_record, records_after}
-use Rattle.written_book.specs.Written.{AreNames, ItemFits, RuleFits}
-use Rattle.written_book.proofs.RowSaid.{AreSpelled, said, row_says}
+use Rattle.book_sample.specs.Item.{Item, a_code, a_supplement, a_construct, a_module, a_position, a_variant}
+use Rattle.book_sample.specs.Rows.{name_at, row_of}
+use Rattle.book_sample.specs.Book.{with_record, records_after}
+use Rattle.book_sample.specs.Written.{AreNames, ItemFits, RuleFits}
+use Rattle.book_sample.proofs.RowSaid.{AreSpelled, said, row_says}
 
 -- ---- a position has few enough variants at each step where it has in the end
 

@@ -11,8 +11,8 @@ use Rattle.csv.specs.Writing.{default_writer, field_text, fields_text, is_blank,
 use Rattle.csv.specs.declared.parser.State.TheVariants as st
 use Rattle.csv.proofs.RoundTrip.{read-write-many}
 use Rattle.book_text.specs.Rows.{Row, rows_of}
-use Rattle.written_book.specs.Text.{fields_behind, line_of, text_of_rows}
-use Rattle.written_book.proofs.Plain.{is_plain_byte, is_plain, no_quotes, plain_below}
+use Rattle.book_sample.specs.Text.{fields_behind, line_of, text_of_rows}
+use Rattle.book_sample.proofs.Plain.{is_plain_byte, is_plain, no_quotes, plain_below}
 
 -- a row of two fields or more, each of them plain; the first has a byte
 abbrev pub IsPlainRow : Row → Type 0

@@ -2,9 +2,9 @@
 ghost use Rattle.std.specs.Prelude.{◌≡◌, List, Ok};
 ghost use Rattle.book_text.specs.BookText.{book_of};
 ghost use Rattle.book_text.specs.declared.entry.Heading.{Heading};
-ghost use Rattle.written_book.specs.Item.{Item};
-ghost use Rattle.written_book.specs.Book.{contents_of, text_of};
-ghost use Rattle.written_book.specs.Written.{IsWritten};
+ghost use Rattle.book_sample.specs.Item.{Item};
+ghost use Rattle.book_sample.specs.Book.{contents_of, text_of};
+ghost use Rattle.book_sample.specs.Written.{IsWritten};
 
 /// The text of a heading and records that fit reads as their book. The call does nothing.
 pub fn reads_back()

@@ -8,7 +8,7 @@ use Rattle.rule_text.specs.Printing.{printed}
 use Rattle.book_text.specs.Rows.{Row}
 use Rattle.book_text.specs.declared.entry.Heading.{Heading}
 use Rattle.book_text.specs.declared.names.Names.{Names}
-use Rattle.written_book.specs.Item.{Item, a_code, a_supplement, a_construct, a_module, a_position, a_variant}
+use Rattle.book_sample.specs.Item.{Item, a_code, a_supplement, a_construct, a_module, a_position, a_variant}
 
 abbrev pub name_at : List (List ℕ) → ℕ → List ℕ
 name_at names place = slice_index_or names place []

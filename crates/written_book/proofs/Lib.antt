@@ -1,9 +1,0 @@
-pub mod Distinct
-pub mod Plain
-pub mod RowsBack
-pub mod FieldsBack
-pub mod RowSaid
-pub mod NamesBack
-pub mod RecordsBack
-pub mod BookBack
-pub mod Length
