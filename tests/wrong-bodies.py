@@ -80,7 +80,7 @@ HEAD = """# Wrong bodies that have to be refused
 
 A contract that is too weak would let wrong code pass. So the gate changes the code at a few places, in the ways that would do harm, and asks the prover about each: it has to refuse every one. A wrong body is an edit in the folder `must-fail` of a crate; `rt must-fail NAME` tries those of one crate.
 
-This page is made by `tests/wrong-bodies.py` from these edits. At most four stand in a crate, those that nothing else tells. Further ones were tried once and are tried no more, since a contract above, a worked run or a test tells the same: docs/DECISIONS.md, "Wrong bodies that are tried no more, and what tells the same", has each with its reason.
+This page is made by `tests/wrong-bodies.py` from these edits. At most four stand in a crate, those that nothing else tells. Further ones were tried once and are tried no more, since a contract above, a worked run or a test tells the same (docs/DECISIONS.md, "Proof and gate").
 """
 
 
