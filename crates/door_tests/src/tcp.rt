@@ -45,6 +45,7 @@ fn links_come_and_go(rt: HostRuntime) -> Result<(), Fail> {
     let mut door = TcpDoor::new(alloc, &rt);
     let mut port = only_port(alloc, &mut door, 2)?;
     let address = port.address()?;
+    assert!(rt; address.ip().is_loopback());
     let mut client = TcpStream::connect(&rt, address)?;
     client.write_all(b"ping")?;
     client.shutdown(Shutdown::Write)?;
