@@ -11,7 +11,8 @@ unread   one who sends requests as long as the connection takes them, and reads 
 silent   one who says nothing, one who stops inside a head, and one whose body never comes; and then go.
 gone     one who resets his connection again and again, inside a request, or with a response that he doesn't read.
 closing  one who is refused and keeps on sending, and one who keeps his side open.
-all      as many silent clients as there are workers: the others wait until one of them goes, and then all are answered.
+all      as many silent clients as there are workers, and none of them goes: after the longest wait all others are answered.
+long     one who sends his request a byte a second, for longer than a message may take: his connection is ended.
 many     200 connections at once, each with an order; and 100 that are open at once, which speak one after the other.
 large    one who has a large book checked and released.
 deep     bodies with lists deep in one another, since a worker has a stack of its own.
@@ -36,6 +37,9 @@ from draw_book import Drawn
 
 WORKERS = 4
 SOON = 5
+# How long a service waits for a byte, and for a whole message, in seconds (crates/tcp_door/src/patience.rt).
+LONGEST_WAIT = 30
+LONGEST_MESSAGE = 120
 
 
 class Hall:
@@ -286,6 +290,7 @@ def try_closing(program, given):
 
 def try_all(program, given):
     def trial(hall):
+        begun = time.time()
         silent = [hall.service.connect() for _ in range(WORKERS)]
         time.sleep(1)
         callers = [hall.service.connect() for _ in range(20)]
@@ -297,16 +302,38 @@ def try_all(program, given):
                 must("nobody is answered", caller.recv(1) is None)
             except TimeoutError:
                 caller.settimeout(PATIENCE)
-        begun = time.time()
-        silent[0].close()
         for caller in callers:
             must("a caller", hear(caller).endswith(b"owner ANNA revision 1\n"))
             caller.close()
         took = time.time() - begun
+        must("they wait no longer than a read may", took < LONGEST_WAIT + 5, took)
         for link in silent:
             link.close()
         hall.still_serves()
-        return f"{WORKERS} silent clients kept 20 others waiting; when one of them went, all 20 were answered in {took:.2f} s"
+        return f"{WORKERS} silent clients kept 20 others waiting, who were all answered after {took:.1f} s, though none of the silent went"
+
+    return over(program, trial)
+
+
+def try_long(program, given):
+    def trial(hall):
+        message = b"GET /orders/1 HTTP/1.1\r\nHost: h\r\nX-Caller: HALL9\r\nX-Long: " + b"a" * 400
+
+        def send_slowly():
+            begun = time.time()
+            with hall.service.connect() as link:
+                try:
+                    for byte in message:
+                        link.send(bytes([byte]))
+                        time.sleep(1)
+                except OSError:
+                    pass
+                return time.time() - begun
+
+        took, told = hall.try_beside(send_slowly)
+        must("a slow message is ended", took < LONGEST_MESSAGE + 15, took)
+        hall.still_serves()
+        return f"a byte a second was ended after {took:.0f} s: {told}"
 
     return over(program, trial)
 
@@ -379,7 +406,7 @@ def try_deep(program, given):
 
 def main():
     subjects = {
-        "slow": try_slow, "unread": try_unread, "silent": try_silent, "gone": try_gone, "closing": try_closing, "all": try_all,
+        "slow": try_slow, "unread": try_unread, "silent": try_silent, "gone": try_gone, "closing": try_closing, "all": try_all, "long": try_long,
         "many": try_many, "large": try_large, "deep": try_deep,
     }
     reader = argparse.ArgumentParser(usage="tests/hostile-serve.py [PROGRAM [SUBJECT..]]")

@@ -7,6 +7,7 @@ use std::alloc::Global;
 use std::io::{Read, Write};
 use std::net::{Net, Shutdown, SocketAddr, TcpListener, TcpStream};
 use std::test::Fail;
+use std::time::Clock;
 use std::{io, thread};
 use tcp_door::{TcpDoor, TcpLink, TcpPort};
 
@@ -14,11 +15,11 @@ use tcp_door::{TcpDoor, TcpLink, TcpPort};
 const PIECES: u32 = 256;
 
 // The port of a door for one worker.
-fn only_port<R: Net<Listener = TcpListener, Stream = TcpStream>>(
+fn only_port<'a, R: Net<Listener = TcpListener, Stream = TcpStream> + Clock + Sync>(
     alloc: Global,
-    door: &mut TcpDoor<'_, R>,
+    door: &mut TcpDoor<'a, R>,
     links: u32,
-) -> Result<TcpPort, OutError>
+) -> Result<TcpPort<&'a R>, OutError>
     ensures { IfOk result (λ port. port.out ≡ false) }
 {
     let mut ports = door.listen(alloc, 0, 1, links)?;
@@ -29,7 +30,7 @@ fn only_port<R: Net<Listener = TcpListener, Stream = TcpStream>>(
 }
 
 // Reads what a link gives, to its end.
-fn read_all(alloc: Global, link: &mut TcpLink) -> Result<Vec<u8>, OutError> {
+fn read_all<C: Clock + Drop>(alloc: Global, link: &mut TcpLink<C>) -> Result<Vec<u8>, OutError> {
     let mut bytes = Vec::new(alloc);
     for _ in 0..100_000 {
         if link.read(&mut bytes, 8_192)? == 0 {
@@ -88,7 +89,7 @@ fn send_all<R: Net<Listener = TcpListener, Stream = TcpStream>>(
 }
 
 // Refuses the next link when it has read a few bytes of it.
-fn refuse_early(alloc: Global, port: &mut TcpPort) -> Result<(), OutError>
+fn refuse_early<C: Clock + Copy + Drop + Send>(alloc: Global, port: &mut TcpPort<C>) -> Result<(), OutError>
     requires { port.old.out ≡ false }
 {
     match port.next()? {

@@ -10,17 +10,18 @@ use pb_outside::{FaultCount, OutError};
 use std::alloc::Global;
 use std::marker::Model;
 use std::net::{Ipv4Addr, Net, SocketAddrV4, TcpListener, TcpStream};
+use std::time::Clock;
 
 /// Listens for TCP connections from this machine, and no others. Each error of the system is a fault.
 #[derive(Drop)]
-pub struct TcpDoor<'a, R: Net> {
+pub struct TcpDoor<'a, R: Net + Clock> {
     net: &'a R,
     lent: u32,
-    back: Vec<TcpPort>,
+    back: Vec<TcpPort<&'a R>>,
     faults: FaultCount,
 }
 
-impl<'a, R: Net> Model for TcpDoor<'a, R> {
+impl<'a, R: Net + Clock> Model for TcpDoor<'a, R> {
     ghost use Rattle.pb_door.specs.DoorTold.{DoorTold};
 
     ghost Value = { DoorTold };
@@ -28,7 +29,7 @@ impl<'a, R: Net> Model for TcpDoor<'a, R> {
     ghost view = { λ d. record { lent = d.lent; back = d.back.items; faults = d.faults } };
 }
 
-impl<'a, R: Net> TcpDoor<'a, R> {
+impl<'a, R: Net + Clock> TcpDoor<'a, R> {
     /// No fault so far.
     pub fn new(alloc: Global, net: &'a R) -> TcpDoor<'a, R>
         ensures { result ≡ record { lent = 0; back = []; faults = 0 } }
@@ -43,13 +44,13 @@ impl<'a, R: Net> TcpDoor<'a, R> {
 }
 
 // A port for each of so many workers, all of one listener.
-fn open_ports<R: Net<Listener = TcpListener, Stream = TcpStream>>(
+fn open_ports<'a, R: Net<Listener = TcpListener, Stream = TcpStream> + Clock>(
     alloc: Global,
-    net: &R,
+    net: &'a R,
     port: u16,
     workers: u32,
     links: u32,
-) -> Result<Vec<TcpPort>, OutError>
+) -> Result<Vec<TcpPort<&'a R>>, OutError>
     requires { 1 ≤ workers }
     ensures { IfOk result (λ ports. ports.items ≡ new_ports links workers) }
 {
@@ -59,6 +60,7 @@ fn open_ports<R: Net<Listener = TcpListener, Stream = TcpStream>>(
         let port = TcpPort::new(
             alloc,
             shared(&listener)?,
+            net,
             number,
             share_of(links, workers, number),
         );
@@ -85,16 +87,17 @@ fn shared(listener: &TcpListener) -> Result<TcpListener, OutError> {
     }
 }
 
-fn have_failed(ports: &[TcpPort]) -> bool
+fn have_failed<C: Clock + Copy + Drop>(ports: &[TcpPort<C>]) -> bool
     ensures { result ≡ list_any has_failed ports.now }
 {
-    ports.iter().any(|port| port.faults() > 0)
+    ports.iter().any(|port| port.has_failed())
 }
 
-impl<R: Net<Listener = TcpListener, Stream = TcpStream>> Door for TcpDoor<'_, R> {
+impl<'a, R: Net<Listener = TcpListener, Stream = TcpStream> + Clock + Sync> Door
+    for TcpDoor<'a, R> {
     ghost use Rattle.std.specs.Prelude.{⊤, false};
 
-    type Port = TcpPort;
+    type Port = TcpPort<&'a R>;
 
     ghost told = { λ d. d };
 
@@ -108,7 +111,7 @@ impl<R: Net<Listener = TcpListener, Stream = TcpStream>> Door for TcpDoor<'_, R>
         port: u16,
         workers: u32,
         links: u32,
-    ) -> Result<Vec<TcpPort>, OutError> {
+    ) -> Result<Vec<TcpPort<&'a R>>, OutError> {
         match open_ports(alloc, self.net, port, workers, links) {
             Ok(ports) => {
                 self.lent = workers;
@@ -119,9 +122,9 @@ impl<R: Net<Listener = TcpListener, Stream = TcpStream>> Door for TcpDoor<'_, R>
         }
     }
 
-    fn back(&mut self, ports: Vec<TcpPort>)
+    fn back(&mut self, ports: Vec<TcpPort<&'a R>>)
         requires { AreLent self.old (map (λ p. p) ports.items) }
-        ensures back { self.new ≡ takes_back (map (λ p. p) ports.items) self.old }
+        ensures back { self.new ≡ takes_back (map (λ p. p) ports.entry.items) self.old }
         ensures faultless { false ≡ false }
     {
         if have_failed(&ports) {

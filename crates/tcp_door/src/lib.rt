@@ -3,6 +3,7 @@
 
 mod door;
 mod link;
+mod patience;
 mod port;
 
 pub use door::TcpDoor;

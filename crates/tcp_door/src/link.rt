@@ -3,73 +3,56 @@ ghost use Rattle.std.specs.Prelude.{◌≡◌, []};
 ghost use Rattle.pb_door.specs.LinkTold.{IsUnwritten, link_told};
 ghost use Rattle.tcp_door.specs.Untold.{untold};
 
-use pb_outside::{Ends, FaultCount, Link, OutError, Sink, Source, StreamSink, StreamSource};
-use std::io::Read;
-use std::net::{Shutdown, TcpStream};
-use std::time::Duration;
+use crate::patience::{Progress, before_read, bound_waits, end_connection, is_late, write_whole};
+use pb_outside::{Ends, FaultCount, Link, OutError, Sink, Source, StreamSource};
+use std::net::TcpStream;
+use std::time::Clock;
 
-// How many bytes one read asks for when a connection ends.
-const CHUNK: usize = 8_192;
-
-// How many such reads are made at most: 8 MiB in all.
-const MOST_READS: u32 = 1_024;
-
-// How long each of them waits at most, in milliseconds.
-const LONGEST_WAIT: u64 = 1_000;
-
-/// A connection over TCP. It tells how often reading and writing have failed, and none of its bytes.
+/// A connection over TCP. It tells how often reading and writing have failed, and none of its bytes. A peer that sends
+/// nothing for 30 seconds, takes nothing for as long, or takes more than 120 seconds for the head and the body of one
+/// message, is a fault of this connection.
 #[derive(Drop)]
-pub struct TcpLink {
+pub struct TcpLink<C: Clock + Drop> {
     stream: TcpStream,
+    clock: C,
+    progress: Progress,
     read_faults: FaultCount,
     write_faults: FaultCount,
 }
 
-impl TcpLink {
+impl<C: Clock + Drop> TcpLink<C> {
     /// A connection that was just made.
-    pub(crate) fn new(stream: TcpStream) -> TcpLink
-        ensures { let input = ⟦<TcpLink as Ends>⟧.input result in
-            link_told input (⟦<TcpLink as Ends>⟧.output result) ≡ untold 0 0 }
+    pub(crate) fn new(stream: TcpStream, clock: C) -> TcpLink<C>
+        ensures { let input = ⟦<TcpLink<C> as Ends>⟧.input result in
+            link_told input (⟦<TcpLink<C> as Ends>⟧.output result) ≡ untold 0 0 }
     {
         // Without it a short response may wait for the peer to confirm the one before. Where it can't be set nothing
         // else changes.
         let _set = stream.set_nodelay(true);
+        bound_waits(&stream);
         TcpLink {
             stream,
+            clock,
+            progress: Progress::Awaited,
             read_faults: FaultCount::new(),
             write_faults: FaultCount::new(),
         }
     }
 
-    /// Ends the connection so that the peer gets all that was written. What the peer has sent and nobody has read
-    /// would else make the system reset the connection, and the peer lose what was written last. So this reads on,
-    /// until the peer ends its side, has sent too much, or sends nothing for too long.
+    /// Ends the connection so that the peer gets all that was written.
     pub(crate) fn close(self) {
         let TcpLink {
-            mut stream,
+            stream,
+            clock,
+            progress: _,
             read_faults: _,
             write_faults: _,
         } = self;
-        let wait = Some(Duration::from_millis(LONGEST_WAIT));
-        if stream.shutdown(Shutdown::Write).is_ok() && stream.set_read_timeout(wait).is_ok() {
-            read_out(&mut stream);
-        }
+        end_connection(stream, &clock);
     }
 }
 
-// Reads what still comes, up to a bound.
-fn read_out(stream: &mut TcpStream) {
-    let mut chunk = [0; CHUNK];
-    for _ in 0..MOST_READS {
-        match stream.read(&mut chunk) {
-            Ok(0) => return,
-            Ok(_) => {}
-            Err(_) => return,
-        }
-    }
-}
-
-impl Ends for TcpLink {
+impl<C: Clock + Drop> Ends for TcpLink<C> {
     ghost use Rattle.std.specs.Prelude.{None, false};
 
     ghost input = { λ l.
@@ -80,11 +63,21 @@ impl Ends for TcpLink {
     ghost names = { λ _. [] };
 }
 
-impl Source for TcpLink {
+impl<C: Clock + Drop> Source for TcpLink<C> {
     fn read(&mut self, into: &mut Vec<u8>, max: usize) -> Result<usize, OutError> {
+        self.progress = before_read(&self.clock, self.progress);
+        if is_late(&self.clock, self.progress) {
+            return self.read_faults.fail();
+        }
         match StreamSource::new(&self.stream).read(into, max) {
             Err(OutError::Failed) => self.read_faults.fail(),
-            answer => answer,
+            Err(OutError::Memory) => Err(OutError::Memory),
+            Ok(count) => {
+                if matches!(self.progress, Progress::Awaited) {
+                    self.progress = Progress::Begun;
+                }
+                Ok(count)
+            }
         }
     }
 
@@ -93,12 +86,13 @@ impl Source for TcpLink {
     }
 }
 
-impl Sink for TcpLink {
+impl<C: Clock + Drop> Sink for TcpLink<C> {
     fn write(&mut self, piece: &[u8]) -> Result<(), OutError> {
-        match StreamSink::new(&self.stream).write(piece) {
-            Err(_) => self.write_faults.fail(),
-            Ok(()) => Ok(()),
+        self.progress = Progress::Awaited;
+        if write_whole(&self.stream, &self.clock, piece) {
+            return Ok(());
         }
+        self.write_faults.fail()
     }
 
     fn write_faults(&self) -> u64 {
@@ -106,4 +100,4 @@ impl Sink for TcpLink {
     }
 }
 
-impl Link for TcpLink {}
+impl<C: Clock + Drop> Link for TcpLink<C> {}

@@ -1,6 +1,7 @@
 //! Ports that share one TCP listener.
 ghost use Rattle.std.specs.Prelude.{◌≡◌, false, true};
 ghost use Rattle.pb_door.specs.PortTold.{gives, new_port};
+ghost use Rattle.pb_door.specs.DoorTold.{has_failed};
 ghost use Rattle.tcp_door.specs.Untold.{untold};
 
 use crate::link::TcpLink;
@@ -11,22 +12,24 @@ use std::io;
 use std::marker::Model;
 use std::net::{SocketAddr, TcpListener, TcpStream};
 use std::snapshot::Snapshot;
+use std::time::Clock;
 
 /// One of the ports of a TCP door. Each accepts connections from the listener that all of them share, so a connection
-/// comes to whichever port asks first. Each error of the listener is a fault.
+/// comes to whichever port asks first. Each error of the listener is a fault. The clock is that of its connections.
 #[derive(Drop)]
-pub struct TcpPort {
+pub struct TcpPort<C: Clock + Copy + Drop> {
     listener: TcpListener,
+    clock: C,
     number: u32,
     left: u64,
-    given: Vec<Snapshot<TcpLink>>,
-    ended: Vec<Snapshot<TcpLink>>,
+    given: Vec<Snapshot<TcpLink<C>>>,
+    ended: Vec<Snapshot<TcpLink<C>>>,
     out: bool,
     over: bool,
     faults: FaultCount,
 }
 
-impl Model for TcpPort {
+impl<C: Clock + Copy + Drop> Model for TcpPort<C> {
     ghost use Rattle.std.specs.Prelude.{◌≡◌, ◌<◌, true, map, vec_len, vec_capacity};
     ghost use Rattle.pb_door.specs.PortTold.{PortTold};
     ghost use Rattle.tcp_door.specs.Untold.{untold};
@@ -46,13 +49,20 @@ impl Model for TcpPort {
     ghost invariant = { λ p. p.out ≡ true → vec_len p.ended < vec_capacity p.ended };
 }
 
-impl TcpPort {
+impl<C: Clock + Copy + Drop> TcpPort<C> {
     /// The port of this number, which gives so many connections of the listener at most.
-    pub(crate) fn new(alloc: Global, listener: TcpListener, number: u32, left: u64) -> TcpPort
+    pub(crate) fn new(
+        alloc: Global,
+        listener: TcpListener,
+        clock: C,
+        number: u32,
+        left: u64,
+    ) -> TcpPort<C>
         ensures { result ≡ new_port number left }
     {
         TcpPort {
             listener,
+            clock,
             number,
             left,
             given: Vec::new(alloc),
@@ -67,16 +77,23 @@ impl TcpPort {
     pub fn address(&self) -> io::Result<SocketAddr> {
         self.listener.local_addr()
     }
+
+    /// Whether a call has failed so far.
+    pub(crate) fn has_failed(&self) -> bool
+        ensures { result ≡ has_failed self.now }
+    {
+        self.faults.faults() > 0
+    }
 }
 
-impl DoorPort for TcpPort {
-    type L = TcpLink;
+impl<C: Clock + Copy + Drop + Send> DoorPort for TcpPort<C> {
+    type L = TcpLink<C>;
 
     ghost told = { λ p. p };
 
     ghost faultless = { λ _. false };
 
-    fn next(&mut self) -> Result<Option<TcpLink>, OutError> {
+    fn next(&mut self) -> Result<Option<TcpLink<C>>, OutError> {
         if self.left == 0 {
             self.over = true;
             return Ok(None);
@@ -85,7 +102,7 @@ impl DoorPort for TcpPort {
         self.given.reserve(1)?;
         match self.listener.accept() {
             Ok((stream, _)) => {
-                let link = TcpLink::new(stream);
+                let link = TcpLink::new(stream, self.clock);
                 if self.given.push(Snapshot::of(&link)).is_err() {
                     unreachable!();
                 }
@@ -97,7 +114,7 @@ impl DoorPort for TcpPort {
         }
     }
 
-    fn done(&mut self, link: TcpLink) {
+    fn done(&mut self, link: TcpLink<C>) {
         if self.ended.push(Snapshot::of(&link)).is_err() {
             unreachable!();
         }
