@@ -253,4 +253,4 @@ def shown_row(row):
 
 
 def counts(tables):
-    return ", ".join(f"{len(rows)} {name}" for name, rows in tables.items())
+    return " ".join(f"{name} {len(rows)}" for name, rows in tables.items())
