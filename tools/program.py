@@ -37,8 +37,29 @@ def start_desk(store):
     return status, said.decode("utf-8", "replace").strip()
 
 
+def has_open(process, wanted):
+    """Whether a process has this file open."""
+    for name in os.listdir(f"/proc/{process}/fd"):
+        try:
+            at = os.stat(f"/proc/{process}/fd/{name}")
+        except OSError:
+            continue
+        if (at.st_dev, at.st_ino) == (wanted.st_dev, wanted.st_ino):
+            return True
+    return False
+
+
+def is_desk_of(process, words, wanted):
+    """Whether a process is a desk whose words name this store: a journal isn't open all the time."""
+    for word, store in zip(words, words[1:]):
+        if word in ("desk", "serve", "rejudge") and "partsbook" in words[0]:
+            at = os.stat(os.path.join(f"/proc/{process}/cwd", store))
+            return (at.st_dev, at.st_ino) == (wanted.st_dev, wanted.st_ino)
+    return False
+
+
 def holders_of(path):
-    """The processes that have a file open, this one not among them, with their words."""
+    """The processes that have a store, this one not among them, with their words."""
     try:
         wanted = os.stat(path)
     except OSError:
@@ -48,12 +69,10 @@ def holders_of(path):
         if int(process) == os.getpid():
             continue
         try:
-            for name in os.listdir(f"/proc/{process}/fd"):
-                at = os.stat(f"/proc/{process}/fd/{name}")
-                if (at.st_dev, at.st_ino) == (wanted.st_dev, wanted.st_ino):
-                    with open(f"/proc/{process}/cmdline", "rb") as file:
-                        found.append((int(process), file.read().replace(b"\0", b" ").decode("utf-8", "replace").strip()))
-                    break
+            with open(f"/proc/{process}/cmdline", "rb") as file:
+                words = file.read().decode("utf-8", "replace").split("\0")
+            if is_desk_of(process, words, wanted) or has_open(process, wanted):
+                found.append((int(process), " ".join(words).strip()))
         except OSError:
             continue
     return found
@@ -62,7 +81,7 @@ def holders_of(path):
 def refuse_held(path):
     """Refuses a store that some process has open."""
     for process, words in holders_of(path):
-        raise Refused(f"{path} is open in process {process} ({words}): end it first")
+        raise Refused(f"process {process} has {path} ({words}): end it first")
 
 
 def sync_folder(path):
