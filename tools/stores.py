@@ -203,7 +203,7 @@ def files_of(path):
 
 def copy_files(path, copy):
     for ending in files_of(path):
-        shutil.copyfile(path + ending, copy + ending)
+        shutil.copyfile(f"{path}{ending}", f"{copy}{ending}")
 
 
 def write_journal(path, rows):
