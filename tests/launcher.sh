@@ -1,0 +1,184 @@
+#!/bin/sh
+# Tries what the launcher ./partsbook says on standard error, and that it changes nothing else: each command is run by the program
+# and by the launcher, with the book from a file and through a pipe, and standard output and status have to be the same. Then the
+# launcher has to have said what stands here.
+#
+#   tests/launcher.sh [PROGRAM]
+#
+# PROGRAM is the built program, crates/partsbook/out/partsbook without the word. The status is 1 where something is otherwise.
+top=$(cd "$(dirname "$0")/.." && pwd) || exit 1
+program=$(realpath "${1:-$top/crates/partsbook/out/partsbook}") || exit 1
+[ -x "$program" ] || { echo "launcher: there is no program $program: ./build makes it" >&2; exit 1; }
+export PARTSBOOK_PROGRAM="$program"
+work=$(mktemp -d) || exit 1
+trap 'rm -rf "$work"' EXIT
+books=$top/examples
+failed=0
+tried=0
+
+wrong() { failed=1; printf 'wrong: %s\n' "$1"; }
+
+# The words with this book, three times: standard output and status are the program's. What was said is left in $work/said.
+same() { # book, words..
+    book=$1
+    shift
+    tried=$((tried + 1))
+    "$program" "$@" < "$book" > "$work/wanted"
+    wanted=$?
+    for way in file pipe quiet; do
+        case $way in
+        file) "$top/partsbook" "$@" < "$book" > "$work/found" 2> "$work/said" ;;
+        pipe) cat "$book" | "$top/partsbook" "$@" > "$work/found" 2> "$work/said.pipe" ;;
+        quiet) "$top/partsbook" --quiet "$@" < "$book" > "$work/found" 2> "$work/said.quiet" ;;
+        esac
+        found=$?
+        [ "$found" = "$wanted" ] || wrong "$* ($way): status $found, and the program's is $wanted"
+        cmp -s "$work/wanted" "$work/found" || wrong "$* ($way): another output"
+    done
+    cmp -s "$work/said" "$work/said.pipe" || { wrong "$*: a pipe is told otherwise than a file"; diff "$work/said" "$work/said.pipe"; }
+    [ ! -s "$work/said.quiet" ] || wrong "$*: --quiet said something"
+}
+
+# The last command has to have said this.
+said() { # a part of a line
+    grep -qF -- "$1" "$work/said" || { wrong "not said: $1"; sed 's/^/    /' "$work/said"; }
+}
+
+# A change of a book.
+changed() { sed "$2" "$books/$1" > "$work/book.csv"; }
+
+same "$books/compact.csv" order 40 P18 AWD AT8
+said 'read 16 codes, 6 supplementing rules, 14 constructibility rules, 3 modules, 8 positions, 21 variants'
+same "$books/compact-groups.csv" check
+said '5 constructibility rules, 4 groups,'
+same "$books/van.csv" prove
+said 'no certificate: what was written is the report'
+same "$books/engine.csv" prove
+same "$books/estate.csv" supplements --budget 5
+same "$books/tarn.csv" check
+same "$books/engine.csv" verify "$books/engine.cert"
+same "$books/engine.csv" compare 1 "$books/engine.csv"
+said 'only cars that both books allow were compared'
+same "$books/engine.csv" sample 1 8 3
+
+# A quote that is never closed, and two that hide what stands between them. The counts are those of a book without these rows.
+changed compact.csv 's/all-wheel drive/"&/'
+same "$work/book.csv" check
+said 'read 8 codes, 0 supplementing rules'
+said 'the quote that opens on line 9 is never closed: lines 9 to 69 are one field'
+changed compact.csv 's/all-wheel drive/"&/; s/sunroof/&"/'
+same "$work/book.csv" check
+said 'lines 9 to 13 are one field in quotes'
+changed compact.csv 's/all-wheel drive/"all "" wheel, drive"/'
+same "$work/book.csv" check
+grep -q 'quote' "$work/said" && wrong 'a quoted text is taken for a fault'
+
+# What a book is in place of a book.
+tr , ';' < "$books/van.csv" > "$work/book.csv"; same "$work/book.csv" check; said 'parted by semicolons'
+tr , '\t' < "$books/van.csv" > "$work/book.csv"; same "$work/book.csv" check; said 'parted by tabs'
+iconv -t UTF-16 < "$books/van.csv" > "$work/book.csv"; same "$work/book.csv" check; said 'the text is UTF-16'
+printf 'book,T,1,10\ncode,M1,gr\374n\n' > "$work/book.csv"; same "$work/book.csv" check; said 'line 2 is the first with such a byte'
+changed van.csv 's/^book/BOOK/'; same "$work/book.csv" check; said 'has to be `book`, in small letters'
+{ echo 'kind,name,x'; cat "$books/van.csv"; } > "$work/book.csv"; same "$work/book.csv" check; said 'without a header row'
+same "$books/engine.cert" check; said 'this is a certificate'
+: > "$work/book.csv"; same "$work/book.csv" check; said 'the text has no record'
+head -c 1048577 /dev/zero > "$work/book.csv"; same "$work/book.csv" check; said 'more than 1,048,576 bytes'
+printf '\357\273\277' > "$work/book.csv"; tr '\n' '\r' < "$books/van.csv" >> "$work/book.csv"; same "$work/book.csv" check; said 'read 7 codes'
+
+# Each kind of fault, with its line and its record.
+fault() { # how engine.csv is changed, the fault, what is said
+    changed engine.csv "$1"
+    same "$work/book.csv" check
+    [ "$(cat "$work/wanted")" = "$2" ] || wrong "$1: $(cat "$work/wanted"), and not $2"
+    said "$3"
+}
+fault '2s/.*/book,T,1,2/' 'book fault 2 4' 'a book has one `book` record'
+fault 's/^module,/Module,/' 'book fault 12 5' 'has to be `module`, in small letters'
+fault 's/^construct,C1,.*/group,C1,one,M1\/M2,,/' 'book fault 7 5' 'needs a book of form 2'
+fault 's/engine one/engine, one/' 'book fault 2 6' 'a `code` record has 3 fields; this one has 4'
+fault 's/^code,M2/code,m2/' 'book fault 3 7' '`m2` has small letters'
+fault 's/,A100,1,/,A100,0,/' 'book fault 14 8' 'quantities 1 to 999'
+fault 's/^variant,V1.*/variant,V1,P1,A100,1,M1,9,3/' 'book fault 14 9' 'line 14: variant,V1,P1,A100,1,M1,9,3'
+fault 's/^construct,C4/construct,C2/' 'book fault 10 10' 'is taken by line 8'
+fault 's/^variant,V1,P1/variant,V1,P2/' 'book fault 14 11' 'there is no position `P2`'
+fault 's/M1+-G7/M1+-G8/' 'book fault 11 12 3 4' 'at its 5th byte, `G8` is no code of the book'
+fault 's/M1+-G7/M1+-/' 'book fault 11 12 4 4' 'at its end'
+# A text of three lines moves the lines of what follows, and no row.
+printf 'book,T,1,10\ncode,M1,"one\ntwo\nthree"\ncode,m2,x\n' > "$work/book.csv"; same "$work/book.csv" check; said 'line 5: code,m2,x'
+
+# Orders, words, certificates and files.
+same "$books/compact.csv" order 400 P18; said 'the term of the book, which is 1 to 365'
+same "$books/compact.csv" order 40 P18 XX; said 'the book has no code `XX`'
+same "$books/compact.csv" order 40 P18 P18; said 'the code `P18` is ordered twice'
+same "$books/compact.csv" order 40 p18; said '`p18`: codes are capitals and digits'
+same "$books/compact.csv" order 40 P18,AWD; said 'codes are parted by blanks'
+same "$books/compact.csv" order 2027-02-09 P18; said 'is no day'
+same "$books/compact.csv" check "$books/van.csv"; said "partsbook check < $books/van.csv"
+same "$books/compact.csv" chek; said 'there is no command `chek`'
+same "$books/compact.csv"; said 'partsbook --help says'
+sed 's/^close 13 21/close 13 20/' "$books/engine.cert" > "$work/wrong.cert"
+same "$books/engine.csv" verify "$work/wrong.cert"; said 'wrong.cert, line 6: question 13 is not closed'
+same "$books/engine.csv" verify "$books/van.check.txt"; said 'is a report and no certificate'
+same "$books/engine.csv" verify "$work/none"; said "can't be read, or isn't there"
+changed engine.csv 's/M1+-G7/M1+-G8/'
+same "$books/engine.csv" compare 1 "$work/book.csv"; said "the fault is in $work/book.csv"
+same "$work/book.csv" compare 1 "$books/engine.csv"; grep -q 'the fault is in' "$work/said" && wrong 'a fault of the first book is told of the second'
+same "$books/engine.csv" compare 2000 "$books/engine.csv"; said "the day isn't in the term of book 1"
+
+# How large a check is, as the launcher shows it on a terminal: the slices are those of the report, and the questions those that the
+# program counts where there are too many.
+size() { LC_ALL=C awk -v mode=size -f "$top/tools/book.awk" "$1"; }
+for book in "$books"/*.csv; do
+    slices=$("$program" check < "$book" | grep -c '^slice')
+    [ "$(size "$book" | cut -d' ' -f1)" = "$slices" ] || wrong "$book: $(size "$book") for $slices slices"
+done
+awk 'BEGIN {
+    print "book,T,5,90\ncode,A,a\ncode,B,b\nconstruct,C,*,A,,4\nconstruct,D,*,A,91,"
+    for (p = 0; p < 12; p++) {
+        print "position,P" p ",," (p % 2 ? "mandatory" : "optional") "," (p == 3 ? "5," : ",")
+        for (v = 0; v < 199; v++) print "variant,V" p "N" v ",P" p ",X,1,A,,"
+    }
+}' > "$work/book.csv"
+same "$work/book.csv" check; said 'slice 0, counted from 0, has'
+[ "$(cat "$work/wanted")" = "limit questions 0 $(size "$work/book.csv" | cut -d' ' -f2)" ] || wrong "the questions are $(cat "$work/wanted"), and not $(size "$work/book.csv")"
+
+# Stores, and who holds one.
+out() { "$top/partsbook" "$@" < /dev/null > "$work/found" 2> "$work/said"; }
+tried=$((tried + 4))
+out rejudge "$work/new.db" 1 1; said 'a new one is made'; said 'the store has no book 1'
+out desk "$work/none/x.db"; said "there is no folder $work/none"
+(sleep 5 | "$program" desk "$work/new.db" > /dev/null) &
+sleep 0.5
+out desk "$work/new.db"; [ "$(cat "$work/found")" = 'store fault' ] || wrong 'two desks have one store'; said 'is held by process'
+wait
+"$program" desk "$work/old.db" < "$books/desk.http" > "$work/found"
+sqlite3 "$work/old.db" "update orders set codes = 'M2'"
+out desk "$work/old.db"; said "the order HALL1|7|1|1|M2 isn't right"
+
+# A service says when it listens, and where another has its port; a kill of the launcher ends the program.
+port=$((20000 + $$ % 20000))
+"$top/partsbook" serve "$work/serve.db" "$port" 1 1000 > /dev/null 2> "$work/said" < /dev/null &
+launcher=$!
+tries=50
+while ! grep -q listens "$work/said" && [ $((tries -= 1)) -gt 0 ]; do sleep 0.2; done
+said "listens at 127.0.0.1:$port"
+served=$(sed -n 's/.*process //p' "$work/said")
+out serve "$work/other.db" "$port" 1 1; said "port $port could not be opened"
+kill -9 "$launcher"
+wait "$launcher" 2> /dev/null
+sleep 0.5
+readlink -q "/proc/$served/exe" > /dev/null && wrong 'the program goes on behind a killed launcher'
+
+# Through a link, in another folder, and help.
+ln -s "$top/partsbook" "$work/linked"
+[ "$(cd "$work" && ./linked --quiet order 40 E60 TOW < "$books/compact.csv")" = 'refused ETOW' ] || wrong 'through a symbolic link it finds no program'
+for word in $("$top/partsbook" --help | sed -n 's/^  \([a-z]*\) .*/\1/p' | grep -v '^help$'); do
+    "$top/partsbook" help "$word" | grep -q "^partsbook" || wrong "there is no help for $word"
+done
+"$top/partsbook" --version | grep -q '^partsbook' || wrong 'there is no version'
+# One standard input for many commands: the second one isn't told of the first one's bytes.
+{ read -r _; "$top/partsbook" check 2> "$work/said" > "$work/found"; } < "$books/van.csv"
+grep -q read "$work/said" && wrong 'a book is counted whose first line another command has read'
+
+[ "$failed" = 0 ] && echo "launcher: $tried commands come out as the program's, and are told as they should be"
+exit "$failed"

@@ -1,0 +1,410 @@
+#!/usr/bin/env python3
+"""Tries the tools beside the program (docs/TOOLS.md) over the built program.
+
+    tests/tools.py [PART..]
+
+Parts: rows, torn, changed, copy, keep, next, sheet, report, common. Without one, all of them. It needs crates/partsbook/out/partsbook, or the
+program that PARTSBOOK_PROGRAM names, and for a part of `sheet` soffice, without which that part is left out. The status is 1 where
+something is otherwise.
+"""
+
+import collections
+import csv
+import io
+import json
+import os
+import pathlib
+import random
+import shutil
+import subprocess
+import sys
+import tempfile
+import threading
+import time
+
+sys.dont_write_bytecode = True
+TOP = pathlib.Path(__file__).resolve().parent.parent
+sys.path.insert(0, str(TOP / "tools"))
+import stores
+from book_rows import read_records
+from program import find_program
+from stores import flat, journal_of, read_journal, tables_of
+
+PROGRAM = os.environ.setdefault("PARTSBOOK_PROGRAM", find_program())
+failed = 0
+
+
+def check(what, holds, more=""):
+    global failed
+    if not holds:
+        failed += 1
+        print(f"wrong: {what} {more}", flush=True)
+
+
+def tool(name, *words, text=b""):
+    done = subprocess.run([TOP / "tools" / name, *words], input=text, capture_output=True, check=False)
+    return done.returncode, done.stdout.decode(), done.stderr.decode()
+
+
+def request(method, path, caller, body=b""):
+    return f"{method} {path} HTTP/1.1\r\nHost: desk\r\nX-Caller: {caller}\r\nContent-Length: {len(body)}\r\n\r\n".encode() + body
+
+
+def desk(store, requests):
+    return subprocess.run([PROGRAM, "desk", store], input=requests, capture_output=True, check=False)
+
+
+def example(name):
+    return (TOP / "examples" / name).read_bytes()
+
+
+def order(caller, number, code="M1"):
+    return request("PUT", f"/orders/{number}", caller, b'{"book":1,"day":1,"codes":["%s"]}' % code.encode())
+
+
+def filled(store, orders=20, drafts=5):
+    """A store with a book in force and one that is withdrawn, drafts that were put over, and orders of two callers."""
+    book = example("engine.csv")
+    asked = request("PUT", "/drafts/T", "ANNA", book) + request("POST", "/drafts/T/release", "ANNA", b'{"revision":1}')
+    asked += request("PUT", "/drafts/U", "BOB", book.replace(b"A100", b"A150")) + request("POST", "/drafts/U/release", "BOB", b'{"revision":1}')
+    for at in range(drafts):
+        asked += request("PUT", "/drafts/V", "BOB", b"text %d" % at)
+    for number in range(1, orders + 1):
+        asked += order(f"HALL{number % 2}", number)
+    asked += request("POST", "/books/2/withdraw", "BOB")
+    done = desk(store, asked)
+    check("a store is filled", done.returncode == 0, done.stdout[-200:])
+
+
+def rows(place):
+    """From a journal to SQLite and back, compacted, and listed as another reader lists it."""
+    filled(place / "a.journal")
+    for words in (("compact", "a.journal", "b.journal"), ("to-sqlite", "a.journal", "c.db"), ("from-sqlite", "c.db", "d.journal")):
+        status, _, said = tool("journal", words[0], place / words[1], place / words[2])
+        check(f"journal {words}", status == 0, said)
+    check("compacted and by way of SQLite it is the same", (place / "b.journal").read_bytes() == (place / "d.journal").read_bytes())
+    check("it is shorter", (place / "b.journal").stat().st_size < (place / "a.journal").stat().st_size)
+    lists = [tool("journal", "rows", place / f"{name}.journal")[1] for name in "abd"]
+    lists.append(subprocess.run([sys.executable, TOP / "tests" / "journal-rows.py", place / "a.journal"], capture_output=True, text=True, check=False).stdout)
+    check("each lists the same rows", len(set(lists)) == 1 and lists[0].count("order") == 20)
+    filled(place / "own.db")
+    check("a desk's own store of SQLite has the same rows", stores.read_store(place / "own.db") == stores.read_store(place / "c.db"))
+    dumps = {subprocess.run(["sqlite3", place / name, ".schema"], capture_output=True, check=False).stdout for name in ("own.db", "c.db")}
+    check("and the same schema", len(dumps) == 1)
+    check("a name that is there is refused", tool("journal", "compact", place / "a.journal", place / "b.journal")[0] == 1)
+    check("another ending is refused", tool("journal", "compact", place / "a.journal", place / "e.db")[0] == 1)
+    return "a journal of 29 records compacted, to SQLite and back: the same rows by two readers, the same schema as a desk's own"
+
+
+def torn(place):
+    """A journal that ends at any byte: what stands before is written, and a desk starts over it."""
+    filled(place / "whole.journal", orders=4, drafts=2)
+    data = (place / "whole.journal").read_bytes()
+    whole = stores.Journal(data)
+    begins = [at for at, _, _ in whole.records]
+    dice, counts = random.Random(1), collections.Counter()
+    cuts = sorted(set(range(len(data) - 40, len(data))) | set(dice.sample(range(9, len(data)), 20)))
+    for cut in cuts:
+        (place / "cut.journal").write_bytes(data[:cut])
+        (place / "out.journal").unlink(missing_ok=True)
+        status, said, error = tool("journal", "salvage", place / "cut.journal", place / "out.journal")
+        before = sum(end <= cut for end in [*begins[1:], whole.end])
+        if not (place / "out.journal").exists():
+            check(f"cut at {cut}", False, said + error)
+            continue
+        kept = len(stores.Journal((place / "out.journal").read_bytes()).records)
+        check(f"cut at {cut}: {kept} of {before} records", kept == before)
+        check(f"cut at {cut}: the status is {status}", status == (1 if cut < len(data) else 0))
+        counts[said.split(": ")[2].split(" of ")[0].split("\n")[0].strip("0123456789 ") if status else "whole"] += 1
+    return f"cut at {len(cuts)} bytes: each time all whole records were written, and a desk started over them"
+
+
+def changed(place):
+    """One byte of a journal is changed: salvage says so, or the desk sees it, or the row is another right one."""
+    filled(place / "whole.journal", orders=3, drafts=2)
+    data = (place / "whole.journal").read_bytes()
+    whole = stores.Journal(data)
+    dice, counts = random.Random(2), collections.Counter()
+    for _ in range(40):
+        at = dice.randrange(8, len(data) - 1)
+        other = bytearray(data)
+        other[at] ^= 1 << dice.randrange(8)
+        (place / "changed.journal").write_bytes(other)
+        (place / "out.journal").unlink(missing_ok=True)
+        status, said, error = tool("journal", "salvage", "--drop", place / "changed.journal", place / "out.journal")
+        check(f"byte {at}: something is written", (place / "out.journal").exists(), said + error)
+        if status == 0:
+            kind = "another gate, of which it warns" if "closed" in error else "another right row"
+        elif "damaged" in said:
+            kind = "damage, told with its byte"
+        else:
+            kind = "rows that a desk refuses, left out"
+        counts[kind] += 1
+    gate = bytearray(data)
+    gate[whole.records[3][0]] = 0
+    (place / "gate.journal").write_bytes(gate)
+    _, _, error = tool("journal", "salvage", place / "gate.journal", place / "gate-out.journal")
+    check("a closed gate is told", f"{len(whole.records) - 3} whole records stand behind it" in error, error)
+    (place / "early.journal").write_bytes(data.replace(b"HALL1", b"HALL!"))
+    status, _, error = tool("journal", "salvage", place / "early.journal", place / "early-out.journal")
+    check("without --drop a refused row is named", status == 1 and "HALL!" in error and not (place / "early-out.journal").exists(), error)
+    return "one bit changed 40 times: " + ", ".join(f"{count} {kind}" for kind, count in counts.most_common())
+
+
+def copy(place):
+    """Copies while a desk takes orders: each has every order that was answered before the copy began."""
+    store, answered, stop = place / "live.journal", [0], threading.Event()
+    filled(store, orders=2)
+    running = subprocess.Popen([PROGRAM, "desk", store], stdin=subprocess.PIPE, stdout=subprocess.PIPE)
+
+    def load():
+        number = 100
+        while not stop.is_set():
+            running.stdin.write(order("HALL9", number))
+            running.stdin.flush()
+            head = running.stdout.readline()
+            length = 0
+            while (line := running.stdout.readline()) != b"\r\n":
+                if line.lower().startswith(b"content-length"):
+                    length = int(line.split(b":")[1])
+            running.stdout.read(length)
+            if b" 201 " in head:
+                answered[0] += 1
+            number += 1
+            time.sleep(0.002)
+
+    worker = threading.Thread(target=load)
+    worker.start()
+    good = 0
+    for at in range(20):
+        before = answered[0]
+        name = "copy" if at % 2 else "backup"
+        if name == "copy":
+            status, said, error = tool("journal", "copy", store, place / f"copy-{at}.journal")
+            made = place / f"copy-{at}.journal"
+        else:
+            (place / f"b{at}").mkdir()
+            status, said, error = tool("desk-store", "backup", store, place / f"b{at}")
+            made = next(iter((place / f"b{at}").iterdir()), None)
+        if status:
+            check(f"{name} {at}", False, said + error)
+            continue
+        have = sum(row[0] == "HALL9" for row in stores.read_store(made)["orders"])
+        check(f"{name} {at} has {have} of {before}", have >= before)
+        good += have >= before
+    status, _, error = tool("journal", "compact", store, place / "no.journal")
+    check("compact refuses a journal that a desk has", status == 1 and "has" in error, error)
+    stop.set()
+    worker.join()
+    running.stdin.close()
+    running.wait()
+    return f"{good} of 20 copies and backups under load have what was answered before; {answered[0]} orders meanwhile"
+
+
+def keep(place):
+    """Backup, restore, why, and what restoring says of what is lost."""
+    for name in ("s.db", "s.journal"):
+        store, folder = place / name, place / f"backups-{name}"
+        folder.mkdir()
+        filled(store)
+        check("backup", tool("desk-store", "backup", store, folder)[0] == 0)
+        made = next(folder.iterdir())
+        desk(store, order("HALL7", 77))
+        status, said, error = tool("desk-store", "restore", made, store)
+        check("restore tells the order that is lost", status == 0 and "1 orders were kept" in said and "HALL7|77|1|1|M1" in said, said + error)
+        check("the rows are those of the backup", stores.read_store(store) == stores.read_store(made))
+        old = [it for it in place.iterdir() if it.name.startswith(name + ".until")]
+        check("the old store is kept, with the order", len(old) == 1 and ["HALL7", 77, 1, 1, "M1"] in stores.read_store(old[0])["orders"])
+    held = subprocess.Popen([PROGRAM, "desk", place / "s.db"], stdin=subprocess.PIPE, stdout=subprocess.DEVNULL)
+    held.stdin.write(request("GET", "/books/1", "BOB"))
+    held.stdin.flush()
+    while tool("desk-store", "why", place / "s.db")[0] == 0:
+        pass
+    status, said, _ = tool("desk-store", "why", place / "s.db")
+    check("why names who has it", status == 1 and f"process {held.pid}" in said, said)
+    check("backup of a store of SQLite that is held is refused", tool("desk-store", "backup", place / "s.db", place / "backups-s.db")[0] == 1)
+    check("so is look", tool("desk-store", "look", place / "s.db")[0] == 1)
+    # A kill leaves the log, which the backup has too.
+    held.stdin.write(order("HALL6", 66))
+    held.stdin.flush()
+    while not (place / "s.db-wal").exists() or (place / "s.db-wal").stat().st_size < 100:
+        pass
+    held.stdin.write(request("GET", "/orders/66", "HALL6"))
+    held.stdin.flush()
+    time.sleep(0.5)
+    held.kill()
+    held.wait()
+    (place / "after").mkdir()
+    status, _, error = tool("desk-store", "backup", place / "s.db", place / "after")
+    check("a backup after a kill has the log's orders", status == 0 and any(row[0] == "HALL6" for row in stores.read_store(next((place / "after").iterdir()))["orders"]), error)
+    reasons = {
+        "nowhere/x.db": "there is no folder", "folder": "is no file", "text.db": "is no database", "other.db": "without the tables",
+        "second.db": "hard link", "j.db": "a journal, whose name", "link.db": "is a link to nothing", "text.journal": "is damaged at byte 0",
+    }
+    (place / "folder").mkdir()
+    (place / "text.db").write_text("hello, this is a text of some length\n")
+    (place / "text.journal").write_text("hello, this is a text\n")
+    subprocess.run(["sqlite3", place / "other.db", "create table a (b)"], check=True)
+    filled(place / "first.db")
+    os.link(place / "first.db", place / "second.db")
+    shutil.copy(place / "s.journal", place / "j.db")
+    (place / "link.db").symlink_to("nothing")
+    for name, reason in reasons.items():
+        status, said, error = tool("desk-store", "why", place / name)
+        check(f"why {name}", status == 1 and reason in said, said + error)
+    return f"backup and restore of both kinds of stores, a backup after a kill, {len(reasons) + 1} reasons of a store fault"
+
+
+def next_(place):
+    """The next store has the drafts and the books in force, and with --all the same numbers."""
+    filled(place / "old.db")
+    status, said, error = tool("desk-store", "next", place / "old.db", place / "new.journal")
+    check("next", status == 0 and "book 1 of" in said and "is book 1 of" in said, said + error)
+    old, new = stores.read_store(place / "old.db"), stores.read_store(place / "new.journal")
+    check("the drafts have the same texts and owners", [(d[0], d[1], d[3]) for d in old["drafts"]] == [(d[0], d[1], d[3]) for d in new["drafts"]])
+    check("only the book in force is there", [b[3] for b in new["books"]] == [old["books"][0][3]] and not new["orders"])
+    status, said, error = tool("desk-store", "next", "--all", place / "old.db", place / "all.db")
+    every = stores.read_store(place / "all.db")
+    check("with --all the numbers stay", status == 0 and [b[::3] for b in every["books"]] == [b[::3] for b in old["books"]] and every["withdrawn"] == old["withdrawn"], said + error)
+    done = desk(place / "all.db", order("HALL1", 1) + request("PUT", "/orders/2", "HALL1", b'{"book":2,"day":1,"codes":["M1"]}'))
+    check("orders to them are answered as before", done.stdout.startswith(b"HTTP/1.1 201") and b"withdrawn 2" in done.stdout)
+    return "the next store: drafts with owners, books in force, and with --all all numbers"
+
+
+def sheet(place):
+    """Each book of examples/ as a spreadsheet and as saved texts, and cells that are refused."""
+    count = 0
+    for book in sorted((TOP / "examples").glob("*.csv")):
+        wanted = [r.fields for r in read_records(book.read_text())]
+        status, _, error = tool("to-sheet", book, place / f"{book.stem}.xlsx")
+        check(f"to-sheet {book.stem}", status == subprocess.run([PROGRAM, "check"], stdin=book.open("rb"), stdout=subprocess.DEVNULL, check=False).returncode, error)
+        status, text, error = tool("from-sheet", place / f"{book.stem}.xlsx")
+        check(f"{book.stem}.xlsx comes back", [r.fields for r in read_records(text)] == wanted, error)
+        count += 1
+        for delimiter in ",;\t":
+            for encoding in ("utf-8", "utf-8-sig", "utf-16", "utf-16-le", "utf-16-be", "cp1252"):
+                out = io.StringIO()
+                csv.writer(out, delimiter=delimiter, lineterminator="\r\n").writerows([[*row, *[""] * (8 - len(row))] for row in wanted])
+                (place / "saved").write_bytes(out.getvalue().encode(encoding))
+                status, text, error = tool("from-sheet", place / "saved")
+                check(f"{book.stem} {delimiter!r} {encoding}", status == 0 and [r.fields for r in read_records(text)] == wanted, error)
+                count += 1
+    spoilt = {
+        "1E+080": "an exponent", "1,00E+80": "an exponent", "01.02.": "a date", "1-Feb": "a date", "2027-02-01": "a date", "#NAME?": "an error",
+        "WAHR": "a truth value", "1,5": "a fraction", "########": "an error",
+    }
+    for cell, reason in spoilt.items():
+        (place / "spoilt").write_text(f"book;T;1;9\nvariant;V;P;{cell};1;A;;\n")
+        status, text, error = tool("from-sheet", place / "spoilt")
+        check(f"{cell} is refused", status == 1 and text == "" and f"D2: `{cell}`" in error and reason in error, error)
+    (place / "days").write_text("DATE;DAY\n11.01.2027;1\n20.12.2027;240\n")
+    (place / "dated").write_text("Art;Name;von;bis\nbook; T ;11.01.2027;2027-12-20\ncode;M1; hell, grün \n")
+    status, text, error = tool("from-sheet", "--days", place / "days", place / "dated")
+    check("dates by a table, blanks, a header", text == 'book,T,1,240\ncode,M1," hell, grün "\n', text + error)
+    (place / "dated").write_text("book;T;12.01.2027;2027-12-20\n")
+    check("a date without a row is refused", "C1: `12.01.2027` is a date that" in tool("from-sheet", "--days", place / "days", place / "dated")[2])
+    check("a date without a table is refused", "--days" in tool("from-sheet", place / "dated")[2])
+    said = f"{count} books as spreadsheets and as texts of 18 kinds came back with the same records; {len(spoilt) + 2} cells refused"
+    return said + office(place)
+
+
+def office(place):
+    """LibreOffice opens what to-sheet writes, and writes what from-sheet reads."""
+    if not shutil.which("soffice"):
+        return "; LibreOffice isn't there"
+    words = ["soffice", f"-env:UserInstallation=file://{place}/profile", "--headless", "--norestore"]
+    for to in ("xlsx", "csv:Text - txt - csv (StarCalc):59,34,76,1,,0,false,true,false"):
+        subprocess.run([*words, "--convert-to", to, "--outdir", place / "office", *sorted(place.glob("*.xlsx"))], stdout=subprocess.DEVNULL, stderr=subprocess.DEVNULL, check=False)
+    count = 0
+    for book in sorted((TOP / "examples").glob("*.csv")):
+        wanted = [r.fields for r in read_records(book.read_text())]
+        for end in ("xlsx", "csv"):
+            status, text, error = tool("from-sheet", place / "office" / f"{book.stem}.{end}")
+            check(f"{book.stem}.{end} by LibreOffice", [r.fields for r in read_records(text)] == wanted, error)
+            count += 1
+    return f"; {count} files that LibreOffice had opened and saved, too"
+
+
+def common(place):
+    """Whether any car is in both of two books, beside all sets of their codes, each ordered by both books."""
+    dice, counts = random.Random(3), collections.Counter()
+    for _ in range(25):
+        books = [drawn(dice) for _ in range(2)]
+        (place / "next.csv").write_bytes(books[1])
+        status, said, error = tool("compare", "5", place / "next.csv", text=books[0])
+        if "book T" in said:
+            counts["void"] += 1
+            continue
+        both = set.intersection(*(set(r.fields[1] for r in read_records(book.decode()) if r.kind == "code") for book in books))
+        cars = [cars_of(book, sorted(both)) for book in books]
+        wanted = "some car" if cars[0] & cars[1] else "no car"
+        check(f"{wanted} is in both", said.startswith(wanted), said + error)
+        if wanted == "some car":
+            check("the car is one", frozenset(said.split("\n")[0].split(": ")[1].split()) in cars[0] & cars[1], said)
+        check("the status", status == (1 if wanted == "no car" or "->" in said else 0), said)
+        counts[wanted] += 1
+    return "pairs of drawn books: " + ", ".join(f"{count} with {what}" for what, count in counts.items())
+
+
+def drawn(dice):
+    """A book of some of five codes, with rules of some days."""
+    codes = dice.sample("ABCDE", 4)
+    rows = ["book,T,1,9", *(f"code,{code},x" for code in codes)]
+    for at in range(3):
+        one, two, three = dice.sample(codes, 3)
+        rows.append(f"construct,C{at},{dice.choice(['*', one])},{dice.choice(['', '-'])}{two}{dice.choice('+/')}{dice.choice(['', '-'])}{three},{dice.choice(['', '3', '6'])},")
+    one, two, three = dice.sample(codes, 3)
+    rows.append(f"supplement,S1,10,{one},{two}/-{three},,")
+    rows += ["position,P,,mandatory,,", f"variant,V1,P,X1,1,{codes[0]},,", f"variant,V2,P,{dice.choice(['X1', 'X2'])},1,-{codes[0]},,"]
+    return "\n".join([*rows, ""]).encode()
+
+
+def cars_of(book, codes):
+    """The sets of these codes that are accepted on day 5 and complete to themselves."""
+    found = set()
+    for at in range(2 ** len(codes)):
+        car = [code for bit, code in enumerate(codes) if at >> bit & 1]
+        done = subprocess.run([PROGRAM, "order", "5", *car], input=book, capture_output=True, check=False)
+        lines = done.stdout.decode().splitlines()
+        if done.returncode == 0 and set(lines[1].split()[1:]) == set(car):
+            found.add(frozenset(car))
+    return found
+
+
+def report(place):
+    """The reports have each line of `check`, and texts of a book are never read as markup."""
+    count = 0
+    for book in sorted((TOP / "examples").glob("*.csv")):
+        data = book.read_bytes()
+        plain = subprocess.run([PROGRAM, "check"], input=data, capture_output=True, check=False)
+        lines = [line for line in plain.stdout.decode().splitlines() if line.split()[0] not in ("book", "slice", "end")]
+        status, text, _ = tool("report", "--json", text=data)
+        whole = json.loads(text)
+        found = [f for part in whole["slices"] for f in part["findings"]]
+        again = [" ".join([f["kind"], *f["names"]] + (["with", *(c["code"] for c in f["car"])] if f["car"] is not None else [])) for f in found]
+        check(f"report --json of {book.stem}", again == lines and status == plain.returncode)
+        check(f"report --csv of {book.stem}", len(list(csv.reader(io.StringIO(tool("report", "--csv", text=data)[1])))) == len(lines) + 1)
+        for finding in found:
+            for record in finding["records"]:
+                check("the lines are those of the book", data.decode().splitlines()[record["line"] - 1].split(",")[1] == record["fields"][1])
+        count += len(lines)
+    hostile = example("van.csv").replace(b"diesel 2.0", b'"<script>alert(1)</script>&""x"""')
+    page = tool("report", "--html", text=hostile)[1]
+    check("a text is no markup", "<script" not in page and "&lt;script&gt;" in page)
+    status, text, _ = tool("report", "--json", text=b"code,A,b\n")
+    check("a fault is told", status == 3 and json.loads(text)["fault"] == "book fault 1 3")
+    undecided = tool("report", "--budget", "1", text=example("tarn.csv"))
+    check("a budget is handed on", undecided[0] in (0, 7))
+    return f"{count} findings of 7 books, each with its rows"
+
+
+def main(words):
+    parts = {"rows": rows, "torn": torn, "changed": changed, "copy": copy, "keep": keep, "next": next_, "sheet": sheet, "report": report, "common": common}
+    for name in words or parts:
+        with tempfile.TemporaryDirectory(dir="/dev/shm" if os.path.isdir("/dev/shm") else None) as place:
+            print(f"{name}: {parts[name](pathlib.Path(place))}", flush=True)
+    return 1 if failed else 0
+
+
+if __name__ == "__main__":
+    sys.exit(main(sys.argv[1:]))
