@@ -23,6 +23,7 @@ use Rattle.clausify.proofs.ItemLaws.{items_named, length-items_named}
 use Rattle.clausify.proofs.LiftLaws.{lifted, IsLiftedOver, truth_from_sat}
 use Rattle.clausify.proofs.ListLaws.{all-append, all_first, all_last, all-map, all_filtered}
 use Rattle.solver.specs.Answer.{Begins, IsSpent}
+use Rattle.solver.proofs.OneLaws.{in_one}
 use Rattle.solver.specs.Solver.{Solving, Onwards}
 use Rattle.chosen_parts.specs.Chosen.{position_place, part_use, is_same_use, chosen_at, chosen, AreFew}
 use Rattle.chosen_parts.specs.declared.part_use.PartUse.{PartUse}
@@ -115,7 +116,7 @@ absent_in n a set same [] below gone = tt
 absent_in n a set same (v ∷ vs) below gone = (sym (same v below.0) ∙ gone.0, absent_in n a set same vs below.1 gone.1)
 
 pub differs_with : (first second : Contents) (day : ℕ) (ps : List Place) (at : ℕ) (p : Place) (set : List Bool) → AreBooks first second day → IsDistinct same_name first.codes → slice_get ps at ≡ Some p
-    → Begins (searched_clauses first second day ps) (goal_at first second day ps at) (length first.codes) set → DiffersWith first second day p.id (picked first.codes set)
+    → Begins (searched_clauses first second day ps) (goal_at first second day ps at ∷ []) (length first.codes) set → DiffersWith first second day p.id (picked first.codes set)
 differs_with first second day ps at p set books apart there found = record {
   common = record {
     distinct = picked_distinct 0 set first.codes apart;
@@ -152,7 +153,7 @@ differs_with first second day ps at p set books apart there found = record {
     some : list_any (differs a) (asked_keys first second day p.id) ≡ true
     some =
         differs_together a (length first.codes) (joint_variables first second day) (place_keys first second day ps) at (asked_keys first second day p.id) truth
-        (all_last _ (joint_clauses first second day) _ found.satisfied) (keys_there first second day ps at p there) found.assumed
+        (all_last _ (joint_clauses first second day) _ found.satisfied) (keys_there first second day ps at p there) (found.assumed (goal_at first second day ps at) (in_one (goal_at first second day ps at)))
 
 -- assignments that agree on the literals of the usages
 
@@ -322,17 +323,17 @@ alike_when_closed first second day ps at p s place books there over follow close
 
 -- the solver's answers, over the clauses of positions
 
-pub begins_over : (first second : Contents) (day : ℕ) (ps : List Place) (s : Solving) (goal : ℕ) (set : List Bool) → IsOver first second day ps s → Begins (given_of s.kernel) goal s.codes set
-    → Begins (searched_clauses first second day ps) goal (length first.codes) set
+pub begins_over : (first second : Contents) (day : ℕ) (ps : List Place) (s : Solving) (goal : ℕ) (set : List Bool) → IsOver first second day ps s → Begins (given_of s.kernel) (goal ∷ []) s.codes set
+    → Begins (searched_clauses first second day ps) (goal ∷ []) (length first.codes) set
 begins_over first second day ps s goal set over found =
-    subst (λ (n : ℕ). Begins (searched_clauses first second day ps) goal n set) over.codes
-    (subst (λ (cs : List (List ℕ)). Begins cs goal s.codes set) over.given found)
+    subst (λ (n : ℕ). Begins (searched_clauses first second day ps) (goal ∷ []) n set) over.codes
+    (subst (λ (cs : List (List ℕ)). Begins cs (goal ∷ []) s.codes set) over.given found)
 
-pub spent_over : (first second : Contents) (day : ℕ) (ps : List Place) (s : Solving) (goal budget : ℕ) (learnt : List (List ℕ)) → IsOver first second day ps s → IsSpent s.vars (given_of s.kernel) goal budget learnt
-    → IsSpent (searched_variables first second day ps) (searched_clauses first second day ps) goal budget learnt
+pub spent_over : (first second : Contents) (day : ℕ) (ps : List Place) (s : Solving) (goal budget : ℕ) (learnt : List (List ℕ)) → IsOver first second day ps s → IsSpent s.vars (given_of s.kernel) (goal ∷ []) budget learnt
+    → IsSpent (searched_variables first second day ps) (searched_clauses first second day ps) (goal ∷ []) budget learnt
 spent_over first second day ps s goal budget learnt over spent =
-    subst (λ (n : ℕ). IsSpent n (searched_clauses first second day ps) goal budget learnt) over.variables
-    (subst (λ (cs : List (List ℕ)). IsSpent s.vars cs goal budget learnt) over.given spent)
+    subst (λ (n : ℕ). IsSpent n (searched_clauses first second day ps) (goal ∷ []) budget learnt) over.variables
+    (subst (λ (cs : List (List ℕ)). IsSpent s.vars cs (goal ∷ []) budget learnt) over.given spent)
 
 -- a solver that derived further clauses is still over the same
 pub over_onwards : (first second : Contents) (day : ℕ) (ps : List Place) (old new : Solving) → IsOver first second day ps old → Onwards old new → IsOver first second day ps new
@@ -344,13 +345,13 @@ over_onwards first second day ps old new over on = record {
 
 -- over the clauses of one position alone
 pub left_alone : (first second : Contents) (day budget : ℕ) (p : Place) (learnt : List (List ℕ))
-    → IsSpent (searched_variables first second day (p ∷ [])) (searched_clauses first second day (p ∷ [])) (goal_at first second day (p ∷ []) 0) budget learnt → IsLeft first second day budget p.id learnt
+    → IsSpent (searched_variables first second day (p ∷ [])) (searched_clauses first second day (p ∷ [])) (goal_at first second day (p ∷ []) 0 ∷ []) budget learnt → IsLeft first second day budget p.id learnt
 left_alone first second day budget p learnt spent =
     let variables : searched_variables first second day (p ∷ []) ≡ asked_variables first second day p.id = omega arith in
     let clauses : searched_clauses first second day (p ∷ []) ≡ asked_clauses first second day p.id =
     ap (λ (cs : List (List ℕ)). joint_clauses first second day ++ cs) (append-nil (position_clauses (length first.codes) (joint_variables first second day) (asked_keys first second day p.id))) in
-    subst (λ (n : ℕ). IsSpent n (asked_clauses first second day p.id) (asked_goal first second day p.id) budget learnt) variables
-    (subst (λ (cs : List (List ℕ)). IsSpent (searched_variables first second day (p ∷ [])) cs (asked_goal first second day p.id) budget learnt) clauses spent)
+    subst (λ (n : ℕ). IsSpent n (asked_clauses first second day p.id) (asked_goal first second day p.id ∷ []) budget learnt) variables
+    (subst (λ (cs : List (List ℕ)). IsSpent (searched_variables first second day (p ∷ [])) cs (asked_goal first second day p.id ∷ []) budget learnt) clauses spent)
 
 -- what came of a search is told of the position, whatever was given up
 pub found_from : (first second : Contents) (day budget : ℕ) (ps : List Place) (at : ℕ) (id : List ℕ) (o : Outcome) → IsOutcome first second day budget ps at id o → IsFound first second day id o

@@ -20,7 +20,7 @@ use Rattle.book_compare.specs.declared.place.Place.{Place}
 -- the search over the position's clauses was given up, after so many clauses that it learnt
 abbrev pub IsLeft : Contents → Contents → ℕ → ℕ → List ℕ → List (List ℕ) → Type 0
 IsLeft first second day budget id learnt =
-    IsSpent (asked_variables first second day id) (asked_clauses first second day id) (asked_goal first second day id) budget learnt
+    IsSpent (asked_variables first second day id) (asked_clauses first second day id) (asked_goal first second day id ∷ []) budget learnt
 
 abbrev pub IsNote : Contents → Contents → ℕ → ℕ → List ℕ → CompareNote → Type 0
 IsNote first second day budget id (Finding position names) = (position ≡ id) × DiffersWith first second day id names

@@ -66,7 +66,7 @@ abbrev pub IsOutcome : Contents → Contents → ℕ → ℕ → List Place → 
 IsOutcome first second day budget ps at id (Differs names) = DiffersWith first second day id names
 IsOutcome first second day budget ps at id Alike = AreAlike first second day id
 IsOutcome first second day budget ps at id (Left learnt) =
-    IsSpent (searched_variables first second day ps) (searched_clauses first second day ps) (goal_at first second day ps at) budget learnt.clauses
+    IsSpent (searched_variables first second day ps) (searched_clauses first second day ps) (goal_at first second day ps at ∷ []) budget learnt.clauses
 
 -- the same where nothing is said of a search that was given up
 abbrev pub IsFound : Contents → Contents → ℕ → List ℕ → Outcome → Type 0

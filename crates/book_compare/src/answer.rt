@@ -280,7 +280,7 @@ fn ask(
     ensures outcome { IfOk result (IsOutcome first.now second.now day budget places.now at place.now.id) }
 {
     let goal = goal_of(&searching.goals, at);
-    let answer = searching.solver.solve(goal, budget)?;
+    let answer = searching.solver.solve(&[goal], budget)?;
     read_answer(
         alloc,
         first,
@@ -319,7 +319,7 @@ fn read_answer(
     requires books { AreBooks first.now second.now day }
     requires over { IsOver first.now second.now day places.now solver.now }
     requires there { slice_get places.now at ≡ Some place.now }
-    requires right { IsRight solver.now (goal_at first.now second.now day places.now at) budget answer }
+    requires right { IsRight solver.now (goal_at first.now second.now day places.now at ∷ []) budget answer }
     ensures { IfOk result (IsOutcome first.now second.now day budget places.now at place.now.id) }
 {
     match answer {

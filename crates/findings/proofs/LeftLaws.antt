@@ -10,6 +10,7 @@ use Rattle.clausify.specs.Coded.{slice_clauses, slice_variables, slice_asked}
 use Rattle.clausify.specs.declared.question.Asked.{Asked}
 use Rattle.derivation.proofs.LimitLaws.{slices_are_all, slices_from_within}
 use Rattle.solver.proofs.CountLaws.{spent_within, spent_quiet}
+use Rattle.solver.proofs.OneLaws.{in_one}
 use Rattle.findings.specs.Left.{IsLeftOpen, IsAmple}
 use Rattle.findings.specs.Notes.{Inquiry, InParts, OwnNotes, AfterVoid, QuestionNotes, SliceNotes, IsReport, is_asked, is_fault, is_left, verdict_of}
 use Rattle.findings.specs.declared.report.Note.{Note}
@@ -51,7 +52,7 @@ module _ (i : Inquiry) (s : Slice) (some : 0 < i.budget) (then : IsDayOf i.book 
   own_open a (Days first last ∷ []) at h = absurd h
   own_open a (Finding question set ∷ []) at h = (tt, tt)
   own_open a (Undecided question learnt ∷ []) at h =
-      let quiet = spent_quiet (slice_variables i.book s.first) (slice_clauses i.book s.first) a.goal i.budget learnt.clauses h.1 some in (
+      let quiet = spent_quiet (slice_variables i.book s.first) (slice_clauses i.book s.first) (a.goal ∷ []) i.budget learnt.clauses h.1 some in (
         record {
           day = s.first;
           not_before = then.0;
@@ -62,8 +63,8 @@ module _ (i : Inquiry) (s : Slice) (some : 0 < i.budget) (then : IsDayOf i.book 
           same = h.0;
           quiet_set = quiet.0;
           quiet = quiet.1;
-          has_goal = quiet.2;
-          within = spent_within (slice_variables i.book s.first) (slice_clauses i.book s.first) a.goal i.budget learnt.clauses h.1;
+          has_goal = quiet.2 a.goal (in_one a.goal);
+          within = spent_within (slice_variables i.book s.first) (slice_clauses i.book s.first) (a.goal ∷ []) i.budget learnt.clauses h.1;
         },
         tt,
       )

@@ -1,5 +1,5 @@
 -- What an answer over the clauses of a slice says of the sets that are good on its days.
-use Rattle.std.proofs.Common.{◌≡◌, ℕ, ◌≤◌, Bool, true, not, List, Some, length, sym, ap, ◌∙◌, arith}
+use Rattle.std.proofs.Common.{◌≡◌, ℕ, ◌≤◌, Bool, true, not, List, [], ◌∷◌, Some, length, sym, ap, ◌∙◌, arith}
 use Rattle.std.specs.Prelude.{IsTrue}
 use Rattle.std.specs.List.{slice_get}
 use Rattle.std.proofs.lemmas.Bool.{and_from, le-leb, true≢false}
@@ -19,6 +19,7 @@ use Rattle.clausify.specs.declared.question.Asked.{Asked}
 use Rattle.clausify.specs.declared.question.Question.{Question}
 use Rattle.chains.specs.Growth.{Refutes}
 use Rattle.solver.specs.Answer.{Begins}
+use Rattle.solver.proofs.OneLaws.{in_one}
 use Rattle.findings.specs.Findings.{MeetsThrough}
 use Rattle.findings.specs.Answering.{SliceFacts}
 
@@ -26,7 +27,7 @@ use Rattle.findings.specs.Answering.{SliceFacts}
 pub on_first : (s : Slice) → s.first ≤ s.last → is_within s.first s.last s.first ≡ true
 on_first s order = and_from _ _ (le-leb s.first s.first (omega arith)) (le-leb s.first s.last order)
 
-begins_with : (given : List (List ℕ)) (g codes : ℕ) (x : List Bool) → (h : Begins given g codes x) → BeginsWith x h.assignment
+begins_with : (given : List (List ℕ)) (g codes : ℕ) (x : List Bool) → (h : Begins given (g ∷ []) codes x) → BeginsWith x h.assignment
 begins_with given g codes x h = λ i below. h.begins i (omega (arith, below, h.counted))
 
 -- the truth of a goal on a day, over a satisfying assignment that begins with the set
@@ -36,13 +37,13 @@ goal_on_day b s day k a x v is h = all_found (λ (p : Asked). is_true v p.goal �
 
 -- a set that begins a satisfying assignment is good on each day of the slice, and meets each goal that is true there
 pub meets_from_begins : (b : Contents) (s : Slice) (k : ℕ) (a : Asked) (x : List Bool) → SliceFacts b s → slice_get (slice_asked b s.first) k ≡ Some a
-    → Begins (slice_clauses b s.first) a.goal (length b.codes) x → MeetsThrough b s a.question x
+    → Begins (slice_clauses b s.first) (a.goal ∷ []) (length b.codes) x → MeetsThrough b s a.question x
 meets_from_begins b s k a x facts is h =
     let then = λ (day : ℕ) (within : IsTrue (is_within s.first s.last day)).
     (facts.on_each_day day within).begins_good h.assignment x h.counted (begins_with (slice_clauses b s.first) a.goal (length b.codes) x h) h.satisfied in
     record {
       good_then = λ day within. (then day within).is_good_then;
-      met_then = λ day within. sym (goal_on_day b s day k a x h.assignment is (then day within)) ∙ h.assumed;
+      met_then = λ day within. sym (goal_on_day b s day k a x h.assignment is (then day within)) ∙ h.assumed a.goal (in_one a.goal);
     }
 
 -- a set that is good on the first day of the slice is good on each

@@ -1,5 +1,5 @@
 -- What the solver's answers say of the questions of a slice.
-use Rattle.std.proofs.Common.{◌≡◌, ℕ, Bool, List, Some, Result, Ok, Err, length, sym, subst, ◌∙◌}
+use Rattle.std.proofs.Common.{◌≡◌, ℕ, Bool, List, [], ◌∷◌, Some, Result, Ok, Err, length, sym, subst, ◌∙◌}
 use Rattle.std.specs.Result.{IfOk}
 use Rattle.std.specs.List.{slice_get}
 use Rattle.book_model.specs.Contents.{Contents}
@@ -25,24 +25,24 @@ over_onwards b s old new h on = record {
   codes = on.same_codes ∙ h.codes;
 }
 
-pub begins_by_solver : (b : Contents) (s : Slice) (g : ℕ) (solving : Solving) (x : List Bool) → IsOver b s solving → Begins (given_of solving.kernel) g solving.codes x
-    → Begins (slice_clauses b s.first) g (length b.codes) x
+pub begins_by_solver : (b : Contents) (s : Slice) (g : ℕ) (solving : Solving) (x : List Bool) → IsOver b s solving → Begins (given_of solving.kernel) (g ∷ []) solving.codes x
+    → Begins (slice_clauses b s.first) (g ∷ []) (length b.codes) x
 begins_by_solver b s g solving x over h =
-    subst (λ (n : ℕ). Begins (slice_clauses b s.first) g n x) over.codes
-    (subst (λ (cs : List (List ℕ)). Begins cs g solving.codes x) over.stands.given h)
+    subst (λ (n : ℕ). Begins (slice_clauses b s.first) (g ∷ []) n x) over.codes
+    (subst (λ (cs : List (List ℕ)). Begins cs (g ∷ []) solving.codes x) over.stands.given h)
 
 pub meets_by_solver : (b : Contents) (s : Slice) (k : ℕ) (a : Asked) (solving : Solving) (x : List Bool) → SliceFacts b s → slice_get (slice_asked b s.first) k ≡ Some a
-    → IsOver b s solving → Begins (given_of solving.kernel) a.goal solving.codes x → MeetsThrough b s a.question x
+    → IsOver b s solving → Begins (given_of solving.kernel) (a.goal ∷ []) solving.codes x → MeetsThrough b s a.question x
 meets_by_solver b s k a solving x facts is over h = meets_from_begins b s k a x facts is (begins_by_solver b s a.goal solving x over h)
 
-pub counted_by_solver : (b : Contents) (s : Slice) (g : ℕ) (solving : Solving) (x : List Bool) → IsOver b s solving → Begins (given_of solving.kernel) g solving.codes x → length x ≡ length b.codes
+pub counted_by_solver : (b : Contents) (s : Slice) (g : ℕ) (solving : Solving) (x : List Bool) → IsOver b s solving → Begins (given_of solving.kernel) (g ∷ []) solving.codes x → length x ≡ length b.codes
 counted_by_solver b s g solving x over h = h.counted ∙ over.codes
 
 pub spent_by_solver : (b : Contents) (s : Slice) (g budget : ℕ) (solving : Solving) (learnt : List (List ℕ)) → IsOver b s solving
-    → IsSpent solving.vars (given_of solving.kernel) g budget learnt → IsSpent (slice_variables b s.first) (slice_clauses b s.first) g budget learnt
+    → IsSpent solving.vars (given_of solving.kernel) (g ∷ []) budget learnt → IsSpent (slice_variables b s.first) (slice_clauses b s.first) (g ∷ []) budget learnt
 spent_by_solver b s g budget solving learnt over h =
-    subst (λ (n : ℕ). IsSpent n (slice_clauses b s.first) g budget learnt) over.variables
-    (subst (λ (cs : List (List ℕ)). IsSpent solving.vars cs g budget learnt) over.stands.given h)
+    subst (λ (n : ℕ). IsSpent n (slice_clauses b s.first) (g ∷ []) budget learnt) over.variables
+    (subst (λ (cs : List (List ℕ)). IsSpent solving.vars cs (g ∷ []) budget learnt) over.stands.given h)
 
 pub none_by_solver : (b : Contents) (s : Slice) (k : ℕ) (a : Asked) (solving : Solving) (at : ℕ) → SliceFacts b s → slice_get (slice_asked b s.first) k ≡ Some a
     → given_of solving.kernel ≡ slice_clauses b s.first → AllFollow solving.kernel → ClosedBy solving.kernel a.goal at → HasSet b s a.question → ⊥

@@ -76,7 +76,7 @@ clause_outcome i s clauses a at fits none closed =
     (λ may. ((refl, (may, none)), ap (λ (t : Bool). t || false) (blocking_fits i.book a.question fits) ∙ or_false (is_to_close a.question)))
 
 pub left_outcome : (i : Inquiry) (s : Slice) (clauses : List (List ℕ)) (a : Asked) (learnt : PoolContents) → QuestionFits i.book a.question
-    → IsSpent (slice_variables i.book s.first) (slice_clauses i.book s.first) a.goal i.budget learnt.clauses
+    → IsSpent (slice_variables i.book s.first) (slice_clauses i.book s.first) (a.goal ∷ []) i.budget learnt.clauses
     → IsOutcome i s clauses a (Noted (Undecided a.question learnt))
 left_outcome i s clauses a learnt fits spent = ((refl, spent), blocking_fits i.book a.question fits)
 

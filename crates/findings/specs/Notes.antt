@@ -59,7 +59,7 @@ IsNoteOf i s a (Days first last) = ⊥
 IsNoteOf i s a (Finding question set) = (question ≡ a.question) × IsFinding i.book s a.question set
 IsNoteOf i s a (Undecided question learnt) =
     (question ≡ a.question)
-    × IsSpent (slice_variables i.book s.first) (slice_clauses i.book s.first) a.goal i.budget learnt.clauses
+    × IsSpent (slice_variables i.book s.first) (slice_clauses i.book s.first) (a.goal ∷ []) i.budget learnt.clauses
 
 -- a question has one note or none
 abbrev pub OwnNotes : Inquiry → Slice → Asked → List Note → Type 0

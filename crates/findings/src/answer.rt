@@ -72,7 +72,7 @@ fn answer_by_search(
         solver.new.kernel.clauses asked.now) }
 {
     known.point(solver, book, task.slice.first, sets, asked.question);
-    let searched = solver.solve(asked.goal, task.effort.budget)?;
+    let searched = solver.solve(&[asked.goal], task.effort.budget)?;
     match searched {
         Answer::Set(set) => {
             return keep(alloc, book, task.slice.first, asked.question, set, sets);

@@ -220,10 +220,10 @@ fn ask_void(
     requires most { task.effort.budget ≤ MOST_BUDGET }
     ensures onwards { Onwards solver.old solver.new }
     ensures answer { IfOk result
-        (IsRight solver.new (void_asked (length book.now.codes)).goal task.effort.budget) }
+        (IsRight solver.new ((void_asked (length book.now.codes)).goal ∷ []) task.effort.budget) }
 {
     let _codes = book.codes();
-    solver.solve(first_goal(questions), task.effort.budget)
+    solver.solve(&[first_goal(questions)], task.effort.budget)
 }
 
 // What is told of a slice without a good set: a clause of the kernel refutes the goal of Void.
@@ -253,7 +253,7 @@ fn void_closed(
 fn void_left(alloc: Global, book: &Book, task: SliceTask, learnt: Pool) -> Result<SliceTold, Memory>
     requires spent { IsSpent (slice_variables book.now task.slice.first)
         (slice_clauses book.now task.slice.first)
-        (void_asked (length book.now.codes)).goal task.effort.budget learnt.clauses }
+        ((void_asked (length book.now.codes)).goal ∷ []) task.effort.budget learnt.clauses }
     ensures notes { IfOk result (λ t. SliceNotes (inquiry book.now task.effort) task.slice t.notes.items) }
     ensures stopped { IfOk result (λ t. list_any stops t.notes.items ≡ true) }
     ensures none { IfOk result (λ t. t.shown ≡ None) }

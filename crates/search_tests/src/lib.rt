@@ -2,6 +2,8 @@
 #![tactic(auto)]
 
 #[cfg(test)]
+mod assumed;
+#[cfg(test)]
 mod chain_steps;
 #[cfg(test)]
 mod coded;

@@ -51,7 +51,7 @@ fn refuted(alloc: Global, clauses: Pool, vars: u32, codes: u32, goal: Lit) -> Re
 {
     let mut solver = Solver::new(alloc, Kernel::of(alloc, clauses), vars, codes)?;
     if goal.var() < vars {
-        solver.solve(goal, 100)?;
+        solver.solve(&[goal], 100)?;
     }
     Ok(solver.into_kernel())
 }

@@ -13,7 +13,7 @@ use std::alloc::Global;
 use std::test::Fail;
 
 // The variable of a digit, or of a letter from `a` for 10 on.
-fn var_of(byte: u8) -> Option<u32>
+pub(crate) fn var_of(byte: u8) -> Option<u32>
     ensures { IfSome result (λ var. var < 36) }
 {
     match byte {
@@ -55,7 +55,7 @@ fn clauses_of(alloc: Global, text: &[u8]) -> Result<Pool, Memory>
 }
 
 // A solver of 36 variables, of which five are codes.
-fn solver_of(alloc: Global, text: &[u8]) -> Result<Solver, Memory>
+pub(crate) fn solver_of(alloc: Global, text: &[u8]) -> Result<Solver, Memory>
     ensures { IfOk result (λ solver. solver.vars ≡ 36) }
 {
     let pool = clauses_of(alloc, text)?;
@@ -230,7 +230,7 @@ fn is_refuted_within(solver: &mut Solver, budget: u32) -> Result<bool, Memory>
     requires budget { budget ≤ MOST_BUDGET }
     ensures { solver.new.vars ≡ solver.old.vars }
 {
-    let answer = solver.solve(Lit::new(12, true), budget)?;
+    let answer = solver.solve(&[Lit::new(12, true)], budget)?;
     Ok(closes(solver, &answer, Lit::new(12, false)))
 }
 

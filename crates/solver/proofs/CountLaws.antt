@@ -11,7 +11,7 @@ use Rattle.clause_pool.specs.Clause.{has, AreBelow}
 use Rattle.clause_pool.proofs.LiteralLaws.{even_or_odd, complement-positive, complement-complement}
 use Rattle.clause_pool.proofs.ClauseLaws.{all_at}
 use Rattle.propagate.specs.Quiet.{Quiet, IsQuietFor}
-use Rattle.solver.specs.Answer.{IsNew, IsSpent}
+use Rattle.solver.specs.Answer.{AreHeld, IsNew, IsSpent}
 use Rattle.solver.proofs.EndLaws.{all_first, all_second}
 use Rattle.solver.proofs.PoolLaws.{clause_below}
 
@@ -70,8 +70,8 @@ same_literals c d n l f g e low =
       | inr odd ↦ let is : l ≡ 2 * (l / 2) + 1 = omega (arith, odd) in ap (has c) is ∙ both.1 ∙ sym (ap (has d) is)
     ]
 
-no_pair : (clauses : List (List ℕ)) (g : ℕ) (c : List ℕ) → IsNew clauses g c → HasNoPair c
-no_pair clauses g c h v even odd =
+no_pair : (clauses : List (List ℕ)) (a c : List ℕ) → IsNew clauses a c → HasNoPair c
+no_pair clauses a c h v even odd =
     let x : ℕ = h.open_literal in
     let minus : complement (2 * v) ≡ 2 * v + 1 = complement-positive v in
     let plus : complement (2 * v + 1) ≡ 2 * v = sym (ap complement minus) ∙ complement-complement (2 * v) in
@@ -84,8 +84,8 @@ no_pair clauses g c h v even odd =
     ]
 
 -- no clause before has the same literals
-not_before : (clauses : List (List ℕ)) (g : ℕ) (c d : List ℕ) (h : IsNew clauses g c) → IsQuietFor h.quiet_set d → ((l : ℕ) → has c l ≡ has d l) → ⊥
-not_before clauses g c d h q same =
+not_before : (clauses : List (List ℕ)) (a c d : List ℕ) (h : IsNew clauses a c) → IsQuietFor h.quiet_set d → ((l : ℕ) → has c l ≡ has d l) → ⊥
+not_before clauses a c d h q same =
     h.not_true (q.unit_true h.open_literal (sym (same h.open_literal) ∙ h.is_in) (λ l is_in other. h.others_false l (same l ∙ is_in) other))
 
 -- a literal past the bound is in no clause
@@ -108,7 +108,7 @@ any_below f bound q (c ∷ cs) low found = elim (or_cases (eqb q (f c)) (list_an
   | inr later ↦ any_below f bound q cs low later
 ]
 
-module _ (vars : ℕ) (given : List (List ℕ)) (g budget : ℕ) (learnt : List (List ℕ)) (spent : IsSpent vars given g budget learnt) where
+module _ (vars : ℕ) (given : List (List ℕ)) (a : List ℕ) (budget : ℕ) (learnt : List (List ℕ)) (spent : IsSpent vars given a budget learnt) where
   apart : (i j : ℕ) → i < j → j < budget → number (get_or learnt i []) vars ≡ number (get_or learnt j []) vars → ⊥
   apart i j less within e =
       let count = spent.count in
@@ -117,16 +117,16 @@ module _ (vars : ℕ) (given : List (List ℕ)) (g budget : ℕ) (learnt : List 
       let front : get_or (take j learnt) i [] ≡ get_or learnt i [] = get_or-take j learnt i [] (omega (arith, less)) in
       let quiet = all_at (IsQuietFor later.quiet_set) (take j learnt) [] i (all_second (IsQuietFor later.quiet_set) given (take j learnt) later.quiet.each)
       (omega (arith, less, length-take-le j learnt (omega (arith, within, count)))) in
-      not_before (given ++ take j learnt) g (get_or learnt j []) (get_or learnt i []) later (subst (IsQuietFor later.quiet_set) front quiet)
+      not_before (given ++ take j learnt) a (get_or learnt j []) (get_or learnt i []) later (subst (IsQuietFor later.quiet_set) front quiet)
       (λ l. elim (le_or_lt (2 * vars) l) [
         | inl high ↦ past_bound (2 * vars) learnt j l spent.below high ∙ sym (past_bound (2 * vars) learnt i l spent.below high)
         | inr low ↦ same_literals (get_or learnt j []) (get_or learnt i []) vars l
-            (no_pair (given ++ take j learnt) g (get_or learnt j []) later) (no_pair (given ++ take i learnt) g (get_or learnt i []) earlier) (sym e) low
+            (no_pair (given ++ take j learnt) a (get_or learnt j []) later) (no_pair (given ++ take i learnt) a (get_or learnt i []) earlier) (sym e) low
       ])
 
 -- no more than 3 ^ vars clauses over so many variables are new one after the other
-pub spent_within : (vars : ℕ) (given : List (List ℕ)) (g budget : ℕ) (learnt : List (List ℕ)) → IsSpent vars given g budget learnt → budget ≤ 3 ^ vars
-spent_within vars given g budget learnt spent =
+pub spent_within : (vars : ℕ) (given : List (List ℕ)) (a : List ℕ) (budget : ℕ) (learnt : List (List ℕ)) → IsSpent vars given a budget learnt → budget ≤ 3 ^ vars
+spent_within vars given a budget learnt spent =
     let count = spent.count in
     let f : List ℕ → ℕ = λ c. number c vars in
     let len : length (map f learnt) ≡ budget = length-map learnt f ∙ count in
@@ -135,15 +135,15 @@ spent_within vars given g budget learnt spent =
     let distinct : IsDistinct eqb (map f learnt) = IsDistinct-from_apart eqb (map f learnt) (λ i j d less low.
     let high : j < budget = omega (arith, low, len) in
     ne_eqb (get_or (map f learnt) i d) (get_or (map f learnt) j d)
-    (λ e. apart vars given g budget learnt spent i j less high (sym (read i d (omega (arith, less, high))) ∙ e ∙ read j d high))) in
+    (λ e. apart vars given a budget learnt spent i j less high (sym (read i d (omega (arith, less, high))) ∙ e ∙ read j d high))) in
     let bound = length-le_from_distinct_below (map f learnt) (3 ^ vars) distinct
     (λ q found. any_below f (3 ^ vars) q learnt (λ c. number_below c vars) found) in
     omega (arith, bound, len)
 
--- the first of them shows a quiet set of the given clauses that holds the assumption
-pub spent_quiet : (vars : ℕ) (given : List (List ℕ)) (g budget : ℕ) (learnt : List (List ℕ)) → IsSpent vars given g budget learnt → 0 < budget
-    → (lits : List ℕ) × Quiet given lits × (has lits g ≡ true)
-spent_quiet vars given g budget learnt spent some =
+-- the first of them shows a quiet set of the given clauses that holds the assumptions
+pub spent_quiet : (vars : ℕ) (given : List (List ℕ)) (a : List ℕ) (budget : ℕ) (learnt : List (List ℕ)) → IsSpent vars given a budget learnt → 0 < budget
+    → (lits : List ℕ) × Quiet given lits × AreHeld a lits
+spent_quiet vars given a budget learnt spent some =
     let n = (spent.each 0 some).is_new in (
       n.quiet_set,
       record { consistent = n.quiet.consistent; each = all_first (IsQuietFor n.quiet_set) given (take 0 learnt) n.quiet.each },

@@ -15,7 +15,7 @@ use Rattle.pb_base.specs.Sets.{has as has_code}
 use Rattle.propagate.specs.Trail.{Trail, IsTrail}
 use Rattle.propagate.specs.Quiet.{IsQuietFor}
 use Rattle.propagate.specs.Assignment.{value_over}
-use Rattle.solver.specs.Answer.{Begins, IsNew, IsSpent}
+use Rattle.solver.specs.Answer.{AreHeld, Begins, IsNew, IsSpent}
 use Rattle.chains.specs.Growth.{given_of}
 use Rattle.solver.specs.Search.{IsFull, AllNew}
 use Rattle.solver.proofs.TrailLaws.{consistent}
@@ -32,7 +32,7 @@ even_is l e = omega (arith, e)
 odd_is : (l : ℕ) → l % 2 ≡ 1 → l ≡ 2 * (l / 2) + 1
 odd_is l e = omega (arith, e)
 
-module _ (t : Trail) (g : ℕ) (h : IsTrail t) (full : IsFull t g) where
+module _ (t : Trail) (a : List ℕ) (h : IsTrail t) (full : IsFull t) (held : AreHeld a t.lits) where
   -- a literal that the assignment makes false is false on the trail
   false_there : (l : ℕ) → l < 2 * t.vars → is_true (λ v. has t.lits (2 * v)) l ≡ false → has t.lits (complement l) ≡ true
   false_there l low fails = elim (even_or_odd l) [
@@ -65,16 +65,16 @@ module _ (t : Trail) (g : ℕ) (h : IsTrail t) (full : IsFull t g) where
   all_hold [] q b = tt
   all_hold (c ∷ cs) q b = (clause_holds c q.0 b.0, all_hold cs q.1 b.1)
 
-  assumed_holds : is_true (λ v. has t.lits (2 * v)) g ≡ true
-  assumed_holds = elim (even_or_odd g) [
-    | inl e ↦ ap (is_true (λ v. has t.lits (2 * v))) (even_is g e) ∙ is_true-positive (λ v. has t.lits (2 * v)) (g / 2) ∙ ap (has t.lits) (sym (even_is g e)) ∙ full.assumed
+  assumed_holds : (g : ℕ) → has a g ≡ true → is_true (λ v. has t.lits (2 * v)) g ≡ true
+  assumed_holds g is_in = elim (even_or_odd g) [
+    | inl e ↦ ap (is_true (λ v. has t.lits (2 * v))) (even_is g e) ∙ is_true-positive (λ v. has t.lits (2 * v)) (g / 2) ∙ ap (has t.lits) (sym (even_is g e)) ∙ held g is_in
     | inr e ↦
         ap (is_true (λ v. has t.lits (2 * v))) (odd_is g e) ∙ is_true-negative (λ v. has t.lits (2 * v)) (g / 2)
         ∙ ap not (is_false (has t.lits (2 * (g / 2))) (λ other.
-        consistent t g h full.assumed (ap (has t.lits) (ap complement (odd_is g e) ∙ complement-negative (g / 2)) ∙ other)))
+        consistent t g h (held g is_in) (ap (has t.lits) (ap complement (odd_is g e) ∙ complement-negative (g / 2)) ∙ other)))
   ]
 
-  pub begins_of : (k : Derivation) (codes : ℕ) (x : List Bool) → t.clauses ≡ k.clauses → AreBelow (2 * t.vars) k.clauses → length x ≡ codes → ((i : ℕ) → i < codes → has_code x i ≡ has t.lits (2 * i)) → Begins (given_of k) g codes x
+  pub begins_of : (k : Derivation) (codes : ℕ) (x : List Bool) → t.clauses ≡ k.clauses → AreBelow (2 * t.vars) k.clauses → length x ≡ codes → ((i : ℕ) → i < codes → has_code x i ≡ has t.lits (2 * i)) → Begins (given_of k) a codes x
   begins_of k codes x attached below counted is = record {
     assignment = λ v. has t.lits (2 * v);
     satisfied = all_take (λ c. clause_true (λ v. has t.lits (2 * v)) c ≡ true) k.given k.clauses
@@ -158,8 +158,8 @@ split_take first k xs low =
     ∙ ap (λ (ys : List (List ℕ)). take first xs ++ ys) (drop-take first k xs)
 
 -- what is new over more clauses is new over some of them
-new_to_fewer : (g n first k : ℕ) (clauses : List (List ℕ)) (c : List ℕ) → n ≤ first → first ≤ length clauses → IsNew (take (first + k) clauses) g c → IsNew (take n clauses ++ take k (drop first clauses)) g c
-new_to_fewer g n first k clauses c low within h = record {
+new_to_fewer : (a : List ℕ) (n first k : ℕ) (clauses : List (List ℕ)) (c : List ℕ) → n ≤ first → first ≤ length clauses → IsNew (take (first + k) clauses) a c → IsNew (take n clauses ++ take k (drop first clauses)) a c
+new_to_fewer a n first k clauses c low within h = record {
   quiet_set = h.quiet_set;
   open_literal = h.open_literal;
   is_in = h.is_in;
@@ -177,9 +177,9 @@ new_to_fewer g n first k clauses c low within h = record {
   not_false = h.not_false;
 }
 
-pub spent_of : (k : Derivation) (vars g budget first : ℕ) (learnt : List (List ℕ)) → AllFollow k → AreBelow (2 * vars) k.clauses → k.given ≤ first → length k.clauses ≡ first + budget
-    → AllNew g first k.clauses → learnt ≡ drop first k.clauses → IsSpent vars (given_of k) g budget learnt
-spent_of k vars g budget first learnt follow below given count fresh is = subst (IsSpent vars (given_of k) g budget) (sym is) (record {
+pub spent_of : (k : Derivation) (vars : ℕ) (a : List ℕ) (budget first : ℕ) (learnt : List (List ℕ)) → AllFollow k → AreBelow (2 * vars) k.clauses → k.given ≤ first → length k.clauses ≡ first + budget
+    → AllNew a first k.clauses → learnt ≡ drop first k.clauses → IsSpent vars (given_of k) a budget learnt
+spent_of k vars a budget first learnt follow below given count fresh is = subst (IsSpent vars (given_of k) a budget) (sym is) (record {
   count = let l = length-drop first k.clauses in omega (arith, l, count);
   below = all_second (IsBelow (2 * vars)) (take first k.clauses) (drop first k.clauses) (subst (AreBelow (2 * vars)) (sym (take-append-drop first k.clauses)) below);
   each = λ n low.
@@ -187,8 +187,8 @@ spent_of k vars g budget first learnt follow below given count fresh is = subst 
       record {
         follows = Follows-more (given_of k) (take n (drop first k.clauses)) (get_or (drop first k.clauses) n [])
             (subst (Follows (given_of k)) (sym here) (all_at (Follows (given_of k)) k.clauses [] (first + n) follow (omega (arith, count, low))));
-        is_new = subst (IsNew (given_of k ++ take n (drop first k.clauses)) g) (sym here)
-            (new_to_fewer g k.given first n k.clauses (get_or k.clauses (first + n) []) given (omega (arith, count)) (fresh (first + n) (omega arith) (omega (arith, count, low))));
+        is_new = subst (IsNew (given_of k ++ take n (drop first k.clauses)) a) (sym here)
+            (new_to_fewer a k.given first n k.clauses (get_or k.clauses (first + n) []) given (omega (arith, count)) (fresh (first + n) (omega arith) (omega (arith, count, low))));
       };
 })
 

@@ -1,6 +1,6 @@
 -- What holds of the marks of a clause in the making.
 use Rattle.std.proofs.Common.{◌≡◌, ◌⊎◌, inl, inr, ℕ, zero, suc, ◌+◌, ◌-◌, ◌*◌, ◌/◌, ◌<◌, ◌≤◌, Bool, true, false, List, [], ◌∷◌, ◌++◌, Option, Some, None, Ok, length, take, get_or, refl, sym, subst, ◌∙◌, ap, arith}
-use Rattle.std.proofs.Math.ListN.{set, length-set}
+use Rattle.std.proofs.Math.ListN.{set, length-set, replicate}
 use Rattle.std.proofs.lemmas.Bool.{cases_eq, cases_Bool, cases_order, false≢true, true≢false, or_cases, or_left, or_right}
 use Rattle.std.proofs.lemmas.List.{get_or-set_same, get_or-set_other, take_more, take_all}
 use Rattle.std.proofs.lemmas.Option.{slice_get-get_or}
@@ -19,7 +19,7 @@ use Rattle.propagate.specs.Quiet.{Quiet, IsQuietFor}
 use Rattle.propagate.proofs.QuietLaws.{has_take}
 use Rattle.propagate.proofs.AssignmentLaws.{has_push, push_has, push_here}
 use Rattle.propagate.proofs.KeepLaws.{same_default, has_at}
-use Rattle.solver.specs.Marks.{AreClear, IsChain, AreFalse, AreFalseBut, IsMarked, IsUnmarked, IsResolved, false_at, IsResolvedAt, IsTop, NoneMarked, start_of, IsUip, IsResolving}
+use Rattle.solver.specs.Marks.{AreClear, IsChain, AreFalse, AreFalseBut, AreFalseOrBlamed, AreFalseUnless, IsMarked, IsUnmarked, IsResolved, false_at, IsResolvedAt, IsTop, NoneMarked, start_of, IsUip, IsResolving}
 use Rattle.solver.specs.declared.resolution.Resolution.{Resolution}
 use Rattle.solver.proofs.TrailLaws.{placed_in, has_placed, has_longer, same_place, consistent}
 
@@ -139,29 +139,28 @@ le_or_lt a b = elim (cases_order a b) [
   | inr o ↦ elim o [ inl less ↦ inl (omega (arith, less)) | inr more ↦ inr more ]
 ]
 
--- where only one literal is marked between two places, the others are false before the first
-pub narrow : (lits : List ℕ) (marks : List Bool) (n e x : ℕ) → ((j : ℕ) → n ≤ j → j < e → marked marks (false_at lits j) ≡ true → false_at lits j ≡ x) → AreFalseBut (take e lits) marks x → AreFalseBut (take n lits) marks x
-narrow lits marks n e x only h l m other =
+-- what is marked between two places but for some literals is false before the first
+pub narrow : (lits : List ℕ) (marks : List Bool) (n e : ℕ) (P : ℕ → Type 0) → ((j : ℕ) → n ≤ j → j < e → marked marks (false_at lits j) ≡ true → P (false_at lits j)) → AreFalseUnless (take e lits) marks P → AreFalseUnless (take n lits) marks P
+narrow lits marks n e P only h l m other =
     let p = placed_in lits e (complement l) (h l m other) in
     let is : false_at lits p.place ≡ l = ap complement p.is ∙ complement-complement l in
     elim (le_or_lt n p.place) [
-      | inl late ↦ absurd (other (sym is ∙ only p.place late p.before (ap (marked marks) is ∙ m)))
+      | inl late ↦ absurd (other (subst P is (only p.place late p.before (ap (marked marks) is ∙ m))))
       | inr early ↦ has_placed lits n p.place (complement l) early p.within p.is
     ]
 
-all_but : (lits : List ℕ) (marks : List Bool) (x : ℕ) → AreFalse lits marks → AreFalseBut lits marks x
-all_but lits marks x h l m other = h l m
+all_but : (lits : List ℕ) (marks : List Bool) (P : ℕ → Type 0) → AreFalse lits marks → AreFalseUnless lits marks P
+all_but lits marks P h l m other = h l m
 
--- what is false but for one literal, whichever it is, is false
-but_all : (lits : List ℕ) (marks : List Bool) → ((x : ℕ) → AreFalseBut lits marks x) → AreFalse lits marks
-but_all lits marks h l m = h (suc l) l m (λ e. absurd (omega (arith, e)))
+but_all : (lits : List ℕ) (marks : List Bool) → AreFalseUnless lits marks (λ l. ⊥) → AreFalse lits marks
+but_all lits marks h l m = h l m (λ e. e)
 
 pub narrow_all : (lits : List ℕ) (marks : List Bool) (n e : ℕ) → NoneMarked lits marks n e → AreFalse (take e lits) marks → AreFalse (take n lits) marks
-narrow_all lits marks n e none h = but_all (take n lits) marks (λ x. narrow lits marks n e x (λ j low high m. absurd (true≢false (sym m ∙ none j low high))) (all_but (take e lits) marks x h))
+narrow_all lits marks n e none h = but_all (take n lits) marks (narrow lits marks n e (λ l. ⊥) (λ j low high m. absurd (true≢false (sym m ∙ none j low high))) (all_but (take e lits) marks (λ l. ⊥) h))
 
 -- the literal at a place is resolved away
-pub resolved_here : (t : Trail) (at x : ℕ) (old new : List Bool) → IsResolvedAt t at old new → AreFalseBut (take (at + 1) t.lits) old x → AreFalseBut (take at t.lits) new x
-resolved_here t at x old new r h l m other = elim (r.resolved.origin l m) [
+pub resolved_here : (t : Trail) (at : ℕ) (P : ℕ → Type 0) (old new : List Bool) → IsResolvedAt t at old new → AreFalseUnless (take (at + 1) t.lits) old P → AreFalseUnless (take at t.lits) new P
+resolved_here t at P old new r h l m other = elim (r.resolved.origin l m) [
   | inl before ↦
       let p = placed_in t.lits (at + 1) (complement l) (h l before.0 other) in
       let early = p.before in
@@ -171,7 +170,7 @@ resolved_here t at x old new r h l m other = elim (r.resolved.origin l m) [
 ]
 
 pub resolved_here_all : (t : Trail) (at : ℕ) (old new : List Bool) → IsResolvedAt t at old new → AreFalse (take (at + 1) t.lits) old → AreFalse (take at t.lits) new
-resolved_here_all t at old new r h = but_all (take at t.lits) new (λ x. resolved_here t at x old new r (all_but (take (at + 1) t.lits) old x h))
+resolved_here_all t at old new r h = but_all (take at t.lits) new (resolved_here t at (λ l. ⊥) old new r (all_but (take (at + 1) t.lits) old (λ l. ⊥) h))
 
 -- what stands further on stays false
 pub resolved_before : (t : Trail) (at x e : ℕ) (old new : List Bool) → at ≤ e → IsResolvedAt t at old new → AreFalseBut (take e t.lits) old x → AreFalseBut (take e t.lits) new x
@@ -257,7 +256,7 @@ uip_found t marks place known r none =
       within = r.within;
       late = omega (arith, a, b);
       is_in = r.is_in;
-      others = narrow t.lits marks (start_of t) (place + 1) (false_at t.lits place)
+      others = narrow t.lits marks (start_of t) (place + 1) (λ l. l ≡ false_at t.lits place)
           (λ j low high m. elim (cases_eq j place) [
             | inl e ↦ ap (false_at t.lits) e
             | inr other ↦ absurd (true≢false (sym m ∙ none j low (omega (arith, high, other))))
@@ -335,17 +334,36 @@ unmarked_clear old new c marks u l = elim (cases_Bool (has c l)) [
 ]
 
 -- the steps down the whole trail
-pub skip_unmarked : (lits : List ℕ) (marks : List Bool) (k x : ℕ) → marked marks (false_at lits (k - 1)) ≡ false → AreFalseBut (take k lits) marks x → AreFalseBut (take (k - 1) lits) marks x
-skip_unmarked lits marks k x none h = narrow lits marks (k - 1) k x (λ j low high m.
+pub skip_unmarked : (lits : List ℕ) (marks : List Bool) (k : ℕ) (a : List ℕ) → marked marks (false_at lits (k - 1)) ≡ false → AreFalseOrBlamed (take k lits) marks a → AreFalseOrBlamed (take (k - 1) lits) marks a
+skip_unmarked lits marks k a none h = narrow lits marks (k - 1) k (λ l. has a (complement l) ≡ true) (λ j low high m.
     let e : j ≡ k - 1 = omega (arith, low, high) in
     absurd (true≢false (sym m ∙ ap (λ (i : ℕ). marked marks (false_at lits i)) e ∙ none))) h
 
-pub skip_opened : (lits : List ℕ) (marks : List Bool) (k g : ℕ) → get_or lits (k - 1) 0 ≡ g → AreFalseBut (take k lits) marks (complement g) → AreFalseBut (take (k - 1) lits) marks (complement g)
-skip_opened lits marks k g is h = narrow lits marks (k - 1) k (complement g) (λ j low high m.
+pub skip_opened : (lits : List ℕ) (marks : List Bool) (k : ℕ) (a : List ℕ) → has a (get_or lits (k - 1) 0) ≡ true → AreFalseOrBlamed (take k lits) marks a → AreFalseOrBlamed (take (k - 1) lits) marks a
+skip_opened lits marks k a is_in h = narrow lits marks (k - 1) k (λ l. has a (complement l) ≡ true) (λ j low high m.
     let e : j ≡ k - 1 = omega (arith, low, high) in
-    ap (false_at lits) e ∙ ap complement is) h
+    ap (has a) (complement-complement (get_or lits j 0) ∙ ap (λ (i : ℕ). get_or lits i 0) e) ∙ is_in) h
 
-pub step_resolved : (t : Trail) (k x : ℕ) (old new : List Bool) → 0 < k → IsResolvedAt t (k - 1) old new → AreFalseBut (take k t.lits) old x → AreFalseBut (take (k - 1) t.lits) new x
-step_resolved t k x old new some r h =
+pub step_resolved : (t : Trail) (k : ℕ) (a : List ℕ) (old new : List Bool) → 0 < k → IsResolvedAt t (k - 1) old new → AreFalseOrBlamed (take k t.lits) old a → AreFalseOrBlamed (take (k - 1) t.lits) new a
+step_resolved t k a old new some r h =
     let e : k ≡ k - 1 + 1 = omega (arith, some) in
-    resolved_here t (k - 1) x old new r (subst (λ (n : ℕ). AreFalseBut (take n t.lits) old x) e h)
+    resolved_here t (k - 1) (λ l. has a (complement l) ≡ true) old new r (subst (λ (n : ℕ). AreFalseOrBlamed (take n t.lits) old a) e h)
+
+pub none_marked : (n l : ℕ) → marked (replicate n false) l ≡ false
+none_marked zero l = refl
+none_marked (suc n) zero = refl
+none_marked (suc n) (suc l) = none_marked n l
+
+-- the literals that are marked are noted: one that is marked already, and one more
+pub touched_same : (old new : List Bool) (touched : List ℕ) (x : ℕ) (b : Bool) → AreTouched old touched → marked old x ≡ true → new ≡ set old x b → AreTouched new touched
+touched_same old new touched x b t is_in is l m = elim (cases_eq l x) [
+  | inl e ↦ t l (ap (marked old) e ∙ is_in)
+  | inr other ↦ t l (sym (ap (λ (ms : List Bool). marked ms l) is ∙ get_or-set_other old x l b false other) ∙ m)
+]
+
+pub touched_one : (old new : List Bool) (before after : List ℕ) (x : ℕ) → AreTouched old before → after ≡ before ++ x ∷ [] → new ≡ set old x true → AreTouched new after
+touched_one old new before after x t more is l m =
+    ap (λ (xs : List ℕ). has xs l) more ∙ elim (cases_eq l x) [
+      | inl e ↦ ap (has (before ++ x ∷ [])) e ∙ push_here before x
+      | inr other ↦ push_has before x l (t l (sym (ap (λ (ms : List Bool). marked ms l) is ∙ get_or-set_other old x l true false other) ∙ m))
+    ]

@@ -17,7 +17,8 @@ use Rattle.propagate.proofs.AssignmentSteps.{room_for_one}
 use Rattle.propagate.proofs.KeepLaws.{same_default}
 use Rattle.propagate.proofs.QuietLaws.{has_take}
 use Rattle.solver.specs.Marks.{start_of, false_at}
-use Rattle.solver.specs.Search.{IsSearch, IsAsserting, IsJump, left_of}
+use Rattle.solver.specs.Answer.{AreHeld}
+use Rattle.solver.specs.Search.{IsSettled, IsAssumed, AreOpened, IsAsserting, IsJump, left_of}
 use Rattle.solver.proofs.TrailLaws.{placed_in, has_placed, has_longer, same_place, consistent, end_within, ends_rise}
 
 le_or_lt : (a b : ℕ) → (a ≤ b) ⊎ (b < a)
@@ -31,15 +32,19 @@ last_end : (t : Trail) (n : ℕ) → level t ≤ n → end_of t n ≡ length t.l
 last_end t n low = get_or-eq_default t.starts (length t.lits) low
 
 -- at level 0 nothing was assumed
-pub search_at_zero : (g : ℕ) (t : Trail) → IsTrail t → level t ≡ 0 → IsSearch g t
-search_at_zero g t h zero_level = record {
+pub settled_at_zero : (t : Trail) → level t ≡ 0 → IsSettled t
+settled_at_zero t zero_level = record {
   quiet = λ n low. absurd (omega (arith, low, zero_level));
-  assumed = λ n some low. absurd (omega (arith, some, low, zero_level));
   counted = λ n low. omega (arith, low, zero_level);
+}
+
+pub assumed_at_zero : (a : List ℕ) (d : ℕ) (t : Trail) → 0 < d → IsTrail t → level t ≡ 0 → IsAssumed a d t
+assumed_at_zero a d t some h zero_level = record {
+  held = λ n late low. absurd (omega (arith, late, some, low, zero_level));
   opened = λ k low none.
-      let w = end_within t 1 h in
-      let d = h.decided k (omega (arith, low, w)) none in
-      let first : d.0 < level t = d.1 in
+      let w = end_within t d h in
+      let o = h.decided k (omega (arith, low, w)) none in
+      let first : o.0 < level t = o.1 in
       absurd (omega (arith, first, zero_level));
 }
 
@@ -73,29 +78,44 @@ module _ (t s : Trail) (h : IsTrail t) (e : Extends t s) where
       let l : level s ≡ level t = same_level in
       omega (arith, a, v, l)
 
-  pub search_grows : (g : ℕ) → IsTrail s → IsSearch g t → ((n : ℕ) → n < level t → Quiet t.clauses (upto t n) → Quiet s.clauses (upto t n)) → IsSearch g s
-  search_grows g k search stays = record {
+  pub settled_grows : IsSettled t → ((n : ℕ) → n < level t → Quiet t.clauses (upto t n) → Quiet s.clauses (upto t n)) → IsSettled s
+  settled_grows settled stays = record {
     quiet = λ n low.
         let l = same_level in
         let before : n < level t = omega (arith, low, l) in
-        subst (Quiet s.clauses) (sym (upto_same n before)) (stays n before (search.quiet n before));
-    assumed = λ n some low. let l = same_level in has_grown n g (search.assumed n some (omega (arith, low, l)));
-    counted = λ n low. let l = same_level in let c = search.counted n (omega (arith, low, l)) in let m = ends_grow n in omega (arith, c, m);
-    opened = λ i low none.
-        let w = end_within s 1 k in
-        elim (le_or_lt (length t.lits) i) [
-          | inl late ↦ absurd (e.derived i late (omega (arith, low, w)) none)
-          | inr early ↦
-              let counted : length t.reasons ≡ length t.lits = h.reasons_counted in
-              let reason : get_or s.reasons i None ≡ get_or t.reasons i None = sym (get_or-take (length t.lits) s.reasons i None early) ∙ ap (λ (xs : List (Option ℕ)). get_or xs i None) e.reasons_kept in
-              let literal : get_or s.lits i 0 ≡ get_or t.lits i 0 = sym (get_or-take (length t.lits) s.lits i 0 early) ∙ ap (λ (xs : List ℕ). get_or xs i 0) e.lits_kept in
-              let first : i < end_of t 1 = elim (le_or_lt (level t) 1) [
-                | inl last ↦ let a = last_end t 1 last in omega (arith, a, early)
-                | inr more ↦ let a = same_end 1 more in omega (arith, a, low)
-              ] in
-              literal ∙ search.opened i first (sym reason ∙ none)
-        ];
+        subst (Quiet s.clauses) (sym (upto_same n before)) (stays n before (settled.quiet n before));
+    counted = λ n low. let l = same_level in let c = settled.counted n (omega (arith, low, l)) in let m = ends_grow n in omega (arith, c, m);
   }
+
+  -- what has no reason was there before
+  opened_early : IsTrail s → (i : ℕ) → i < length s.lits → get_or s.reasons i None ≡ None → (i < length t.lits) × (get_or t.reasons i None ≡ None) × (get_or s.lits i 0 ≡ get_or t.lits i 0)
+  opened_early k i low none = elim (le_or_lt (length t.lits) i) [
+    | inl late ↦ absurd (e.derived i late low none)
+    | inr early ↦
+        let reason : get_or s.reasons i None ≡ get_or t.reasons i None = sym (get_or-take (length t.lits) s.reasons i None early) ∙ ap (λ (xs : List (Option ℕ)). get_or xs i None) e.reasons_kept in
+        let literal : get_or s.lits i 0 ≡ get_or t.lits i 0 = sym (get_or-take (length t.lits) s.lits i 0 early) ∙ ap (λ (xs : List ℕ). get_or xs i 0) e.lits_kept in
+        (early, sym reason ∙ none, literal)
+  ]
+
+  pub opened_grows : (a : List ℕ) → IsTrail s → AreOpened a t → AreOpened a s
+  opened_grows a k opened i low none = let o = opened_early k i low none in ap (has a) o.2 ∙ opened i o.0 o.1
+
+  pub assumed_grows : (a : List ℕ) (d : ℕ) → IsTrail s → IsAssumed a d t → IsAssumed a d s
+  assumed_grows a d k assumed = record {
+    held = λ n late low l is_in. let same = same_level in has_grown n l (assumed.held n late (omega (arith, low, same)) l is_in);
+    opened = λ i low none.
+        let w = end_within s d k in
+        let o = opened_early k i (omega (arith, low, w)) none in
+        let early : i < length t.lits = o.0 in
+        let first : i < end_of t d = elim (le_or_lt (level t) d) [
+          | inl last ↦ let x = last_end t d last in omega (arith, x, early)
+          | inr more ↦ let x = same_end d more in omega (arith, x, low)
+        ] in
+        ap (has a) o.2 ∙ assumed.opened i first o.1;
+  }
+
+  pub held_grows : (l : ℕ) → has t.lits l ≡ true → has s.lits l ≡ true
+  held_grows l is = has_take (length t.lits) s.lits l (subst (λ (xs : List ℕ). has xs l ≡ true) (sym e.lits_kept) is)
 
 -- levels that are taken back
 module _ (t : Trail) (n : ℕ) (h : IsTrail t) (within : n ≤ level t) where
@@ -118,37 +138,43 @@ module _ (t : Trail) (n : ℕ) (h : IsTrail t) (within : n ≤ level t) where
   pub cut_upto : (m : ℕ) → m ≤ n → upto (cut t n) m ≡ upto t m
   cut_upto m below = ap (λ (k : ℕ). take k (take (end_of t n) t.lits)) (cut_end m below) ∙ take-take (end_of t m) (end_of t n) t.lits (ends_rise t n m h below)
 
-  pub search_cut : (g : ℕ) → IsSearch g t → IsSearch g (cut t n)
-  search_cut g search = record {
-    quiet = λ m low. let l = cut_level in subst (Quiet t.clauses) (sym (cut_upto m (omega (arith, low, l)))) (search.quiet m (omega (arith, low, l, within)));
-    assumed = λ m some low. let l = cut_level in subst (λ (xs : List ℕ). has xs g ≡ true) (sym (cut_upto m (omega (arith, low, l)))) (search.assumed m some (omega (arith, low, l, within)));
-    counted = λ m low. let l = cut_level in let e = cut_end m (omega (arith, low, l)) in let c = search.counted m (omega (arith, low, l, within)) in omega (arith, e, c);
-    opened = λ k low none.
-        let len = cut_length in
-        let both : (k < end_of t n) × (k < end_of t 1) = elim (le_or_lt 1 n) [
-          | inl some ↦ let e = cut_end 1 some in let r = ends_rise t n 1 h some in (omega (arith, low, e, r), omega (arith, low, e))
-          | inr none_open ↦
-              let l = cut_level in
-              let e : end_of (cut t n) 1 ≡ length (take (end_of t n) t.lits) = get_or-eq_default (take n t.starts) (length (take (end_of t n) t.lits)) (omega (arith, l, none_open)) in
-              let r = ends_rise t 1 n h (omega (arith, none_open)) in
-              (omega (arith, low, e, len), omega (arith, low, e, len, r))
-        ] in
-        get_or-take (end_of t n) t.lits k 0 both.0 ∙ search.opened k both.1 (sym (get_or-take (end_of t n) t.reasons k None both.0) ∙ none);
+  pub settled_cut : IsSettled t → IsSettled (cut t n)
+  settled_cut settled = record {
+    quiet = λ m low. let l = cut_level in subst (Quiet t.clauses) (sym (cut_upto m (omega (arith, low, l)))) (settled.quiet m (omega (arith, low, l, within)));
+    counted = λ m low. let l = cut_level in let e = cut_end m (omega (arith, low, l)) in let c = settled.counted m (omega (arith, low, l, within)) in omega (arith, e, c);
   }
 
--- a level is opened, with these literals
-record Opens (t s : Trail) (more : List ℕ) (why : List (Option ℕ)) : Type 0 where
+  pub assumed_cut : (a : List ℕ) (d : ℕ) → IsAssumed a d t → IsAssumed a d (cut t n)
+  assumed_cut a d assumed = record {
+    held = λ m late low x is_in.
+        let l = cut_level in
+        subst (λ (xs : List ℕ). has xs x ≡ true) (sym (cut_upto m (omega (arith, low, l)))) (assumed.held m late (omega (arith, low, l, within)) x is_in);
+    opened = λ k low none.
+        let len = cut_length in
+        let both : (k < end_of t n) × (k < end_of t d) = elim (le_or_lt d n) [
+          | inl some ↦ let e = cut_end d some in let r = ends_rise t n d h some in (omega (arith, low, e, r), omega (arith, low, e))
+          | inr none_open ↦
+              let l = cut_level in
+              let e : end_of (cut t n) d ≡ length (take (end_of t n) t.lits) = get_or-eq_default (take n t.starts) (length (take (end_of t n) t.lits)) (omega (arith, l, none_open)) in
+              let r = ends_rise t d n h (omega (arith, none_open)) in
+              (omega (arith, low, e, len), omega (arith, low, e, len, r))
+        ] in
+        ap (has a) (get_or-take (end_of t n) t.lits k 0 both.0) ∙ assumed.opened k both.1 (sym (get_or-take (end_of t n) t.reasons k None both.0) ∙ none);
+  }
+
+-- a level is opened with a literal
+record Opens (t s : Trail) (x : ℕ) : Type 0 where
   clauses : s.clauses ≡ t.clauses
-  lits : s.lits ≡ t.lits ++ more
-  reasons : s.reasons ≡ t.reasons ++ why
+  lits : s.lits ≡ t.lits ++ x ∷ []
+  reasons : s.reasons ≡ t.reasons ++ None ∷ []
   starts : s.starts ≡ t.starts ++ length t.lits ∷ []
 
-module _ (g : ℕ) (t s : Trail) (more : List ℕ) (why : List (Option ℕ)) (h : IsTrail t) (o : Opens t s more why) where
+module _ (t s : Trail) (x : ℕ) (h : IsTrail t) (o : Opens t s x) where
   open_level : level s ≡ level t + 1
   open_level = ap length o.starts ∙ length-append t.starts (length t.lits ∷ [])
 
-  open_length : length s.lits ≡ length t.lits + length more
-  open_length = ap length o.lits ∙ length-append t.lits more
+  open_length : length s.lits ≡ length t.lits + 1
+  open_length = ap length o.lits ∙ length-append t.lits (x ∷ [])
 
   open_end : (n : ℕ) → n ≤ level t → end_of s n ≡ end_of t n
   open_end n low = ap (λ (xs : List ℕ). get_or xs n (length s.lits)) o.starts ∙ elim (cases_eq n (level t)) [
@@ -159,93 +185,69 @@ module _ (g : ℕ) (t s : Trail) (more : List ℕ) (why : List (Option ℕ)) (h 
   ]
 
   open_upto : (n : ℕ) → n ≤ level t → upto s n ≡ upto t n
-  open_upto n low = ap (λ (k : ℕ). take k s.lits) (open_end n low) ∙ ap (take (end_of t n)) o.lits ∙ take-append-le (end_of t n) t.lits more (end_within t n h)
+  open_upto n low = ap (λ (k : ℕ). take k s.lits) (open_end n low) ∙ ap (take (end_of t n)) o.lits ∙ take-append-le (end_of t n) t.lits (x ∷ []) (end_within t n h)
 
-  search_opens : IsSearch g t → Quiet t.clauses t.lits → has s.lits g ≡ true → level t + 1 ≤ length s.lits → ((k : ℕ) → level t ≡ 0 → length t.lits ≤ k → k < length s.lits → get_or s.lits k 0 ≡ g) → IsSearch g s
-  search_opens search quiet assumed room first = record {
+  settled_opens : IsSettled t → Quiet t.clauses t.lits → IsSettled s
+  settled_opens settled quiet = record {
     quiet = λ n low.
         let l = open_level in
         let below : n ≤ level t = omega (arith, low, l) in
         subst (λ (cs : List (List ℕ)). Quiet cs (upto s n)) (sym o.clauses) (subst (Quiet t.clauses) (sym (open_upto n below)) (elim (cases_eq n (level t)) [
           | inl e ↦ subst (Quiet t.clauses) (sym (ap (λ (k : ℕ). take k t.lits) (last_end t n (omega (arith, e))) ∙ take_all (length t.lits) t.lits (omega arith))) quiet
-          | inr other ↦ search.quiet n (omega (arith, below, other))
+          | inr other ↦ settled.quiet n (omega (arith, below, other))
         ]));
-    assumed = λ n some low. elim (le_or_lt n (level t)) [
-      | inl below ↦ subst (λ (xs : List ℕ). has xs g ≡ true) (sym (open_upto n below)) (search.assumed n some below)
+    counted = λ n low. elim (le_or_lt n (level t)) [
+      | inl below ↦ let e = open_end n below in let c = settled.counted n below in omega (arith, e, c)
       | inr last ↦
           let l = open_level in
-          subst (λ (xs : List ℕ). has xs g ≡ true) (sym (ap (λ (k : ℕ). take k s.lits) (last_end s n (omega (arith, last, l))) ∙ take_all (length s.lits) s.lits (omega arith))) assumed
+          let e = last_end s n (omega (arith, last, l)) in
+          let c = settled.counted (level t) (omega arith) in
+          let f = last_end t (level t) (omega arith) in
+          let more = open_length in
+          omega (arith, e, low, l, c, f, more)
     ];
-    counted = λ n low. elim (le_or_lt n (level t)) [
-      | inl below ↦ let e = open_end n below in let c = search.counted n below in omega (arith, e, c)
-      | inr last ↦ let l = open_level in let e = last_end s n (omega (arith, last, l)) in omega (arith, e, low, l, room)
-    ];
-    opened = λ k low none.
-        let l = open_level in
-        let counted = h.reasons_counted in
-        elim (le_or_lt (length t.lits) k) [
-          | inl late ↦ elim (cases_eq (level t) 0) [
-            | inl e ↦ let end = last_end s 1 (omega (arith, e, l)) in first k e late (omega (arith, low, end))
-            | inr some ↦ let e = open_end 1 (omega (arith, some)) in let w = end_within t 1 h in absurd (omega (arith, low, e, w, late))
-          ]
-          | inr early ↦
-              let reason : get_or s.reasons k None ≡ get_or t.reasons k None = ap (λ (xs : List (Option ℕ)). get_or xs k None) o.reasons ∙ get_or-append t.reasons why None k (omega (arith, early, counted)) in
-              let literal : get_or s.lits k 0 ≡ get_or t.lits k 0 = ap (λ (xs : List ℕ). get_or xs k 0) o.lits ∙ get_or-append t.lits more 0 k early in
-              literal ∙ search.opened k (elim (cases_eq (level t) 0) [
-                | inl e ↦ let a = last_end t 1 (omega (arith, e)) in omega (arith, a, early)
-                | inr some ↦ let a = open_end 1 (omega (arith, some)) in omega (arith, a, low)
-              ]) (sym reason ∙ none)
-        ];
   }
 
-append_nil : {X : Type 0} → (xs : List X) → xs ++ [] ≡ xs
-append_nil [] = refl
-append_nil (x ∷ xs) = ap (λ (ys : List _). x ∷ ys) (append_nil xs)
-
-opens_true : (t : Trail) (l : ℕ) → has t.lits l ≡ true → Opens t (with_assumed t l) [] []
-opens_true t l is = rw is (record { clauses = refl; lits = sym (append_nil t.lits); reasons = sym (append_nil t.reasons); starts = refl })
-
-opens_open : (t : Trail) (l : ℕ) → has t.lits l ≡ false → Opens t (with_assumed t l) (l ∷ []) (None ∷ [])
-opens_open t l is = rw is (record { clauses = refl; lits = refl; reasons = refl; starts = refl })
-
-assumed_vars : (t : Trail) (l : ℕ) (b : Bool) → has t.lits l ≡ b → (with_assumed t l).vars ≡ t.vars
-assumed_vars t l true is = rw is refl
-assumed_vars t l false is = rw is refl
-
-some_there : (xs : List ℕ) (l : ℕ) → has xs l ≡ true → 1 ≤ length xs
-some_there [] l is = absurd (false≢true is)
-some_there (x ∷ xs) l is = omega arith
-
--- the question's literal is assumed at level 0
-pub search_begins : (g : ℕ) (t : Trail) → IsTrail t → level t ≡ 0 → Quiet t.clauses t.lits → IsSearch g (with_assumed t g) × ((with_assumed t g).clauses ≡ t.clauses) × ((with_assumed t g).vars ≡ t.vars) × (left_of (with_assumed t g) < left_of t)
-search_begins g t h zero_level quiet = elim (cases_Bool (has t.lits g)) [
-  | inl is ↦
-      let o = opens_true t g is in
-      let same : length (with_assumed t g).lits ≡ length t.lits + 0 = open_length g t (with_assumed t g) [] [] h o in
-      let some = some_there t.lits g is in
-      let vars = assumed_vars t g true is in
-      let up : level (with_assumed t g) ≡ level t + 1 = open_level g t (with_assumed t g) [] [] h o in (
-        search_opens g t (with_assumed t g) [] [] h o (search_at_zero g t h zero_level) quiet
-            (ap (λ (xs : List ℕ). has xs g) (o.lits ∙ append_nil t.lits) ∙ is) (omega (arith, zero_level, same, some)) (λ k z late low. absurd (omega (arith, late, low, same))),
-        o.clauses,
-        vars,
-        omega (arith, same, vars, up, zero_level),
+  opened_reads : (k : ℕ) → k < length t.lits → get_or s.reasons k None ≡ None → (get_or t.reasons k None ≡ None) × (get_or s.lits k 0 ≡ get_or t.lits k 0)
+  opened_reads k early none =
+      let counted = h.reasons_counted in (
+        sym (ap (λ (xs : List (Option ℕ)). get_or xs k None) o.reasons ∙ get_or-append t.reasons (None ∷ []) None k (omega (arith, early, counted))) ∙ none,
+        ap (λ (xs : List ℕ). get_or xs k 0) o.lits ∙ get_or-append t.lits (x ∷ []) 0 k early,
       )
-  | inr not ↦
-      let o = opens_open t g not in
-      let one : length (with_assumed t g).lits ≡ length t.lits + 1 = open_length g t (with_assumed t g) (g ∷ []) (None ∷ []) h o in
-      let vars = assumed_vars t g false not in
-      let up : level (with_assumed t g) ≡ level t + 1 = open_level g t (with_assumed t g) (g ∷ []) (None ∷ []) h o in (
-        search_opens g t (with_assumed t g) (g ∷ []) (None ∷ []) h o (search_at_zero g t h zero_level) quiet
-            (ap (λ (xs : List ℕ). has xs g) o.lits ∙ push_here t.lits g) (omega (arith, zero_level, one))
-            (λ k z late low.
-            let place : k ≡ length t.lits = omega (arith, late, low, one) in
-            ap (λ (xs : List ℕ). get_or xs k 0) o.lits ∙ ap (λ (i : ℕ). get_or (t.lits ++ g ∷ []) i 0) place ∙ get_or-append_seam t.lits g [] 0),
-        o.clauses,
-        vars,
-        omega (arith, one, vars, up, zero_level),
-      )
-]
+
+  -- by an assumption
+  opened_opens : (a : List ℕ) → has a x ≡ true → AreOpened a t → AreOpened a s
+  opened_opens a is_in opened k low none = elim (le_or_lt (length t.lits) k) [
+    | inl late ↦
+        let len = open_length in
+        let place : k ≡ length t.lits = omega (arith, late, low, len) in
+        ap (has a) (ap (λ (xs : List ℕ). get_or xs k 0) o.lits ∙ ap (λ (i : ℕ). get_or (t.lits ++ x ∷ []) i 0) place ∙ get_or-append_seam t.lits x [] 0) ∙ is_in
+    | inr early ↦ let r = opened_reads k early none in ap (has a) r.1 ∙ opened k early r.0
+  ]
+
+  -- above the level of the assumptions
+  assumed_opens : (a : List ℕ) (d : ℕ) → d ≤ level t → IsAssumed a d t → IsAssumed a d s
+  assumed_opens a d deep assumed = record {
+    held = λ n late low l is_in. elim (le_or_lt n (level t)) [
+      | inl below ↦ subst (λ (xs : List ℕ). has xs l ≡ true) (sym (open_upto n below)) (assumed.held n late below l is_in)
+      | inr last ↦
+          let up = open_level in
+          let there = has_take (end_of t (level t)) t.lits l (assumed.held (level t) deep (omega arith) l is_in) in
+          subst (λ (xs : List ℕ). has xs l ≡ true) (sym (ap (λ (k : ℕ). take k s.lits) (last_end s n (omega (arith, last, up))) ∙ take_all (length s.lits) s.lits (omega arith)))
+          (subst (λ (xs : List ℕ). has xs l ≡ true) (sym o.lits) (push_has t.lits x l there))
+    ];
+    opened = λ k low none.
+        let e = open_end d deep in
+        let w = end_within t d h in
+        let r = opened_reads k (omega (arith, low, e, w)) none in
+        ap (has a) r.1 ∙ assumed.opened k (omega (arith, low, e)) r.0;
+  }
+
+opens : (t : Trail) (l : ℕ) → has t.lits l ≡ false → Opens t (with_assumed t l) l
+opens t l is = rw is (record { clauses = refl; lits = refl; reasons = refl; starts = refl })
+
+assumed_vars : (t : Trail) (l : ℕ) → has t.lits l ≡ false → (with_assumed t l).vars ≡ t.vars
+assumed_vars t l is = rw is refl
 
 pub assigned_of : (t : Trail) → IsTrail t → IsAssigned (record { vars = t.vars; lits = t.lits; reasons = t.reasons; starts = t.starts })
 assigned_of t h = record {
@@ -259,32 +261,47 @@ assigned_of t h = record {
 }
 
 -- where a literal is open, there is room for a level
-pub room_for_level : (g : ℕ) (t : Trail) (l : ℕ) → IsTrail t → IsSearch g t → l < 2 * t.vars → has t.lits l ≡ false → has t.lits (complement l) ≡ false → (length t.lits < t.vars) × (level t < t.vars)
-room_for_level g t l h search below not_true not_false =
+pub room_for_level : (t : Trail) (l : ℕ) → IsTrail t → IsSettled t → l < 2 * t.vars → has t.lits l ≡ false → has t.lits (complement l) ≡ false → (length t.lits < t.vars) × (level t < t.vars)
+room_for_level t l h settled below not_true not_false =
     let r = room_for_one (record { vars = t.vars; lits = t.lits; reasons = t.reasons; starts = t.starts }) l (assigned_of t h) (omega (arith, below)) not_true not_false in
-    let c = search.counted (level t) (omega arith) in
+    let c = settled.counted (level t) (omega arith) in
     let e = last_end t (level t) (omega arith) in
     (r, omega (arith, r, c, e))
 
--- a further literal is assumed above level 0
-pub search_decides : (g : ℕ) (t : Trail) (l : ℕ) → IsTrail t → IsSearch g t → Quiet t.clauses t.lits → (level t ≡ 0 → ⊥) → l < 2 * t.vars → has t.lits l ≡ false → has t.lits (complement l) ≡ false → IsSearch g (with_assumed t l) × ((with_assumed t l).clauses ≡ t.clauses) × ((with_assumed t l).vars ≡ t.vars) × (left_of (with_assumed t l) < left_of t)
-search_decides g t l h search quiet some below not_true not_false =
-    let o = opens_open t l not_true in
-    let s : Trail = with_assumed t l in
-    let one : length (with_assumed t l).lits ≡ length t.lits + 1 = open_length g t s (l ∷ []) (None ∷ []) h o in
-    let up : level (with_assumed t l) ≡ level t + 1 = open_level g t s (l ∷ []) (None ∷ []) h o in
-    let vars = assumed_vars t l false not_true in
-    let room = room_for_level g t l h search below not_true not_false in
-    let c = search.counted (level t) (omega arith) in
-    let e = last_end t (level t) (omega arith) in
-    let there = search.assumed (level t) (omega (arith, some)) (omega arith) in (
-      search_opens g t s (l ∷ []) (None ∷ []) h o search quiet
-          (ap (λ (xs : List ℕ). has xs g) o.lits ∙ push_has t.lits l g (has_take (end_of t (level t)) t.lits g there))
-          (omega (arith, one, c, e)) (λ k z late low. absurd (some z)),
-      o.clauses,
-      vars,
-      omega (arith, one, up, vars, room.0, some),
-    )
+-- an open literal is assumed
+module _ (t s : Trail) (l : ℕ) (h : IsTrail t) (is : s ≡ with_assumed t l) (not_true : has t.lits l ≡ false) where
+  pub clauses_assumed : s.clauses ≡ t.clauses
+  clauses_assumed = ap (λ (u : Trail). u.clauses) is ∙ (opens t l not_true).clauses
+
+  pub vars_assumed : s.vars ≡ t.vars
+  vars_assumed = ap (λ (u : Trail). u.vars) is ∙ assumed_vars t l not_true
+
+  pub settled_assumed : IsSettled t → Quiet t.clauses t.lits → IsSettled s
+  settled_assumed settled quiet = subst IsSettled (sym is) (settled_opens t (with_assumed t l) l h (opens t l not_true) settled quiet)
+
+  pub opened_assumed : (a : List ℕ) → has a l ≡ true → AreOpened a t → AreOpened a s
+  opened_assumed a is_in opened = subst (AreOpened a) (sym is) (opened_opens t (with_assumed t l) l h (opens t l not_true) a is_in opened)
+
+  pub assumed_assumed : (a : List ℕ) (d : ℕ) → d ≤ level t → IsAssumed a d t → IsAssumed a d s
+  assumed_assumed a d deep assumed = subst (IsAssumed a d) (sym is) (assumed_opens t (with_assumed t l) l h (opens t l not_true) a d deep assumed)
+
+  pub level_assumed : level s ≡ level t + 1
+  level_assumed = ap level is ∙ open_level t (with_assumed t l) l h (opens t l not_true)
+
+  pub lits_assumed : s.lits ≡ t.lits ++ l ∷ []
+  lits_assumed = ap (λ (u : Trail). u.lits) is ∙ (opens t l not_true).lits
+
+  pub left_assumed : length t.lits < t.vars → left_of s < left_of t
+  left_assumed room =
+      let len : length s.lits ≡ length t.lits + 1 = ap length lits_assumed ∙ length-append t.lits (l ∷ []) in
+      let v = vars_assumed in
+      omega (arith, len, v, room)
+
+  pub held_assumed : (x : ℕ) → has t.lits x ≡ true → has s.lits x ≡ true
+  held_assumed x there = subst (λ (xs : List ℕ). has xs x ≡ true) (sym lits_assumed) (push_has t.lits l x there)
+
+  pub here_assumed : has s.lits l ≡ true
+  here_assumed = subst (λ (xs : List ℕ). has xs l ≡ true) (sym lits_assumed) (push_here t.lits l)
 
 -- a clause of which two literals aren't false has nothing to say
 pub open_is_quiet : (lits c : List ℕ) (u v : ℕ) → has c u ≡ true → has c v ≡ true → (v ≡ u → ⊥) → (IsFalse lits u → ⊥) → (IsFalse lits v → ⊥) → IsQuietFor lits c
@@ -334,9 +351,9 @@ module _ (t : Trail) (c : List ℕ) (at n : ℕ) (h : IsTrail t) (a : IsAssertin
         second_late = λ is. first.3 (subst (λ (xs : List ℕ). IsFalse xs first.0) cut_before is);
       }
 
-  pub search_jumped : (g : ℕ) (s : Trail) → IsTrail (cut t n) → IsTrail s → Extends (cut t n) s → s.clauses ≡ t.clauses ++ c ∷ [] → IsSearch g t → IsSearch g s
-  search_jumped g s k is_trail e clauses search =
-      search_grows (cut t n) s k e g is_trail (search_cut t n h jump_within g search)
+  pub settled_jumped : (s : Trail) → IsTrail (cut t n) → Extends (cut t n) s → s.clauses ≡ t.clauses ++ c ∷ [] → IsSettled t → IsSettled s
+  settled_jumped s k e clauses settled =
+      settled_grows (cut t n) s k e (settled_cut t n h jump_within settled)
       (λ m low q.
       let l = cut_level t n h jump_within in
       let below : m < n = omega (arith, low, l) in
@@ -346,6 +363,9 @@ module _ (t : Trail) (c : List ℕ) (at n : ℕ) (h : IsTrail t) (a : IsAssertin
       (quiet_push t.clauses (upto (cut t n) m) c q
       (subst (λ (xs : List ℕ). IsQuietFor xs c) (sym same)
       (open_is_quiet (upto t m) c (false_at t.lits at) first.0 a.is_in first.1 first.2 (forced_open m (omega (arith, below))) (other_open m first.0 below first.3)))))
+
+  pub assumed_jumped : (s : Trail) → IsTrail (cut t n) → IsTrail s → Extends (cut t n) s → (xs : List ℕ) (d : ℕ) → IsAssumed xs d t → IsAssumed xs d s
+  assumed_jumped s k is_trail e xs d assumed = assumed_grows (cut t n) s k e xs d is_trail (assumed_cut t n h jump_within xs d assumed)
 
 -- the level to go back to, one literal of the clause after the other
 pub jump_none : (t : Trail) (u : ℕ) → 0 < level t → IsJump t [] u 0
@@ -417,5 +437,5 @@ false_has_level t y is_false none =
     none p.place p.within (ap (λ (l : ℕ). l / 2) p.is ∙ complement-half y)
 
 -- the same clauses over a longer trail
-pub search_propagated : (g : ℕ) (t s : Trail) → IsTrail t → IsTrail s → Extends t s → s.clauses ≡ t.clauses → IsSearch g t → IsSearch g s
-search_propagated g t s h k e same search = search_grows t s h e g k search (λ n low q. subst (λ (cs : List (List ℕ)). Quiet cs (upto t n)) (sym same) q)
+pub settled_propagated : (t s : Trail) → IsTrail t → Extends t s → s.clauses ≡ t.clauses → IsSettled t → IsSettled s
+settled_propagated t s h e same settled = settled_grows t s h e settled (λ n low q. subst (λ (cs : List (List ℕ)). Quiet cs (upto t n)) (sym same) q)

@@ -1,13 +1,13 @@
--- How a step of the search ends, and the whole of it.
-use Rattle.std.specs.Prelude.{◌≡◌, ℕ, ◌<◌}
-use Rattle.propagate.specs.Trail.{Trail}
-use Rattle.solver.specs.Search.{IsSearch, IsConflict, IsFull, left_of}
-use Rattle.solver.specs.declared.decide.Decision.{Decision}
-use Rattle.solver.specs.declared.decide.Decision.TheVariants.{Refuted, Full, Assumed}
+-- How a step of the search ends.
+use Rattle.std.specs.Prelude.{ℕ, ◌<◌, List}
+use Rattle.propagate.specs.Trail.{Trail, level}
+use Rattle.solver.specs.Answer.{AreHeld}
+use Rattle.solver.specs.Search.{IsAssumed, IsClosing, IsFull, IsLearning, IsSettled}
+use Rattle.solver.specs.declared.run.Found.{Found}
+use Rattle.solver.specs.declared.run.Found.TheVariants.{Full, Closing, Learning}
 
--- the assumption is false at level 0, or every variable has a value, or a literal was assumed
-abbrev pub IsDecided : Trail → Trail → ℕ → Decision → Type 0
-IsDecided old new g (Refuted at) = IsConflict new g at × (new ≡ old)
-IsDecided old new g Full = IsFull new g × (new ≡ old)
-IsDecided old new g Assumed =
-    IsSearch g new × (new.clauses ≡ old.clauses) × (new.vars ≡ old.vars) × (left_of new < left_of old)
+abbrev pub IsFound : Trail → List ℕ → ℕ → Found → Type 0
+IsFound t assumptions depth Full = IsFull t × AreHeld assumptions t.lits
+IsFound t assumptions depth (Closing at) = IsClosing t assumptions at
+IsFound t assumptions depth (Learning at) =
+    IsLearning t at × IsSettled t × IsAssumed assumptions depth t × (depth < level t)

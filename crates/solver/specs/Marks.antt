@@ -1,7 +1,10 @@
 -- A clause in the making: the chain so far, and a mark for each literal that its resolvent has.
 --     IsChain clauses r             the chain has a resolvent, just its literals are marked, and all of them are noted
 --     AreFalse lits marks           what is marked is false over these true literals
+--     AreFalseUnless lits marks P   the same, unless P holds of it
 --     AreFalseBut lits marks x      the same, but for one literal
+--     AreFalseOrBlamed lits marks assumptions
+--                                   the same, but for complements of assumptions
 --     IsMarked old new c            the literals of a clause are marked besides
 --     IsResolved old new x c        what a resolution on a literal with a clause does to the marks
 --     IsResolvable t marks at       a false literal is marked and has a reason
@@ -27,8 +30,19 @@ pub record IsChain (clauses : List (List ℕ)) (r : Resolution) : Type 0 where
 abbrev pub AreFalse : List ℕ → List Bool → Type 0
 AreFalse lits marks = (l : ℕ) → marked marks l ≡ true → IsFalse lits l
 
+abbrev pub AreFalseUnless : List ℕ → List Bool → (ℕ → Type 0) → Type 0
+AreFalseUnless lits marks P = (l : ℕ) → marked marks l ≡ true → (P l → ⊥) → IsFalse lits l
+
 abbrev pub AreFalseBut : List ℕ → List Bool → ℕ → Type 0
-AreFalseBut lits marks x = (l : ℕ) → marked marks l ≡ true → (l ≡ x → ⊥) → IsFalse lits l
+AreFalseBut lits marks x = AreFalseUnless lits marks (λ l. l ≡ x)
+
+abbrev pub AreFalseOrBlamed : List ℕ → List Bool → List ℕ → Type 0
+AreFalseOrBlamed lits marks assumptions = AreFalseUnless lits marks (λ l. has assumptions (complement l) ≡ true)
+
+-- just the literals of a clause of the kernel are marked
+pub record AreLiteralsAt (clauses : List (List ℕ)) (marks : List Bool) (at : ℕ) : Type 0 where
+  pub within : at < length clauses
+  pub literals : (l : ℕ) → marked marks l ≡ has (slice_index_or clauses at []) l
 
 pub record IsMarked (old new : List Bool) (c : List ℕ) : Type 0 where
   pub counted : length new ≡ length old

@@ -1,11 +1,11 @@
 //! Back to the level at which a learnt clause forces its literal.
-ghost use Rattle.std.specs.Prelude.{◌≡◌, ℕ, ◌*◌, ◌-◌, ◌<◌, length, take, OnOk, true};
+ghost use Rattle.std.specs.Prelude.{◌≡◌, ℕ, List, ◌*◌, ◌-◌, ◌<◌, length, take, OnOk, true};
 ghost use Rattle.std.specs.Bool.{OnTrue};
 ghost use Rattle.clause_pool.specs.Literal.{complement};
 ghost use Rattle.clause_pool.specs.Clause.{has, AreBelow};
 ghost use Rattle.propagate.specs.Trail.{IsTrail, level, upto, IsFalse, OthersFalse};
 ghost use Rattle.solver.specs.Marks.{start_of};
-ghost use Rattle.solver.specs.Search.{IsSearch, IsNext, IsAsserting, IsJump, next_of};
+ghost use Rattle.solver.specs.Search.{IsSettled, IsAssumed, IsNext, IsAsserting, IsJump, next_of};
 
 use crate::order::Order;
 use clause_pool::{Lit, Pool};
@@ -66,11 +66,14 @@ pub(crate) fn backjump(
     requires level { 0 < level engine.old }
     requires one_more { IsNext pool.now.clauses engine.old }
     requires below { AreBelow (2 * engine.old.vars) pool.now.clauses }
+    requires settled { IsSettled engine.old }
     requires asserting { IsAsserting engine.old (next_of pool.now.clauses engine.old) place }
     ensures attached { OnOk result (engine.new.clauses ≡ pool.now.clauses) }
     ensures kept { engine.new.clauses ≡ take (length engine.new.clauses) pool.now.clauses }
     ensures vars { engine.new.vars ≡ engine.old.vars }
-    ensures search { OnOk result ((g : ℕ) → IsSearch g engine.old → IsSearch g engine.new) }
+    ensures settled { OnOk result (IsSettled engine.new) }
+    ensures assumed { OnOk result ((assumptions : List ℕ) (depth : ℕ)
+        → IsAssumed assumptions depth engine.old → IsAssumed assumptions depth engine.new) }
 {
     let at = engine.clauses();
     let forced = engine.trail()[place].not();

@@ -1,10 +1,12 @@
-//! The search for a set that satisfies clauses with an assumed literal, or for a clause that shows why there is
+//! The search for a set that satisfies clauses with assumed literals, or for a clause that shows why there is
 //! none.
 #![tactic(auto)]
 
 mod analyze;
 mod answer;
+mod assume;
 mod backjump;
+mod closing;
 mod conflict;
 mod decide;
 mod deriver;

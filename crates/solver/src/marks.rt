@@ -2,13 +2,13 @@
 ghost use Rattle.std.specs.Prelude.{◌≡◌, ℕ, ◌+◌, ◌*◌, ◌<◌, ◌≤◌, [], length, slice_set, vec_len, vec_capacity, IfSome, IfNone, OnOk, true};
 ghost use Rattle.clause_pool.specs.Clause.{has};
 ghost use Rattle.clause_pool.specs.Marks.{marked, AreTouched};
-ghost use Rattle.solver.specs.Marks.{AreClear, AreFalseBut, IsMarked, IsUnmarked, IsTop, NoneMarked, false_at};
+ghost use Rattle.solver.specs.Marks.{AreClear, IsMarked, IsUnmarked, IsTop, NoneMarked, false_at};
 
 use clause_pool::Lit;
 use pb_base::Memory;
 
 // Marks a literal, and notes it in room that is there, unless it is marked.
-#[tactic(auto, using(crate::proofs::WayLaws::touched_same, crate::proofs::WayLaws::touched_one))]
+#[tactic(auto, using(crate::proofs::MarkLaws::touched_same, crate::proofs::MarkLaws::touched_one))]
 #[inline(always)]
 fn mark_one(marks: &mut Vec<bool>, touched: &mut Vec<Lit>, lit: Lit)
     requires below { lit < length marks.old.items }
@@ -53,17 +53,6 @@ pub(crate) fn unmark(marks: &mut Vec<bool>, lits: &[Lit])
     for lit in lits {
         marks[lit.code() as usize] = false;
     }
-}
-
-/// Takes the mark of a literal away, where no other is marked.
-#[tactic(auto, using(crate::proofs::WayLaws::alone_clear))]
-pub(crate) fn unmark_one(marks: &mut Vec<bool>, lit: Lit)
-    requires below { lit < length marks.old.items }
-    requires alone { AreFalseBut [] marks.old.items lit }
-    ensures counted { length marks.new.items ≡ length marks.old.items }
-    ensures clear { AreClear marks.new.items }
-{
-    marks[lit.code() as usize] = false;
 }
 
 /// Takes all marks away.

@@ -21,7 +21,7 @@ pub(crate) struct Resolution {
 }
 
 impl Resolution {
-    #[tactic(auto, using(crate::proofs::WayLaws::none_marked))]
+    #[tactic(auto, using(crate::proofs::MarkLaws::none_marked))]
     /// No marks, with room for so many literals.
     pub(crate) fn new(alloc: Global, literals: usize) -> Result<Resolution, Memory>
         ensures table { IfOk result (λ r. length r.marks.items ≡ literals) }

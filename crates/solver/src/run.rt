@@ -1,21 +1,21 @@
 //! The search for an answer to one question.
-ghost use Rattle.std.specs.Prelude.{◌≡◌, ℕ, ◌+◌, ◌*◌, ◌<◌, ◌≤◌, [], length, slice_index_or, IfOk, OnOk, Ok};
-ghost use Rattle.clause_pool.specs.Literal.{complement};
-ghost use Rattle.clause_pool.specs.Clause.{has};
-ghost use Rattle.propagate.specs.Trail.{level};
-ghost use Rattle.solver.specs.Answer.{IsNew};
-ghost use Rattle.solver.specs.Marks.{IsChain, AreClear, AreFalseBut};
-ghost use Rattle.solver.specs.Search.{IsReady, IsKept, IsSearch, IsConflict, IsLearning, IsFull, AllNew};
-ghost use Rattle.chains.specs.Growth.{ClosedBy, Extends};
+ghost use Rattle.std.specs.Prelude.{◌≡◌, ℕ, List, ◌+◌, ◌*◌, ◌<◌, ◌≤◌, [], length, slice_index_or, IfOk, OnOk, Ok};
+ghost use Rattle.propagate.specs.Quiet.{IsConsistent};
+ghost use Rattle.propagate.specs.Trail.{AreBelow, level};
+ghost use Rattle.solver.specs.Answer.{AreHeld, IsCore, IsNew};
+ghost use Rattle.solver.specs.Ending.{IsFound};
+ghost use Rattle.solver.specs.Marks.{AreClear};
+ghost use Rattle.solver.specs.Search.{IsReady, IsKept, IsSettled, IsAssumed, IsLearning, IsFull, AllNew};
+ghost use Rattle.chains.specs.Growth.{Extends};
 
-use crate::analyze::{analyze, append};
+use crate::analyze::analyze;
+use crate::assume::hold;
 use crate::backjump::backjump;
-use crate::conflict::{Resolvable, resolve_at};
+use crate::closing::close;
 use crate::decide::descend;
-use crate::marks::{is_marked, unmark_one};
 use crate::order::Order;
 use crate::resolution::Resolution;
-use crate::way::{Way, are_unmarked_but, resolve_ahead};
+use crate::way::Way;
 use clause_pool::{Kernel, Lit, Pool, Ref};
 use pb_base::Memory;
 use propagate::Engine;
@@ -24,126 +24,49 @@ use propagate::Engine;
 pub(crate) enum Ending {
     /// Every variable has a value, and no clause is false.
     Full,
-    /// The clause at this place has no literal but the complement of the assumption.
+    /// The clause at this place has no literal but complements of assumptions.
     Closed(Ref),
     /// So many clauses were learnt as were allowed.
     Spent,
 }
 
-// Resolves all literals that have a reason away.
-#[tactic(auto, using(crate::proofs::MarkLaws::false_below))]
-fn resolve_all(
-    engine: &Engine,
+/// What a search comes to next.
+pub(crate) enum Found {
+    /// Every variable has a value, and no clause is false.
+    Full,
+    /// The clause at this place shows that the assumptions can't hold together.
+    Closing(Ref),
+    /// The clause at this place is false, and something is to be learnt from it.
+    Learning(Ref),
+}
+
+// Goes down the levels, those of the assumptions first. From the level `depth` on all of them hold.
+fn find(
+    engine: &mut Engine,
     pool: &Pool,
-    resolution: &mut Resolution,
-    g: Lit,
-) -> Result<(), Memory>
-    requires attached { pool.now.clauses ≡ engine.now.clauses }
-    requires level { level engine.now ≤ 1 }
-    requires search { IsSearch g engine.now }
-    requires chain { IsChain pool.now.clauses resolution.old }
-    requires table { length resolution.old.marks.items ≡ 2 * engine.now.vars }
-    requires others_false { AreFalseBut engine.now.lits resolution.old.marks.items (complement g) }
-    ensures chain { OnOk result (IsChain pool.now.clauses resolution.new) }
-    ensures none { OnOk result (AreFalseBut [] resolution.new.marks.items (complement g)) }
-    ensures table { length resolution.new.marks.items ≡ 2 * engine.now.vars }
+    order: &mut Order,
+    assumptions: &[Lit],
+    depth: &mut u32,
+) -> Result<Found, Memory>
+    requires attached { pool.now.clauses ≡ engine.old.clauses }
+    requires below { AreBelow assumptions.now (2 * engine.old.vars) }
+    requires consistent { IsConsistent assumptions.now }
+    requires settled { IsSettled engine.old }
+    requires assumed { IsAssumed assumptions.now depth.old engine.old }
+    ensures clauses { engine.new.clauses ≡ engine.old.clauses }
+    ensures vars { engine.new.vars ≡ engine.old.vars }
+    ensures found { IfOk result (IsFound engine.new assumptions.now depth.new) }
 {
-    let lits = engine.trail();
-    let mut place = lits.len();
-    while place > 0 {
-        place -= 1;
-        if !is_marked(&resolution.marks, lits, place) {
-            continue;
-        }
-        let Some(reason) = engine.reason_at(place) else {
-            continue;
-        };
-        let at = Resolvable { place, reason };
-        resolve_at(engine, pool, resolution, at, pool.lits(reason))?;
+    if let Some(at) = hold(engine, pool, assumptions, depth)? {
+        return Ok(Found::Closing(at));
     }
-    Ok(())
-}
-
-// The same by the way that the reasons show, which is short beside the trail. Where this leaves something, the walk over
-// the trail takes it away.
-#[tactic(auto, using(crate::proofs::WayLaws::none_left))]
-fn resolve_away(
-    engine: &Engine,
-    pool: &Pool,
-    resolution: &mut Resolution,
-    way: &mut Way,
-    g: Lit,
-) -> Result<(), Memory>
-    requires attached { pool.now.clauses ≡ engine.now.clauses }
-    requires level { level engine.now ≤ 1 }
-    requires search { IsSearch g engine.now }
-    requires chain { IsChain pool.now.clauses resolution.old }
-    requires table { length resolution.old.marks.items ≡ 2 * engine.now.vars }
-    requires others_false { AreFalseBut engine.now.lits resolution.old.marks.items (complement g) }
-    ensures chain { OnOk result (IsChain pool.now.clauses resolution.new) }
-    ensures none { OnOk result (AreFalseBut [] resolution.new.marks.items (complement g)) }
-    ensures table { length resolution.new.marks.items ≡ 2 * engine.now.vars }
-{
-    resolve_ahead(engine, pool, resolution, way, g.not())?;
-    if are_unmarked_but(&resolution.marks, &resolution.touched, g.not()) {
-        return Ok(());
+    let Some(at) = descend(engine, pool, order)? else {
+        return Ok(Found::Full);
+    };
+    if engine.level() <= *depth {
+        return Ok(Found::Closing(at));
     }
-    resolve_all(engine, pool, resolution, g)?;
-    Ok(())
-}
-
-// Derives from a conflict that the assumption alone leads to a clause that refutes it.
-fn derive_closing(
-    kernel: &mut Kernel,
-    engine: &Engine,
-    resolution: &mut Resolution,
-    way: &mut Way,
-    g: Lit,
-    at: Ref,
-) -> Result<Ref, Memory>
-    requires ready { IsReady kernel.old.clauses engine.now resolution.old.marks.items }
-    requires level { level engine.now ≤ 1 }
-    requires search { IsSearch g engine.now }
-    requires conflict { IsConflict engine.now g at }
-    ensures extends { Extends kernel.old kernel.new }
-    ensures kept { IsKept kernel.new.clauses engine.now resolution.new.marks.items }
-    ensures closed { IfOk result (ClosedBy kernel.new g) }
-    ensures none { OnOk result (AreFalseBut [] resolution.new.marks.items (complement g)) }
-{
-    kernel.given();
-    let end = engine.trail().len();
-    resolution.begin(kernel.pool(), at)?;
-    way.begin(engine, kernel.pool().lits(at), end);
-    resolve_away(engine, kernel.pool(), resolution, way, g)?;
-    if resolution.pairs.is_empty() {
-        return Ok(resolution.start);
-    }
-    let closed = append(kernel, resolution, &mut way.literals)?;
-    Ok(closed)
-}
-
-// The same, with no mark left.
-fn close(
-    kernel: &mut Kernel,
-    engine: &Engine,
-    resolution: &mut Resolution,
-    way: &mut Way,
-    g: Lit,
-    at: Ref,
-) -> Result<Ref, Memory>
-    requires below { g < 2 * engine.now.vars }
-    requires ready { IsReady kernel.old.clauses engine.now resolution.old.marks.items }
-    requires level { level engine.now ≤ 1 }
-    requires search { IsSearch g engine.now }
-    requires conflict { IsConflict engine.now g at }
-    ensures extends { Extends kernel.old kernel.new }
-    ensures kept { IsKept kernel.new.clauses engine.now resolution.new.marks.items }
-    ensures closed { IfOk result (ClosedBy kernel.new g) }
-    ensures clear { OnOk result (AreClear resolution.new.marks.items) }
-{
-    let closed = derive_closing(kernel, engine, resolution, way, g, at)?;
-    unmark_one(&mut resolution.marks, g.not());
-    Ok(closed)
+    Ok(Found::Learning(at))
 }
 
 // Learns a clause from a conflict, and goes back to where it forces its literal.
@@ -156,16 +79,20 @@ fn go_on(
     at: Ref,
 ) -> Result<(), Memory>
     requires ready { IsReady kernel.old.clauses engine.old resolution.old.marks.items }
-    requires level { 1 < level engine.old }
+    requires level { 0 < level engine.old }
+    requires settled { IsSettled engine.old }
     requires conflict { IsLearning engine.old at }
     ensures extends { Extends kernel.old kernel.new }
     ensures kept { IsKept kernel.new.clauses engine.new resolution.new.marks.items }
     ensures vars { engine.new.vars ≡ engine.old.vars }
     ensures ready { OnOk result (IsReady kernel.new.clauses engine.new resolution.new.marks.items) }
     ensures one_more { OnOk result (length kernel.new.clauses ≡ length kernel.old.clauses + 1) }
-    ensures fresh { OnOk result ((g : ℕ) → IsSearch g engine.old
-        → IsNew kernel.old.clauses g (slice_index_or kernel.new.clauses (length kernel.old.clauses) [])) }
-    ensures search { OnOk result ((g : ℕ) → IsSearch g engine.old → IsSearch g engine.new) }
+    ensures fresh { OnOk result ((assumptions : List ℕ) (depth : ℕ) → depth < level engine.old
+        → IsAssumed assumptions depth engine.old → IsNew kernel.old.clauses assumptions
+            (slice_index_or kernel.new.clauses (length kernel.old.clauses) [])) }
+    ensures settled { OnOk result (IsSettled engine.new) }
+    ensures assumed { OnOk result ((assumptions : List ℕ) (depth : ℕ)
+        → IsAssumed assumptions depth engine.old → IsAssumed assumptions depth engine.new) }
 {
     let place = analyze(kernel, engine, resolution, way, order, at)?;
     backjump(engine, kernel.pool(), order, place)?;
@@ -179,31 +106,39 @@ pub(crate) fn run(
     resolution: &mut Resolution,
     way: &mut Way,
     order: &mut Order,
-    g: Lit,
+    assumptions: &[Lit],
     budget: u32,
 ) -> Result<Ending, Memory>
     requires ready { IsReady kernel.old.clauses engine.old resolution.old.marks.items }
-    requires search { IsSearch g engine.old }
-    requires below { g < 2 * engine.old.vars }
+    requires settled { IsSettled engine.old }
+    requires assumed { IsAssumed assumptions.now 1 engine.old }
+    requires below { AreBelow assumptions.now (2 * engine.old.vars) }
+    requires consistent { IsConsistent assumptions.now }
     ensures extends { Extends kernel.old kernel.new }
     ensures kept { IsKept kernel.new.clauses engine.new resolution.new.marks.items }
     ensures vars { engine.new.vars ≡ engine.old.vars }
     ensures clear { OnOk result (AreClear resolution.new.marks.items) }
-    ensures closed { (at : ℕ) → result ≡ Ok (Ending.Closed at) → ClosedBy kernel.new g at }
-    ensures full { result ≡ Ok Ending.Full → (engine.new.clauses ≡ kernel.new.clauses) × IsFull engine.new g }
+    ensures core { (at : ℕ) → result ≡ Ok (Ending.Closed at) → IsCore kernel.new assumptions.now at }
+    ensures full { result ≡ Ok Ending.Full → (engine.new.clauses ≡ kernel.new.clauses)
+        × IsFull engine.new × AreHeld assumptions.now engine.new.lits }
     ensures count { result ≡ Ok Ending.Spent
         → length kernel.new.clauses ≡ length kernel.old.clauses + budget }
-    ensures fresh { result ≡ Ok Ending.Spent → AllNew g (length kernel.old.clauses) kernel.new.clauses }
+    ensures fresh { result ≡ Ok Ending.Spent
+        → AllNew assumptions.now (length kernel.old.clauses) kernel.new.clauses }
 {
     let mut learnt = 0;
+    // At level 0 none of the assumptions was assumed.
+    let mut depth = 1;
     while learnt < budget {
-        let Some(at) = descend(engine, kernel.pool(), order, g)? else {
-            return Ok(Ending::Full);
+        let at = match find(engine, kernel.pool(), order, assumptions, &mut depth)? {
+            Found::Full => return Ok(Ending::Full),
+            Found::Closing(at) => {
+                let literals = &mut way.literals;
+                let closed = close(kernel, engine, resolution, literals, assumptions, at)?;
+                return Ok(Ending::Closed(closed));
+            }
+            Found::Learning(at) => at,
         };
-        if engine.level() <= 1 {
-            let closed = close(kernel, engine, resolution, way, g, at)?;
-            return Ok(Ending::Closed(closed));
-        }
         go_on(kernel, engine, resolution, way, order, at)?;
         learnt += 1;
     }

@@ -1,14 +1,13 @@
 //! A solver: many questions over the same given clauses.
-ghost use Rattle.std.specs.Prelude.{◌≡◌, ℕ, List, ◌+◌, ◌*◌, ◌^◌, ◌<◌, ◌≤◌, length, take, drop, IfOk, OnOk, Ok, true};
+ghost use Rattle.std.specs.Prelude.{◌≡◌, ℕ, List, ◌+◌, ◌*◌, ◌<◌, ◌≤◌, length, take, drop, IfOk, OnOk, true};
 ghost use Rattle.clause_pool.specs.Clause.{has, AreBelow};
-ghost use Rattle.clause_pool.specs.PoolContents.{PoolContents};
 ghost use Rattle.chains.specs.Growth.{given_of};
 ghost use Rattle.pb_base.specs.Sets.{has as has_code};
-ghost use Rattle.propagate.specs.Trail.{IsTrail, level};
-ghost use Rattle.propagate.specs.Quiet.{Quiet};
-ghost use Rattle.solver.specs.Answer.{Begins, IsSpent};
+ghost use Rattle.propagate.specs.Trail.{IsTrail, AreBelow as AreLiterals, level};
+ghost use Rattle.propagate.specs.Quiet.{IsConsistent};
+ghost use Rattle.solver.specs.Answer.{AreHeld, Begins, IsSpent};
 ghost use Rattle.solver.specs.Marks.{AreClear};
-ghost use Rattle.solver.specs.Search.{IsReady, IsSearch, IsKept, IsFull, AllNew};
+ghost use Rattle.solver.specs.Search.{IsReady, IsSettled, IsAssumed, IsKept, IsFull, AllNew};
 ghost use Rattle.solver.specs.Solver.{IsRight, Onwards};
 ghost use Rattle.pb_base.specs.declared.limits.TheConstants.{MOST_BUDGET};
 
@@ -100,18 +99,15 @@ impl Solver {
         self.order.prefer(hints);
     }
 
-    /// Looks for a set of codes that begins an assignment which satisfies the given clauses with this literal true,
-    /// and learns up to so many clauses. After want of memory the same question and others may be asked again.
-    pub fn solve(&mut self, assume: Lit, budget: u32) -> Result<Answer, Memory>
-        requires below { assume < 2 * self.old.vars }
+    /// Looks for a set of codes that begins an assignment which satisfies the given clauses with each of these literals
+    /// true, and learns up to so many clauses. After want of memory the same question and others may be asked again.
+    pub fn solve(&mut self, assumptions: &[Lit], budget: u32) -> Result<Answer, Memory>
+        requires below { AreLiterals assumptions.now (2 * self.old.vars) }
+        requires consistent { IsConsistent assumptions.now }
         requires some { 0 < budget }
         requires budget { budget ≤ MOST_BUDGET }
         ensures onwards { Onwards self.old self.new }
-        ensures answer { IfOk result (IsRight self.new assume budget) }
-        ensures spent_within { (learnt : PoolContents) → result ≡ Ok (Answer.Spent learnt)
-            → budget ≤ 3 ^ self.old.vars }
-        ensures spent_over_quiet { (learnt : PoolContents) → result ≡ Ok (Answer.Spent learnt)
-            → (lits : List ℕ) × Quiet (given_of self.old.kernel) lits × (has lits assume ≡ true) }
+        ensures answer { IfOk result (IsRight self.new assumptions.now budget) }
     {
         let first = self.kernel.pool().len();
         prepare(
@@ -126,7 +122,7 @@ impl Solver {
             &mut self.resolution,
             &mut self.way,
             &mut self.order,
-            assume,
+            assumptions,
             budget,
         );
         let Ok(ending) = searched else {
@@ -135,13 +131,15 @@ impl Solver {
         };
         match ending {
             Ending::Full => {
-                let set = found_set(self.alloc, &self.kernel, &self.engine, self.codes, assume)?;
+                let codes = self.codes;
+                let set = found_set(self.alloc, &self.kernel, &self.engine, codes, assumptions)?;
                 Ok(Answer::Set(set))
             }
             Ending::Closed(at) => Ok(Answer::Closed(at)),
             Ending::Spent => {
                 let vars = self.engine.vars();
-                let learnt = learnt_from(self.alloc, &self.kernel, vars, first, assume, budget)?;
+                let learnt =
+                    learnt_from(self.alloc, &self.kernel, vars, first, assumptions, budget)?;
                 Ok(Answer::Spent(learnt))
             }
         }
@@ -251,7 +249,8 @@ fn prepare(
     ensures vars { engine.new.vars ≡ engine.old.vars }
     ensures level { level engine.new ≡ 0 }
     ensures ready { OnOk result (IsReady kernel.now.clauses engine.new resolution.now.marks.items) }
-    ensures search { OnOk result ((g : ℕ) → IsSearch g engine.new) }
+    ensures settled { OnOk result (IsSettled engine.new) }
+    ensures assumed { OnOk result ((assumptions : List ℕ) → IsAssumed assumptions 1 engine.new) }
 {
     take_back(engine, order);
     order.begin();
@@ -308,14 +307,14 @@ fn found_set(
     kernel: &Kernel,
     engine: &Engine,
     codes: u32,
-    g: Lit,
+    assumptions: &[Lit],
 ) -> Result<CodeSet, Memory>
     requires codes { codes ≤ engine.now.vars }
     requires attached { engine.now.clauses ≡ kernel.now.clauses }
     requires below { AreBelow (2 * engine.now.vars) kernel.now.clauses }
-    requires full { IsFull engine.now g }
-    requires literal { g < 2 * engine.now.vars }
-    ensures { IfOk result (Begins (given_of kernel.now) g codes) }
+    requires full { IsFull engine.now }
+    requires held { AreHeld assumptions.now engine.now.lits }
+    ensures { IfOk result (Begins (given_of kernel.now) assumptions.now codes) }
 {
     engine.trail();
     let set = true_codes(alloc, engine, codes)?;
@@ -340,14 +339,15 @@ fn learnt_from(
     kernel: &Kernel,
     vars: u32,
     first: Ref,
-    g: Lit,
+    assumptions: &[Lit],
     budget: u32,
 ) -> Result<Pool, Memory>
     requires below { AreBelow (2 * vars) kernel.now.clauses }
     requires given { kernel.now.given ≤ first }
     requires count { length kernel.now.clauses ≡ first + budget }
-    requires fresh { AllNew g first kernel.now.clauses }
-    ensures { IfOk result (λ learnt. IsSpent vars (given_of kernel.now) g budget learnt.clauses) }
+    requires fresh { AllNew assumptions.now first kernel.now.clauses }
+    ensures { IfOk result (λ learnt. IsSpent vars (given_of kernel.now) assumptions.now budget
+        learnt.clauses) }
 {
     let pool = kernel.pool();
     let learnt = clauses_from(alloc, pool, first)?;

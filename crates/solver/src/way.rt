@@ -1,17 +1,14 @@
-//! The way of a closing: which marks to resolve away, without a walk over the whole trail.
-ghost use Rattle.std.specs.Prelude.{◌≡◌, ℕ, ◌+◌, ◌*◌, ◌<◌, length, IfSome, OnOk, OnSome, true};
+//! The way to a learnt clause: which marks to resolve away, without a walk over the whole trail.
+ghost use Rattle.std.specs.Prelude.{◌≡◌, ℕ, ◌+◌, ◌*◌, ◌<◌, length, IfSome, OnSome, true};
 ghost use Rattle.std.specs.BinaryHeap.{heap_len};
 ghost use Rattle.clause_pool.specs.Clause.{has};
-ghost use Rattle.clause_pool.specs.Marks.{marked};
 ghost use Rattle.propagate.specs.Trail.{AreBelow};
-ghost use Rattle.solver.specs.Marks.{IsChain, AreFalseBut, IsResolvable};
+ghost use Rattle.solver.specs.Marks.{IsResolvable};
 
-use crate::conflict::{Resolvable, resolve_at};
+use crate::conflict::Resolvable;
 use crate::marks::is_marked;
 use crate::order::Order;
-use crate::resolution::Resolution;
 use clause_pool::{Lit, Pool};
-use pb_base::Memory;
 use propagate::Engine;
 use std::alloc::Global;
 use std::collections::BinaryHeap;
@@ -21,9 +18,9 @@ use std::collections::BinaryHeap;
 pub(crate) struct Way {
     // Where the literals of a resolvent are written.
     pub(crate) literals: Vec<Lit>,
-    // For a closing, places of any level. For a learnt clause, those that reasons at level 0 lead to.
+    // The places that reasons at level 0 lead to.
     pub(crate) ahead: BinaryHeap<usize, Global>,
-    // For a learnt clause, its places at level 0, in any order.
+    // The places of the clause at level 0, in any order.
     pub(crate) fixed: Vec<usize>,
     // And those between level 0 and the current one.
     pub(crate) between: Vec<usize>,
@@ -63,19 +60,23 @@ impl Way {
         self.look_back(engine, order, &[], lits, span);
     }
 
-    /// Begins with the literals of a clause, as far as they come before this place of the trail.
-    pub(crate) fn begin(&mut self, engine: &Engine, lits: &[Lit], end: usize)
-        requires { AreBelow lits.now (2 * engine.now.vars) }
-    {
-        self.ahead.clear();
-        self.look_ahead(engine, &[], lits, end);
-    }
-
-    /// Puts the places of literals that are not marked yet ahead, as far as they come before this one.
+    /// Puts the places of literals that are not marked yet ahead, as far as they come before this one. What there is no
+    /// room for isn't found by the way.
+    #[tactic(auto, using(propagate::proofs::TakeLaws::item_in))]
     pub(crate) fn look_ahead(&mut self, engine: &Engine, marks: &[bool], lits: &[Lit], end: usize)
         requires { AreBelow lits.now (2 * engine.now.vars) }
     {
-        put_ahead(engine, &mut self.ahead, marks, lits, end);
+        for lit in lits {
+            if lit.is_marked(marks) {
+                continue;
+            }
+            if let Some(place) = engine.place_of(lit.var())
+                && place < end
+                && self.ahead.push(place).is_err()
+            {
+                return;
+            }
+        }
     }
 
     /// Counts the literals of a clause as ones in a conflict, and puts the places of those down that are not marked yet, as
@@ -116,31 +117,6 @@ impl Way {
     }
 }
 
-// Puts the places of literals that are not marked yet ahead, as far as they come before this one. What there is no
-// room for isn't found by the way.
-#[tactic(auto, using(propagate::proofs::TakeLaws::item_in))]
-fn put_ahead(
-    engine: &Engine,
-    ahead: &mut BinaryHeap<usize, Global>,
-    marks: &[bool],
-    lits: &[Lit],
-    end: usize,
-)
-    requires { AreBelow lits.now (2 * engine.now.vars) }
-{
-    for lit in lits {
-        if lit.is_marked(marks) {
-            continue;
-        }
-        if let Some(place) = engine.place_of(lit.var())
-            && place < end
-            && ahead.push(place).is_err()
-        {
-            return;
-        }
-    }
-}
-
 // Whether each literal of a clause but this one is marked.
 #[tactic(auto, using(propagate::proofs::TakeLaws::item_in))]
 fn others_marked(marks: &[bool], lits: &[Lit], left_out: Lit) -> bool
@@ -167,26 +143,6 @@ fn resolvable_at(engine: &Engine, marks: &[bool], place: usize, end: usize) -> O
     }
     let reason = engine.reason_at(place)?;
     Some(Resolvable { place, reason })
-}
-
-// The latest place ahead and before `end` that is marked and has a reason.
-fn next_ahead(
-    engine: &Engine,
-    marks: &[bool],
-    ahead: &mut BinaryHeap<usize, Global>,
-    end: usize,
-) -> Option<Resolvable>
-    requires table { length marks.now ≡ 2 * engine.now.vars }
-    ensures resolvable { IfSome result (IsResolvable engine.now marks.now) }
-    ensures before { IfSome result (λ at. at.place < end) }
-{
-    while let Some(place) = ahead.pop() {
-        let found = resolvable_at(engine, marks, place, end);
-        if found.is_some() {
-            return found;
-        }
-    }
-    None
 }
 
 // Whether all others of the reason of a false literal are marked.
@@ -269,51 +225,4 @@ pub(crate) fn next_needless(
         return between;
     }
     next_fixed(engine, marks, way, end)
-}
-
-/// Resolves literals that have a reason away, the latest first, as far as the places ahead tell of them.
-pub(crate) fn resolve_ahead(
-    engine: &Engine,
-    pool: &Pool,
-    resolution: &mut Resolution,
-    way: &mut Way,
-    left: Lit,
-) -> Result<(), Memory>
-    requires attached { pool.now.clauses ≡ engine.now.clauses }
-    requires chain { IsChain pool.now.clauses resolution.old }
-    requires table { length resolution.old.marks.items ≡ 2 * engine.now.vars }
-    requires others_false { AreFalseBut engine.now.lits resolution.old.marks.items left }
-    ensures chain { OnOk result (IsChain pool.now.clauses resolution.new) }
-    ensures table { length resolution.new.marks.items ≡ 2 * engine.now.vars }
-    ensures others_false { OnOk result (AreFalseBut engine.now.lits resolution.new.marks.items left) }
-{
-    let end = engine.trail().len();
-    for _ in 0..end {
-        let Some(at) = next_ahead(engine, &resolution.marks, &mut way.ahead, end) else {
-            return Ok(());
-        };
-        let clause = pool.lits(at.reason);
-        way.look_ahead(engine, &resolution.marks, clause, at.place);
-        resolve_at(engine, pool, resolution, at, clause)?;
-    }
-    Ok(())
-}
-
-// Whether a literal is the one that is left, or isn't marked.
-fn is_unmarked_but(marks: &[bool], lit: Lit, left: Lit) -> bool
-    ensures { result ≡ true → marked marks.now lit ≡ true → lit ≡ left }
-{
-    lit == left || !lit.is_marked(marks)
-}
-
-/// Whether none of these literals is marked but one.
-pub(crate) fn are_unmarked_but(marks: &[bool], lits: &[Lit], left: Lit) -> bool
-    ensures { result ≡ true → (l : ℕ) → has lits.now l ≡ true → marked marks.now l ≡ true → l ≡ left }
-{
-    for lit in lits {
-        if !is_unmarked_but(marks, *lit, left) {
-            return false;
-        }
-    }
-    true
 }

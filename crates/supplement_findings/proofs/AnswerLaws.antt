@@ -1,5 +1,5 @@
 -- What the solver's answers say of questions.
-use Rattle.std.proofs.Common.{◌≡◌, ℕ, ◌+◌, ◌*◌, ◌≤◌, ◌<◌, Bool, true, false, not, List, Some, length, sym, ap, subst, ◌∙◌, arith, All}
+use Rattle.std.proofs.Common.{◌≡◌, ℕ, ◌+◌, ◌*◌, ◌≤◌, ◌<◌, Bool, true, false, not, List, [], ◌∷◌, Some, length, sym, ap, subst, ◌∙◌, arith, All}
 use Rattle.std.specs.List.{slice_get}
 use Rattle.std.proofs.lemmas.Bool.{false_from_ne_true, true≢false}
 use Rattle.std.proofs.lemmas.List.Elements.{recursion_from_All}
@@ -15,6 +15,7 @@ use Rattle.clause_pool.proofs.ClauseLaws.{TrueLiteral, true_literal, all_found}
 use Rattle.clause_pool.proofs.LiteralLaws.{is_true-complement}
 use Rattle.clausify.proofs.Truth.{true_positive}
 use Rattle.solver.specs.Answer.{Begins, IsSpent}
+use Rattle.solver.proofs.OneLaws.{in_one}
 use Rattle.solver.specs.Solver.{Solving, Onwards}
 use Rattle.supplement_findings.specs.Answering.{IsPosed, IsOver, question_at}
 use Rattle.supplement_findings.specs.Clauses.{goals_start, questions_clauses, questions_variables}
@@ -39,15 +40,15 @@ abbrev goal_of : Contents → ℕ → List SupplementQuestion → ℕ → ℕ
 goal_of b day qs place = literal (goals_start b day qs + place) true
 
 pub set_shows : (b : Contents) (day : ℕ) (qs : List SupplementQuestion) (place : ℕ) (solving : Solving) (x : List Bool) → IsBook b → All (IsPosed b day) qs → place < length qs
-    → IsOver b day qs solving → Begins (given_of solving.kernel) (goal_of b day qs place) solving.codes x
+    → IsOver b day qs solving → Begins (given_of solving.kernel) (goal_of b day qs place ∷ []) solving.codes x
     → (length x ≡ length b.codes) × (meets b day (question_at qs place) x ≡ true)
 set_shows b day qs place solving x book posed within over begins =
     let g : ℕ = goal_of b day qs place in
-    let h : Begins (questions_clauses b day qs) g (length b.codes) x =
-    subst (λ (n : ℕ). Begins (questions_clauses b day qs) g n x) over.codes (subst (λ (cs : List (List ℕ)). Begins cs g solving.codes x) over.given begins) in (
+    let h : Begins (questions_clauses b day qs) (g ∷ []) (length b.codes) x =
+    subst (λ (n : ℕ). Begins (questions_clauses b day qs) (g ∷ []) n x) over.codes (subst (λ (cs : List (List ℕ)). Begins cs (g ∷ []) solving.codes x) over.given begins) in (
       h.counted,
       meets_from_goal b day qs book (recursion_from_All (IsPosed b day) qs posed) place (question_at qs place) (there_at qs place within) x h.assignment h.counted h.begins h.satisfied
-          (sym (true_positive h.assignment (goals_start b day qs + place)) ∙ h.assumed),
+          (sym (true_positive h.assignment (goals_start b day qs + place)) ∙ h.assumed g (in_one g)),
     )
 
 pub closed_shows_none : (b : Contents) (day : ℕ) (qs : List SupplementQuestion) (place at : ℕ) (solving : Solving) → IsBook b → All (IsPosed b day) qs → place < length qs
@@ -66,10 +67,10 @@ closed_shows_none b day qs place at solving book posed within over follow closed
     (sym found.holds ∙ ap (is_true m.assignment) (closed.refutes found.literal found.is_in) ∙ is_true-complement m.assignment g ∙ ap not true_goal))
 
 pub spent_over : (b : Contents) (day : ℕ) (qs : List SupplementQuestion) (g budget : ℕ) (solving : Solving) (learnt : List (List ℕ)) → IsOver b day qs solving
-    → IsSpent solving.vars (given_of solving.kernel) g budget learnt → IsSpent (questions_variables b day qs) (questions_clauses b day qs) g budget learnt
+    → IsSpent solving.vars (given_of solving.kernel) (g ∷ []) budget learnt → IsSpent (questions_variables b day qs) (questions_clauses b day qs) (g ∷ []) budget learnt
 spent_over b day qs g budget solving learnt over h =
-    subst (λ (n : ℕ). IsSpent n (questions_clauses b day qs) g budget learnt) over.variables
-    (subst (λ (cs : List (List ℕ)). IsSpent solving.vars cs g budget learnt) over.given h)
+    subst (λ (n : ℕ). IsSpent n (questions_clauses b day qs) (g ∷ []) budget learnt) over.variables
+    (subst (λ (cs : List (List ℕ)). IsSpent solving.vars cs (g ∷ []) budget learnt) over.given h)
 
 -- a solver that was just made over the clauses of questions
 pub begins_below : (b : Contents) (day vars : ℕ) (qs : List SupplementQuestion) (clauses : List (List ℕ)) (kernel : Derivation) → IsBook b → All (QuestionFits b) qs

@@ -95,11 +95,11 @@ pub finding_note : (b : Contents) (budget : ℕ) (s : Slice) (q question : Suppl
 finding_note b budget s q question x steady fits same len met = (same, shown_through b s q x steady fits len met)
 
 pub left_note : (b : Contents) (budget : ℕ) (s : Slice) (q question : SupplementQuestion) (learnt : PoolContents) → question ≡ q
-    → IsSpent (questions_variables b s.first (q ∷ [])) (questions_clauses b s.first (q ∷ [])) (literal (goals_start b s.first (q ∷ []) + 0) true) budget learnt.clauses
+    → IsSpent (questions_variables b s.first (q ∷ [])) (questions_clauses b s.first (q ∷ [])) (literal (goals_start b s.first (q ∷ []) + 0) true ∷ []) budget learnt.clauses
     → OwnNotes (inquiry b budget) s q (Undecided question learnt ∷ [])
 left_note b budget s q question learnt same spent = (
   same,
-  subst (λ (v : ℕ). IsSpent (questions_variables b s.first (q ∷ [])) (questions_clauses b s.first (q ∷ [])) (literal v true) budget learnt.clauses)
+  subst (λ (v : ℕ). IsSpent (questions_variables b s.first (q ∷ [])) (questions_clauses b s.first (q ∷ [])) (literal v true ∷ []) budget learnt.clauses)
       (let e : goals_start b s.first (q ∷ []) + 0 ≡ goals_start b s.first (q ∷ []) = omega arith in e) spent,
 )
 

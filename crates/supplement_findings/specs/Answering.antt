@@ -5,7 +5,7 @@
 --     IsCounted b x              a set of the book's codes
 --     IsKept b day x             a set that may answer other questions
 --     IsTask b task              a slice on all days of which the same records are active, and a budget within its bounds
-use Rattle.std.specs.Prelude.{◌≡◌, ℕ, ◌+◌, ◌<◌, ◌≤◌, Bool, true, false, List, length, slice_index_or}
+use Rattle.std.specs.Prelude.{◌≡◌, ℕ, ◌+◌, ◌<◌, ◌≤◌, Bool, true, false, List, [], ◌∷◌, length, slice_index_or}
 use Rattle.pb_base.specs.declared.limits.TheConstants.{MOST_BUDGET}
 use Rattle.book_model.specs.Contents.{Contents}
 use Rattle.book_model.specs.Good.{is_constructible}
@@ -42,7 +42,7 @@ abbrev pub IsOutcome : Contents → ℕ → List SupplementQuestion → ℕ → 
 IsOutcome b day qs place budget (Shown x) = (length x ≡ length b.codes) × (meets b day (question_at qs place) x ≡ true)
 IsOutcome b day qs place budget NotShown = (x : List Bool) → length x ≡ length b.codes → meets b day (question_at qs place) x ≡ false
 IsOutcome b day qs place budget (Left learnt) =
-    IsSpent (questions_variables b day qs) (questions_clauses b day qs) (literal (goals_start b day qs + place) true) budget learnt.clauses
+    IsSpent (questions_variables b day qs) (questions_clauses b day qs) (literal (goals_start b day qs + place) true ∷ []) budget learnt.clauses
 
 abbrev pub IsCounted : Contents → List Bool → Type 0
 IsCounted b x = length x ≡ length b.codes

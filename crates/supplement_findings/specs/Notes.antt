@@ -39,7 +39,7 @@ IsNoteOf i s q (Days first last) = ⊥
 IsNoteOf i s q (Finding question set) = (question ≡ q) × ShownBy i.book s q set
 IsNoteOf i s q (Undecided question learnt) =
     (question ≡ q)
-    × IsSpent (question_variables i.book s.first q) (question_clauses i.book s.first q) (question_goal i.book s.first q) i.budget learnt.clauses
+    × IsSpent (question_variables i.book s.first q) (question_clauses i.book s.first q) (question_goal i.book s.first q ∷ []) i.budget learnt.clauses
 
 abbrev pub OwnNotes : SupplementInquiry → Slice → SupplementQuestion → List SupplementNote → Type 0
 OwnNotes i s q [] = ShownByNone i.book s q

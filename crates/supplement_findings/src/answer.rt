@@ -1,5 +1,5 @@
 //! The answer to a question by a search.
-ghost use Rattle.std.specs.Prelude.{◌≡◌, ◌+◌, ◌<◌, ◌≤◌, All, IfOk, length, true};
+ghost use Rattle.std.specs.Prelude.{◌≡◌, ◌+◌, ◌<◌, ◌≤◌, [], ◌∷◌, All, IfOk, length, true};
 ghost use Rattle.pb_base.specs.declared.limits.TheConstants.{MOST_BUDGET};
 ghost use Rattle.clause_pool.specs.Literal.{literal};
 ghost use Rattle.solver.specs.Solver.{IsRight};
@@ -82,7 +82,7 @@ pub(crate) fn ask(
 {
     book.codes();
     let goal = Lit::new(asking.first_goal + place as u32, true);
-    let answer = asking.solver.solve(goal, budget)?;
+    let answer = asking.solver.solve(&[goal], budget)?;
     Ok(read_answer(book, day, questions, place, &asking.solver, budget, answer))
 }
 
@@ -100,7 +100,7 @@ fn read_answer(
     requires within { place < length questions.now }
     requires over { IsOver book.now day questions.now solver.now }
     requires right { let goal = literal (goals_start book.now day questions.now + place) true in
-        IsRight solver.now goal budget answer }
+        IsRight solver.now (goal ∷ []) budget answer }
     ensures { IsOutcome book.now day questions.now place budget result }
 {
     book.codes();

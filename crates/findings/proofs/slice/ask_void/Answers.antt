@@ -1,9 +1,10 @@
-use Rattle.std.proofs.Common.{◌≡◌, ℕ, ◌<◌, List, ◌∷◌, Some, length, ap, subst, arith}
+use Rattle.std.proofs.Common.{◌≡◌, ℕ, ◌*◌, ◌<◌, List, [], ◌∷◌, Some, length, ap, subst, arith}
 use Rattle.std.specs.Result.{IfOk}
 use Rattle.std.specs.List.{slice_get}
 use Rattle.clausify.specs.Goals.{void_asked}
 use Rattle.clausify.specs.declared.question.Asked.{Asked}
 use Rattle.solver.specs.Solver.{IsRight}
+use Rattle.solver.proofs.OneLaws.{one_below, one_consistent}
 use Rattle.findings.proofs.slice.ask_void.Goals as goal
 
 -- the first question
@@ -19,9 +20,12 @@ first_goal-requires c = some_question c.args.questions.now _ (void_asked (length
 pub solve-requires-clause-below : goal.solve-requires-clause-below
 solve-requires-clause-below c =
     let is = c.first_goal.ensures (void_asked (length c.args.book.now.codes)) (first_of c.args.questions.now _ (void_asked (length c.args.book.now.codes)) c.requires.questions) in
-    omega (arith, is, c.requires.void)
+    one_below c.first_goal.result (2 * c.args.solver.now.vars) (omega (arith, is, c.requires.void))
+
+pub solve-requires-clause-consistent : goal.solve-requires-clause-consistent
+solve-requires-clause-consistent c = one_consistent c.first_goal.result
 
 pub returns-clause-answer : goal.returns-clause-answer
 returns-clause-answer c =
     let is = c.first_goal.ensures (void_asked (length c.args.book.now.codes)) (first_of c.args.questions.now _ (void_asked (length c.args.book.now.codes)) c.requires.questions) in
-    subst (λ (g : ℕ). IfOk c.solve.result (IsRight c.solve.new.self g c.args.task.effort.budget)) is c.solve.ensures.answer
+    subst (λ (g : ℕ). IfOk c.solve.result (IsRight c.solve.new.self (g ∷ []) c.args.task.effort.budget)) is c.solve.ensures.answer

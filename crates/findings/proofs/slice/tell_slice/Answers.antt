@@ -1,8 +1,9 @@
 use Rattle.std.proofs.Common.{◌≡◌, ◌<◌, ◌+◌, List, [], All, ◌∷◌, drop, length, refl, sym, ap, subst, ◌∙◌, arith}
-use Rattle.chains.specs.Growth.{ClosedBy, given_of}
+use Rattle.chains.specs.Growth.{given_of}
 use Rattle.clausify.specs.Goals.{void_asked}
 use Rattle.clausify.specs.declared.question.Asked.{Asked}
-use Rattle.solver.specs.Answer.{Begins, IsSpent}
+use Rattle.solver.specs.Answer.{Begins, IsCore, IsSpent}
+use Rattle.solver.proofs.OneLaws.{closed_by_core}
 use Rattle.solver.proofs.PoolLaws.{onwards_twice}
 use Rattle.findings.specs.Answering.{IsAsked}
 use Rattle.findings.proofs.SliceLaws.{void_shown}
@@ -39,7 +40,7 @@ tell_later-requires-clause-counted c =
     let s = c.args.task.slice in
     let now = c.ask_void.new.solver in
     let void = (void_asked (length b.codes)).goal in
-    let begins : Begins (given_of now.kernel) void now.codes c.in-Set.set = rw c.in-Set.is at c.in_ok-searched.ensures.answer in
+    let begins : Begins (given_of now.kernel) (void ∷ []) now.codes c.in-Set.set = rw c.in-Set.is at c.in_ok-searched.ensures.answer in
     counted_by_solver b s void now c.in-Set.set (over_onwards b s c.args.solver.now now c.requires.over c.ask_void.ensures.onwards) begins
 
 pub tell_later-requires-clause-void : goal.tell_later-requires-clause-void
@@ -48,7 +49,7 @@ tell_later-requires-clause-void c =
     let s = c.args.task.slice in
     let now = c.ask_void.new.solver in
     let void = void_asked (length b.codes) in
-    let begins : Begins (given_of now.kernel) void.goal now.codes c.in-Set.set = rw c.in-Set.is at c.in_ok-searched.ensures.answer in
+    let begins : Begins (given_of now.kernel) (void.goal ∷ []) now.codes c.in-Set.set = rw c.in-Set.is at c.in_ok-searched.ensures.answer in
     meets_by_solver b s 0 void now c.in-Set.set c.requires.task.facts refl (over_onwards b s c.args.solver.now now c.requires.over c.ask_void.ensures.onwards) begins
 
 pub returns-in-Set-clause-onwards : goal.returns-in-Set-clause-onwards
@@ -60,8 +61,10 @@ void_closed-requires-clause-given c =
 
 pub void_closed-requires-clause-closed : goal.void_closed-requires-clause-closed
 void_closed-requires-clause-closed c =
-    let closed : ClosedBy c.ask_void.new.solver.kernel (void_asked (length c.args.book.now.codes)).goal c.in-Closed.at = rw c.in-Closed.is at c.in_ok-searched.ensures.answer in
-    closed
+    let now = c.ask_void.new.solver in
+    let void = (void_asked (length c.args.book.now.codes)).goal in
+    let core : IsCore now.kernel (void ∷ []) c.in-Closed.at = rw c.in-Closed.is at c.in_ok-searched.ensures.answer in
+    closed_by_core now.kernel void c.in-Closed.at core
 
 pub returns-in-Closed-clause-proof : goal.returns-in-Closed-clause-proof
 returns-in-Closed-clause-proof c =
@@ -75,7 +78,7 @@ void_left-requires c =
     let void = (void_asked (length b.codes)).goal in
     let budget = c.args.task.effort.budget in
     let learnt = c.in-Spent.learnt in
-    let spent : IsSpent now.vars (given_of now.kernel) void budget learnt.clauses = rw c.in-Spent.is at c.in_ok-searched.ensures.answer in
+    let spent : IsSpent now.vars (given_of now.kernel) (void ∷ []) budget learnt.clauses = rw c.in-Spent.is at c.in_ok-searched.ensures.answer in
     record { spent = spent_by_solver b s void budget now learnt.clauses (over_onwards b s c.args.solver.now now c.requires.over c.ask_void.ensures.onwards) spent }
 
 pub returns-in-Spent-clause-proof : goal.returns-in-Spent-clause-proof

@@ -7,7 +7,7 @@ use Rattle.propagate.proofs.KeepLaws.{same_default}
 use Rattle.solver.specs.Marks.{false_at}
 use Rattle.solver.specs.Search.{IsJump, next_of}
 use Rattle.solver.proofs.PoolLaws.{clause_below}
-use Rattle.solver.proofs.SearchLaws.{jump_opens, search_jumped}
+use Rattle.solver.proofs.SearchLaws.{jump_opens, settled_jumped, assumed_jumped}
 use Rattle.solver.proofs.backjump.backjump.Goals as goal
 
 -- what stands at the place that was read
@@ -38,13 +38,22 @@ attach-requires-clause-open_above c =
     (subst (λ (k : ℕ). 0 < length (cut t c.jump_level-level.result).starts → IsOpenAbove (cut t c.jump_level-level.result) (get_or c.args.pool.now.clauses k [])) (sym c.clauses-at.ensures)
     (jump_opens t (next_of c.args.pool.now.clauses t) c.args.place c.jump_level-level.result c.trail.ensures.trail c.requires.asserting j))
 
-pub returns-clause-search : goal.returns-clause-search
-returns-clause-search c = λ g search.
+pub returns-clause-settled : goal.returns-clause-settled
+returns-clause-settled c =
     let t : Trail = c.args.engine.now in
     let forced = forced_is t c.trail.result.now c.args.place c.index-trail-place.result c.not-forced.result c.requires.asserting.within c.trail.ensures.lits c.index-trail-place.is c.not-forced.ensures in
     let j = jump_is t c.args.pool.now.clauses c.lits.result.now c.clauses-at.result c.not-forced.result c.args.place c.jump_level-level.result c.clauses-at.ensures c.lits.ensures.clause forced c.jump_level-level.ensures in
-    search_jumped t (next_of c.args.pool.now.clauses t) c.args.place c.jump_level-level.result c.trail.ensures.trail c.requires.asserting j g c.attach.new.self
-    (subst IsTrail c.back_to.ensures c.trail-3.ensures.trail) c.trail-4.ensures.trail (subst (λ (z : Trail). Extends z c.attach.new.self) c.back_to.ensures c.attach.ensures.extends)
+    settled_jumped t (next_of c.args.pool.now.clauses t) c.args.place c.jump_level-level.result c.trail.ensures.trail c.requires.asserting j c.attach.new.self
+    (subst IsTrail c.back_to.ensures c.trail-3.ensures.trail) (subst (λ (z : Trail). Extends z c.attach.new.self) c.back_to.ensures c.attach.ensures.extends)
     (c.in_ok-attach.ensures.clauses ∙ ap (λ (z : Trail). z.clauses ++ get_or c.args.pool.now.clauses c.clauses-at.result [] ∷ []) c.back_to.ensures
     ∙ ap (λ (k : ℕ). t.clauses ++ get_or c.args.pool.now.clauses k [] ∷ []) c.clauses-at.ensures)
-    search
+    c.requires.settled
+
+pub returns-clause-assumed : goal.returns-clause-assumed
+returns-clause-assumed c = λ a d assumed.
+    let t : Trail = c.args.engine.now in
+    let forced = forced_is t c.trail.result.now c.args.place c.index-trail-place.result c.not-forced.result c.requires.asserting.within c.trail.ensures.lits c.index-trail-place.is c.not-forced.ensures in
+    let j = jump_is t c.args.pool.now.clauses c.lits.result.now c.clauses-at.result c.not-forced.result c.args.place c.jump_level-level.result c.clauses-at.ensures c.lits.ensures.clause forced c.jump_level-level.ensures in
+    assumed_jumped t (next_of c.args.pool.now.clauses t) c.args.place c.jump_level-level.result c.trail.ensures.trail c.requires.asserting j c.attach.new.self
+    (subst IsTrail c.back_to.ensures c.trail-3.ensures.trail) c.trail-4.ensures.trail (subst (λ (z : Trail). Extends z c.attach.new.self) c.back_to.ensures c.attach.ensures.extends)
+    a d assumed

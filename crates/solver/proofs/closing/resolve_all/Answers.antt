@@ -1,11 +1,9 @@
 use Rattle.std.proofs.Common.{◌≡◌, ℕ, ◌-◌, ◌<◌, ◌≤◌, Bool, List, length, take, false, sym, ap, subst, ◌∙◌, arith}
 use Rattle.std.proofs.lemmas.List.{take_all}
-use Rattle.clause_pool.specs.Literal.{complement}
 use Rattle.clause_pool.specs.Marks.{marked}
-use Rattle.solver.specs.Marks.{AreFalseBut, false_at}
+use Rattle.solver.specs.Marks.{AreFalseOrBlamed, false_at}
 use Rattle.solver.proofs.MarkLaws.{reason_attached, skip_unmarked, skip_opened, step_resolved}
-use Rattle.solver.proofs.LearnLaws.{opened_here}
-use Rattle.solver.proofs.run.resolve_all.Goals as goal
+use Rattle.solver.proofs.closing.resolve_all.Goals as goal
 
 pub loop-place-init : goal.loop-place-init
 loop-place-init c =
@@ -13,7 +11,7 @@ loop-place-init c =
     record {
       chain = c.requires.chain;
       table = c.requires.table;
-      others_false = subst (λ (xs : List ℕ). AreFalseBut xs c.args.resolution.now.marks.items (complement c.args.g)) (sym (take_all (length c.trail-lits.result.now) c.args.engine.now.lits (omega (arith, len)))) c.requires.others_false;
+      others_false = subst (λ (xs : List ℕ). AreFalseOrBlamed xs c.args.resolution.now.marks.items c.args.assumptions.now) (sym (take_all (length c.trail-lits.result.now) c.args.engine.now.lits (omega (arith, len)))) c.requires.others_false;
       within = omega (arith, len);
     }
 
@@ -33,7 +31,7 @@ loop-place-preserved-then-not-is_marked c =
     record {
       chain = inv.chain;
       table = inv.table;
-      others_false = skip_unmarked c.args.engine.now.lits c.loop-place.resolution.marks.items c.loop-place.place (complement c.args.g) none inv.others_false;
+      others_false = skip_unmarked c.args.engine.now.lits c.loop-place.resolution.marks.items c.loop-place.place c.args.assumptions.now none inv.others_false;
       within = omega (arith, within);
     }
 
@@ -45,8 +43,8 @@ loop-place-preserved-in_default c =
     record {
       chain = inv.chain;
       table = inv.table;
-      others_false = skip_opened c.args.engine.now.lits c.loop-place.resolution.marks.items c.loop-place.place c.args.g
-          (opened_here c.args.engine.now c.args.g (c.loop-place.place - 1) c.trail-lits.ensures.trail c.requires.level c.requires.search (omega (arith, within, some)) (sym c.reason_at.ensures ∙ c.in_default.is))
+      others_false = skip_opened c.args.engine.now.lits c.loop-place.resolution.marks.items c.loop-place.place c.args.assumptions.now
+          (c.requires.opened (c.loop-place.place - 1) (omega (arith, within, some)) (sym c.reason_at.ensures ∙ c.in_default.is))
           inv.others_false;
       within = omega (arith, within);
     }
@@ -58,12 +56,12 @@ loop-place-preserved c =
     record {
       chain = c.in_ok-resolve_at.ensures.chain;
       table = c.resolve_at.ensures.table;
-      others_false = step_resolved c.args.engine.now c.loop-place.place (complement c.args.g) c.loop-place.resolution.marks.items c.resolve_at.new.resolution.marks.items c.loop-place-test.true c.in_ok-resolve_at.ensures.resolved inv.others_false;
+      others_false = step_resolved c.args.engine.now c.loop-place.place c.args.assumptions.now c.loop-place.resolution.marks.items c.resolve_at.new.resolution.marks.items c.loop-place-test.true c.in_ok-resolve_at.ensures.resolved inv.others_false;
       within = omega (arith, within);
     }
 
-pub returns-clause-none : goal.returns-clause-none
-returns-clause-none c = λ l m other.
+pub returns-clause-blamed : goal.returns-clause-blamed
+returns-clause-blamed c = λ l m other.
     let last : c.loop-place.place ≤ 0 = c.loop-place-test.false in
     let none : c.loop-place.place ≡ 0 = omega (arith, last) in
-    subst (λ (n : ℕ). AreFalseBut (take n c.args.engine.now.lits) c.loop-place.resolution.marks.items (complement c.args.g)) none c.loop-place.invariant.others_false l m other
+    subst (λ (n : ℕ). AreFalseOrBlamed (take n c.args.engine.now.lits) c.loop-place.resolution.marks.items c.args.assumptions.now) none c.loop-place.invariant.others_false l m other
