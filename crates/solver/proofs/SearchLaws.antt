@@ -1,6 +1,6 @@
 -- What the search keeps when the trail grows, is cut, or a level is opened.
-use Rattle.std.proofs.Common.{◌≡◌, ◌⊎◌, inl, inr, ℕ, ◌+◌, ◌-◌, ◌*◌, ◌/◌, ◌<◌, ◌≤◌, Bool, true, false, List, [], ◌∷◌, ◌++◌, Option, None, length, take, get_or, refl, sym, subst, ◌∙◌, ap, arith, length-append}
-use Rattle.std.proofs.lemmas.Bool.{cases_eq, cases_order, cases_Bool, false≢true}
+use Rattle.std.proofs.Common.{◌≡◌, ◌⊎◌, inl, inr, ℕ, ◌+◌, ◌-◌, ◌*◌, ◌/◌, ◌<◌, ◌≤◌, true, false, List, [], ◌∷◌, ◌++◌, Option, None, length, take, get_or, refl, sym, subst, ◌∙◌, ap, arith, length-append}
+use Rattle.std.proofs.lemmas.Bool.{cases_eq, cases_order, false≢true}
 use Rattle.std.proofs.lemmas.List.{get_or-take, length-take-le, take_all, take-take, take-append-le}
 use Rattle.std.proofs.Math.ListN.{get_or-append, get_or-eq_default}
 use Rattle.std.proofs.Math.Seq.{get_or-append_seam}
@@ -17,7 +17,6 @@ use Rattle.propagate.proofs.AssignmentSteps.{room_for_one}
 use Rattle.propagate.proofs.KeepLaws.{same_default}
 use Rattle.propagate.proofs.QuietLaws.{has_take}
 use Rattle.solver.specs.Marks.{start_of, false_at}
-use Rattle.solver.specs.Answer.{AreHeld}
 use Rattle.solver.specs.Search.{IsSettled, IsAssumed, AreOpened, IsAsserting, IsJump, left_of}
 use Rattle.solver.proofs.TrailLaws.{placed_in, has_placed, has_longer, same_place, consistent, end_within, ends_rise}
 

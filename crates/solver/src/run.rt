@@ -89,7 +89,7 @@ fn go_on(
     ensures one_more { OnOk result (length kernel.new.clauses ≡ length kernel.old.clauses + 1) }
     ensures fresh { OnOk result ((assumptions : List ℕ) (depth : ℕ) → depth < level engine.old
         → IsAssumed assumptions depth engine.old → IsNew kernel.old.clauses assumptions
-            (slice_index_or kernel.new.clauses (length kernel.old.clauses) [])) }
+        (slice_index_or kernel.new.clauses (length kernel.old.clauses) [])) }
     ensures settled { OnOk result (IsSettled engine.new) }
     ensures assumed { OnOk result ((assumptions : List ℕ) (depth : ℕ)
         → IsAssumed assumptions depth engine.old → IsAssumed assumptions depth engine.new) }

@@ -138,8 +138,14 @@ impl Solver {
             Ending::Closed(at) => Ok(Answer::Closed(at)),
             Ending::Spent => {
                 let vars = self.engine.vars();
-                let learnt =
-                    learnt_from(self.alloc, &self.kernel, vars, first, assumptions, budget)?;
+                let learnt = learnt_from(
+                    self.alloc,
+                    &self.kernel,
+                    vars,
+                    first,
+                    assumptions,
+                    budget,
+                )?;
                 Ok(Answer::Spent(learnt))
             }
         }

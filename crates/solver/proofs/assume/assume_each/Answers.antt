@@ -1,4 +1,4 @@
-use Rattle.std.proofs.Common.{◌*◌, ◌<◌, arith}
+use Rattle.std.proofs.Common.{arith}
 use Rattle.propagate.proofs.TakeLaws.{item_in}
 use Rattle.solver.proofs.assume.assume_each.Goals as goal
 

@@ -1,4 +1,4 @@
-use Rattle.std.proofs.Common.{◌≡◌, Some, false, sym, subst, ap, ◌∙◌}
+use Rattle.std.proofs.Common.{Some, sym, ap, ◌∙◌}
 use Rattle.solver.proofs.LearnLaws.{value_false, refuted_reasoned, refuted_closing}
 use Rattle.solver.proofs.assume.assume_one.Goals as goal
 

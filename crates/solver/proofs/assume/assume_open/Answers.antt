@@ -1,4 +1,4 @@
-use Rattle.solver.proofs.SearchLaws.{room_for_level, settled_assumed, opened_assumed, held_assumed, here_assumed}
+use Rattle.solver.proofs.SearchLaws.{room_for_level, settled_assumed}
 use Rattle.solver.proofs.assume.assume_open.Goals as goal
 
 pub assume-requires-clause-room : goal.assume-requires-clause-room

@@ -1,5 +1,4 @@
 use Rattle.std.proofs.Common.{ap, length, ◌∙◌, arith}
-use Rattle.propagate.specs.Trail.{level}
 use Rattle.solver.proofs.SearchLaws.{settled_propagated, assumed_grows}
 use Rattle.solver.proofs.decide.descend.Goals as goal
 

@@ -1,4 +1,4 @@
-use Rattle.std.proofs.Common.{◌≡◌, Ok, ap, ◌∙◌, arith}
+use Rattle.std.proofs.Common.{Ok, ap, ◌∙◌, arith}
 use Rattle.solver.proofs.LearnLaws.{held_here}
 use Rattle.solver.proofs.run.find.Goals as goal
 
