@@ -97,7 +97,7 @@ fault 's/^module,/Module,/' 'book fault 12 5' 'has to be `module`, in small lett
 fault 's/^construct,C1,.*/group,C1,one,M1\/M2,,/' 'book fault 7 5' 'needs a book of form 2'
 fault 's/engine one/engine, one/' 'book fault 2 6' 'a `code` record has 3 fields; this one has 4'
 fault 's/^code,M2/code,m2/' 'book fault 3 7' '`m2` has small letters'
-fault 's/,A100,1,/,A100,0,/' 'book fault 14 8' 'quantities 1 to 999'
+fault 's/,A100,1,/,A100,0,/' 'book fault 14 8' 'quantities from 1 to 999'
 fault 's/^variant,V1.*/variant,V1,P1,A100,1,M1,9,3/' 'book fault 14 9' 'line 14: variant,V1,P1,A100,1,M1,9,3'
 fault 's/^construct,C4/construct,C2/' 'book fault 10 10' 'is taken by line 8'
 fault 's/^variant,V1,P1/variant,V1,P2/' 'book fault 14 11' 'there is no position `P2`'
@@ -123,6 +123,10 @@ same "$books/engine.csv" verify "$work/none"; said "can't be read, or isn't ther
 changed engine.csv 's/M1+-G7/M1+-G8/'
 same "$books/engine.csv" compare 1 "$work/book.csv"; said "the fault is in $work/book.csv"
 same "$work/book.csv" compare 1 "$books/engine.csv"; grep -q 'the fault is in' "$work/said" && wrong 'a fault of the first book is told of the second'
+changed engine.csv 's/engine two/"&/'
+same "$books/engine.csv" compare --budget 5 1 "$work/book.csv"; said "$work/book.csv: the quote that opens on line 3 is never closed"
+same "$books/compact.csv" order 40 -- P18 XX; said 'the book has no code `XX`'
+same "$books/engine.csv" compare 1 --budget=5 "$work/none"; said "the file $work/none can't be read"
 same "$books/engine.csv" compare 2000 "$books/engine.csv"; said "the day isn't in the term of book 1"
 
 # How large a check is, as the launcher shows it on a terminal: the slices are those of the report, and the questions those that the
@@ -176,6 +180,7 @@ for word in $("$top/partsbook" --help | sed -n 's/^  \([a-z]*\) .*/\1/p' | grep 
     "$top/partsbook" help "$word" | grep -q "^partsbook" || wrong "there is no help for $word"
 done
 "$top/partsbook" --version | grep -q '^partsbook' || wrong 'there is no version'
+(PARTSBOOK_PROGRAM=$work/none; out check; [ $? = 125 ] || wrong 'a program that is not there has another status'); said "there is no program $work/none"
 # One standard input for many commands: the second one isn't told of the first one's bytes.
 { read -r _; "$top/partsbook" check 2> "$work/said" > "$work/found"; } < "$books/van.csv"
 grep -q read "$work/said" && wrong 'a book is counted whose first line another command has read'
