@@ -10,7 +10,7 @@ use Rattle.keeper.specs.Causes.{HasCause}
 use Rattle.keeper.specs.Rows.{Kept, bare, migrated, IsInOrder}
 use Rattle.journal_keeper.specs.declared.stage.Stage.{Stage}
 use Rattle.journal_keeper.specs.declared.stage.Stage.TheVariants.{Shut, Late, Open}
-use Rattle.journal_keeper.specs.Disk.{WhereTold, CountsFaults}
+use Rattle.disk.specs.Disk.{WhereTold, CountsFaults}
 use Rattle.journal_keeper.specs.Record.{Entry, effect, payload_of, record_of}
 use Rattle.journal_keeper.specs.Journal.{kept_in, is_empty_store, journal_in, rows_of, after}
 use Rattle.journal_keeper.specs.Stage.{seen_by, settled, is_refused, StillStands, StandsOrGrew, IsBegun}

@@ -1,10 +1,10 @@
 use Rattle.std.proofs.Common.{◌≡◌, true, false, [], ◌∷◌, sym, ap, subst, ◌∙◌, arith}
 use Rattle.std.specs.Option.{option_map}
 use Rattle.journal_keeper.specs.declared.stage.Stage.TheVariants.{Open}
-use Rattle.journal_keeper.specs.Disk.{overwritten, Torn, AfterStep}
+use Rattle.disk.specs.Disk.{overwritten, Torn, AfterStep}
 use Rattle.journal_keeper.specs.Stage.{seen_by, doubted, doubted_by, StillStands}
 use Rattle.journal_keeper.specs.Sound.{IsSound}
-use Rattle.journal_keeper.proofs.Moments.{started, widened}
+use Rattle.disk.proofs.Moments.{started, widened}
 use Rattle.journal_keeper.proofs.Told.{came_from, mapped, told_by, at_err}
 use Rattle.journal_keeper.proofs.Stages.{sound_stands}
 use Rattle.journal_keeper.proofs.Gates.{gate_within, still_doubted, shut_again, seen_still, seen_again, doubt_still, doubted_step}

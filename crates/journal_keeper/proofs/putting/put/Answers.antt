@@ -4,11 +4,11 @@ use Rattle.std.proofs.lemmas.Result.{on_ok_weaker, on_err_weaker, err_from_is_er
 use Rattle.pb_outside.specs.declared.error.OutError.TheVariants.{Failed}
 use Rattle.keeper.specs.Causes.{HasCause}
 use Rattle.journal_keeper.specs.declared.stage.Stage.TheVariants.{Open}
-use Rattle.journal_keeper.specs.Disk.{CountsFaults}
+use Rattle.disk.specs.Disk.{CountsFaults}
 use Rattle.journal_keeper.specs.Record.{effect}
 use Rattle.journal_keeper.specs.Stage.{seen_by, doubted, is_open, is_refused, StillStands, StandsOrGrew}
 use Rattle.journal_keeper.specs.Counts.{count_of, Refuses}
-use Rattle.journal_keeper.proofs.Moments.{and_then, widened}
+use Rattle.disk.proofs.Moments.{and_then, widened}
 use Rattle.journal_keeper.proofs.Told.{at_err}
 use Rattle.journal_keeper.proofs.Doubts.{settled_undoubted, settled_open_still, doubts_none, doubts_failed, doubts_wider, failed_again}
 use Rattle.journal_keeper.proofs.Answered.{counts_disk, counts_refusal, not_ok, refused_shut, refused_settled, settled_open, told_file, stands_settled}
