@@ -96,8 +96,9 @@ def calls_of(program, folder):
 def try_fail(program):
     with tempfile.TemporaryDirectory() as folder:
         names = calls_of(program, folder)
-        must("the pages are dropped before the first read", names.index("posix_fadvise") < names.index("pread"), names)
-        must("and a sync stands before that", names.index("fdatasync") < names.index("posix_fadvise"), names)
+        start = ["flock", "fdatasync", "posix_fadvise", "fsync"]
+        must("it is locked, synced, its pages are dropped, its folder is synced", names[:4] == start, names)
+        must("and only then it is read or written", not {"pread", "pwrite", "ftruncate"} & set(names[:4]), names)
         refused = faults = 0
         for number, name in enumerate(names, 1):
             what, store = f"call {number}, {name}", os.path.join(folder, f"{number}.journal")

@@ -1,5 +1,5 @@
 -- The store that the words name is the one whose word is read before them.
-use Rattle.std.proofs.Common.{◌≡◌, ◌⊎◌, inl, inr, ⊎_elim, absurd, ℕ, Bool, true, false, List, [], ◌∷◌, ◌++◌, Option, Some, None, refl, sym, ap, subst, ◌∙◌}
+use Rattle.std.proofs.Common.{◌≡◌, ◌⊎◌, inl, inr, ⊎_elim, ℕ, Bool, true, false, List, [], ◌∷◌, ◌++◌, Option, Some, None, refl, sym, ap, subst, ◌∙◌}
 use Rattle.std.specs.Prelude.{codes, not, ◌||◌, ◌==◌, if◌then◌else◌}
 use Rattle.std.specs.List.{list_all}
 use Rattle.std.specs.Option.{option_map, option_and_then}
@@ -164,8 +164,8 @@ no_mark (b ∷ bs) words plain = grind arith
 plain_first : (word : List ℕ) (words : Words) → list_all is_plain (word ∷ words) ≡ true → is_plain word ≡ true
 plain_first word words plain = grind
 
-list_head : (a b : List ℕ) (as bs : Words) → a ∷ as ≡ b ∷ bs → a ≡ b
-list_head a b as bs e = cc
+list_head : (a b : List ℕ) (more others : Words) → a ∷ more ≡ b ∷ others → a ≡ b
+list_head a b more others e = cc
 
 first_part : (before after ending further : Words) (store : List ℕ) (rest : Words) → (ending ≡ []) ⊎ (ending ≡ dashes ∷ [])
     → store ∷ rest ≡ before ++ (after ++ further) → is_plain store ≡ true → first_behind_mark (before ++ (after ++ (ending ++ further))) ≡ Some store
