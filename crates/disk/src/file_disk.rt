@@ -74,11 +74,7 @@ fn hold<C: FileCalls>(calls: &mut C, is_open: &mut bool) -> Result<(), OutError>
 }
 
 // Reads the file, once it is open.
-fn read<C: FileCalls>(
-    alloc: Global,
-    calls: &mut C,
-    is_open: &mut bool,
-) -> Result<Vec<u8>, OutError>
+fn read<C: FileCalls>(alloc: Global, calls: &mut C, is_open: &mut bool) -> Result<Vec<u8>, OutError>
     ensures calls { Ran (with_opening is_open.old (Read (given result) ∷ [])) (error_of result)
         (C.history calls.old) (C.history calls.new) }
     ensures open { OnOk result (is_open.new ≡ true) }

@@ -7,8 +7,8 @@ ghost use Rattle.journal_keeper.specs.Journal.{unopened};
 ghost use Rattle.journal_keeper.specs.Stage.{seen_by, doubted, counts_empty, IsBlank, KeepsBlank, IsBegun, IsFound};
 ghost use Rattle.journal_keeper.specs.Sound.{IsSound};
 
-use crate::reading::{counts_as_empty, stage_of};
 use crate::Stage;
+use crate::reading::{counts_as_empty, stage_of};
 use disk::{Disk, cut_through, write_through};
 use pb_outside::OutError;
 use std::alloc::Global;

@@ -8,10 +8,10 @@ ghost use Rattle.journal_keeper.specs.Record.{Draft, Book, Order, Withdrawn};
 ghost use Rattle.journal_keeper.specs.Stage.{seen_by, doubted, is_open, is_refused, DoubtsOnly, IsBegun, IsFound, StillStands, StandsOrGrew};
 ghost use Rattle.journal_keeper.specs.Counts.{count_of, Refuses};
 
+use crate::Stage;
 use crate::beginning::begin;
 use crate::loading::load;
 use crate::putting::put;
-use crate::Stage;
 use disk::Disk;
 use keeper::{BookRow, DraftRow, Keeper, OrderRow, Rows};
 use pb_outside::{FaultCount, OutError};

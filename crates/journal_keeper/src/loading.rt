@@ -8,10 +8,10 @@ ghost use Rattle.journal_keeper.specs.Stage.{seen_by, doubted, is_open, StillSta
 ghost use Rattle.journal_keeper.specs.Sound.{IsSound};
 ghost use Rattle.journal_keeper.specs.Tables.{kept_where_found};
 
+use crate::Stage;
 use crate::journal::settle;
 use crate::reading::{body_of, is_empty_store, record_at};
 use crate::tables::Tables;
-use crate::Stage;
 use disk::Disk;
 use keeper::Rows;
 use pb_base::Memory;

@@ -9,9 +9,9 @@ ghost use Rattle.journal_keeper.specs.Stage.{seen_by, doubted, is_open, is_refus
 ghost use Rattle.journal_keeper.specs.Sound.{IsSound};
 ghost use Rattle.journal_keeper.specs.Counts.{count_of, Refuses};
 
+use crate::Stage;
 use crate::journal::{append, settle};
 use crate::recorded::{Recorded, line_of};
-use crate::Stage;
 use disk::Disk;
 use pb_outside::{FaultCount, OutError};
 use std::alloc::Global;

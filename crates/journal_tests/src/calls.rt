@@ -112,8 +112,7 @@ const CALLS: [&[u8]; 24] = [
 // What comes behind the last write of the put.
 const LAST: [&[u8]; 2] = [b"sync ", b"name "];
 
-const JOURNAL: &[u8] =
-    b"\x01PBJOURN\x01\x04\x00\x00\x00\x08\x00\x00\x00\x00\x00\x00\x00\x01\x00";
+const JOURNAL: &[u8] = b"\x01PBJOURN\x01\x04\x00\x00\x00\x08\x00\x00\x00\x00\x00\x00\x00\x01\x00";
 
 // The first calls, up to one with this number.
 fn listed(alloc: Global, last: u64) -> Result<Text, Fail> {
@@ -156,7 +155,11 @@ fn where_a_call_fails_that_is_the_answer_and_no_further_call_is_asked(
     for fails in 0..26 {
         let (answer, faults, file) = started(rt.alloc(), Some(fails))?;
         assert_eq!(rt; (answer, faults), (Err(OutError::Failed), 1), "{fails}");
-        assert_eq!(rt; file.list.bytes(), listed(rt.alloc(), fails)?.bytes(), "{fails}");
+        assert_eq!(rt;
+            file.list.bytes(),
+            listed(rt.alloc(), fails)?.bytes(),
+            "{fails}"
+        );
     }
     Ok(())
 }

@@ -18,10 +18,7 @@ fn keeper_of(rt: HostRuntime, name: &str) -> Result<FileJournal, Fail>
     ensures { IfOk result (λ keeper. ⟦<FileJournal as Keeper>⟧.may_begin keeper name.now) }
 {
     let name = String::from_str(rt.alloc(), name)?;
-    Ok(JournalKeeper::new(
-        rt.alloc(),
-        FileDisk::new(SystemFile::new(rt, name)),
-    ))
+    Ok(JournalKeeper::new(rt.alloc(), FileDisk::new(SystemFile::new(rt, name))))
 }
 
 fn new_folder(rt: HostRuntime, folder: &str) -> Result<(), Fail> {
@@ -36,7 +33,10 @@ fn a_journal_in_a_file_has_its_bytes_and_is_read_again(rt: HostRuntime) -> Resul
     let mut keeper = keeper_of(rt, "journal_kept/s.journal")?;
     keeper.begin("journal_kept/s.journal")?;
     keeper.put_withdrawn(1)?;
-    assert_eq!(rt; fs::read(&rt, "journal_kept/s.journal")?.as_slice(), WITHDRAWN);
+    assert_eq!(rt;
+        fs::read(&rt, "journal_kept/s.journal")?.as_slice(),
+        WITHDRAWN
+    );
     let rows = keeper.load()?;
     assert_eq!(rt; shown(rt.alloc(), &rows)?.bytes(), b"2 1".as_slice());
     drop(keeper);
@@ -55,9 +55,15 @@ fn a_second_keeper_is_refused_and_touches_nothing(rt: HostRuntime) -> Result<(),
     first.begin("journal_locked/s.journal")?;
     first.put_withdrawn(1)?;
     let mut second = keeper_of(rt, "journal_locked/s.journal")?;
-    assert_eq!(rt; second.begin("journal_locked/s.journal"), Err(OutError::Failed));
+    assert_eq!(rt;
+        second.begin("journal_locked/s.journal"),
+        Err(OutError::Failed)
+    );
     assert_eq!(rt; second.put_withdrawn(2), Err(OutError::Failed));
-    assert_eq!(rt; fs::read(&rt, "journal_locked/s.journal")?.as_slice(), WITHDRAWN);
+    assert_eq!(rt;
+        fs::read(&rt, "journal_locked/s.journal")?.as_slice(),
+        WITHDRAWN
+    );
     drop(first);
     second.begin("journal_locked/s.journal")?;
     fs::remove_dir_all(&rt, "journal_locked")?;
@@ -74,7 +80,10 @@ fn a_journal_that_was_moved_takes_no_put_and_is_not_made_anew(rt: HostRuntime) -
     assert!(rt; fs::metadata(&rt, "journal_moved/s.journal").is_err());
     fs::rename(&rt, "journal_moved/old.journal", "journal_moved/s.journal")?;
     keeper.put_withdrawn(1)?;
-    assert_eq!(rt; fs::read(&rt, "journal_moved/s.journal")?.as_slice(), WITHDRAWN);
+    assert_eq!(rt;
+        fs::read(&rt, "journal_moved/s.journal")?.as_slice(),
+        WITHDRAWN
+    );
     fs::remove_dir_all(&rt, "journal_moved")?;
     Ok(())
 }
@@ -83,7 +92,10 @@ fn a_journal_that_was_moved_takes_no_put_and_is_not_made_anew(rt: HostRuntime) -
 fn a_folder_that_is_not_there_is_a_fault(rt: HostRuntime) -> Result<(), Fail> {
     let _ = fs::remove_dir_all(&rt, "journal_nowhere");
     let mut keeper = keeper_of(rt, "journal_nowhere/s.journal")?;
-    assert_eq!(rt; keeper.begin("journal_nowhere/s.journal"), Err(OutError::Failed));
+    assert_eq!(rt;
+        keeper.begin("journal_nowhere/s.journal"),
+        Err(OutError::Failed)
+    );
     assert_eq!(rt; keeper.faults(), 1);
     Ok(())
 }

@@ -1,11 +1,12 @@
 -- The store that the words name is the one whose word is read before them.
 use Rattle.std.proofs.Common.{◌≡◌, ◌⊎◌, inl, inr, ⊎_elim, ℕ, Bool, true, false, List, [], ◌∷◌, ◌++◌, Option, Some, None, refl, sym, ap, subst, ◌∙◌}
-use Rattle.std.specs.Prelude.{codes, not, ◌||◌, ◌==◌, if◌then◌else◌}
+use Rattle.std.specs.Prelude.{codes, nat_eq, not, ◌||◌, ◌&&◌, if◌then◌else◌}
 use Rattle.std.specs.List.{list_all}
 use Rattle.std.specs.Option.{option_map, option_and_then}
 use Rattle.pb_base.specs.Names.{same_name}
+use Rattle.pb_base.specs.Digits.{short_number}
 use Rattle.command_words.specs.Parts.{Words, HasParts, IsOption, is_plain, dashes}
-use Rattle.command_words.specs.Meaning.{IsForm, asked, order_of, check_of, file_of, serve_of, sample_of, compare_of, rejudge_of, only_one, door_of}
+use Rattle.command_words.specs.Meaning.{IsForm, number_in, codes_of, codes_number, budget_of, asked, order_of, check_of, file_of, serve_of, sample_of, compare_of, rejudge_of, only_one, door_of}
 use Rattle.command_words.specs.declared.command.Command.{Command}
 use Rattle.command_words.specs.declared.command.Command.TheVariants.{Order, Check, Prove, Verify, Desk, Serve, Sample, Supplements, Compare, Rejudge}
 use Rattle.book_commands.specs.declared.command.BookCommand as book
@@ -58,18 +59,19 @@ chained f (Some a) store none e = none a e
 
 not_order : (budget : Option (List ℕ)) (operands : Words) (store : List ℕ) → Stores store (order_of budget operands) → ⊥
 not_order None [] store e = none_stores store e
-not_order None (day ∷ names) store e = chained _ _ store (λ on inner. mapped (Order on) _ store (λ a. refl) inner) e
+not_order None (day ∷ names) store e = chained (λ on. option_map (Order on) (codes_of names)) (short_number day) store (λ on inner. mapped (Order on) (codes_of names) store (λ a. refl) inner) e
 not_order (Some b) operands store e = none_stores store e
 
 not_check : (command : ℕ → Command) → ((n : ℕ) → store_in (Some (command n)) ≡ None) → (budget : Option (List ℕ)) (operands : Words) (store : List ℕ) → Stores store (check_of command budget operands) → ⊥
-not_check command none budget [] store e = mapped command _ store none e
+not_check command none budget [] store e = mapped command (budget_of budget) store none e
 not_check command none budget (word ∷ words) store e = none_stores store e
 
 not_verify : (budget : Option (List ℕ)) (operands : Words) (store : List ℕ) → Stores store (file_of Verify budget operands) → ⊥
-not_verify budget operands store e = mapped Verify _ store (λ a. refl) e
+not_verify budget operands store e = mapped Verify (only_one budget operands) store (λ a. refl) e
 
 not_sample : (budget : Option (List ℕ)) (operands : Words) (store : List ℕ) → Stores store (sample_of budget operands) → ⊥
-not_sample None (start ∷ size ∷ orders ∷ []) store e = chained _ _ store (λ s inner. chained _ _ store (λ c last. mapped (Sample s c) _ store (λ a. refl) last) inner) e
+not_sample None (start ∷ size ∷ orders ∷ []) store e = chained (λ s. option_and_then (λ c. option_map (Sample s c) (number_in 0 10000 orders)) (codes_number size)) (number_in 0 4294967295 start) store
+    (λ s inner. chained (λ c. option_map (Sample s c) (number_in 0 10000 orders)) (codes_number size) store (λ c last. mapped (Sample s c) (number_in 0 10000 orders) store (λ a. refl) last) inner) e
 not_sample None [] store e = none_stores store e
 not_sample None (a ∷ []) store e = none_stores store e
 not_sample None (a ∷ b ∷ []) store e = none_stores store e
@@ -77,7 +79,7 @@ not_sample None (a ∷ b ∷ c ∷ d ∷ more) store e = none_stores store e
 not_sample (Some b) operands store e = none_stores store e
 
 not_compare : (budget : Option (List ℕ)) (operands : Words) (store : List ℕ) → Stores store (compare_of budget operands) → ⊥
-not_compare budget (day ∷ file ∷ []) store e = chained _ _ store (λ on inner. mapped (Compare on file) _ store (λ a. refl) inner) e
+not_compare budget (day ∷ file ∷ []) store e = chained (λ on. option_map (Compare on file) (budget_of budget)) (short_number day) store (λ on inner. mapped (Compare on file) (budget_of budget) store (λ a. refl) inner) e
 not_compare budget [] store e = none_stores store e
 not_compare budget (a ∷ []) store e = none_stores store e
 not_compare budget (a ∷ b ∷ c ∷ more) store e = none_stores store e
@@ -93,7 +95,7 @@ serve_store None word store e = none_stores store e
 serve_store (Some d) word store e = some_is word store e
 
 of_serve : (budget : Option (List ℕ)) (operands : Words) (store : List ℕ) → Stores store (serve_of budget operands) → IsFirst budget operands store
-of_serve None (word ∷ numbers) store e = record { rest = numbers; no_option = refl; first = ap (λ w. w ∷ numbers) (serve_store _ word store e) }
+of_serve None (word ∷ numbers) store e = record { rest = numbers; no_option = refl; first = ap (λ w. w ∷ numbers) (serve_store (door_of numbers) word store e) }
 of_serve None [] store e = none_stores store e
 of_serve (Some b) operands store e = none_stores store e
 
@@ -103,7 +105,7 @@ rejudge_store (Some b) None word store e = none_stores store e
 rejudge_store (Some b) (Some w) word store e = some_is word store e
 
 of_rejudge : (budget : Option (List ℕ)) (operands : Words) (store : List ℕ) → Stores store (rejudge_of budget operands) → IsFirst budget operands store
-of_rejudge None (word ∷ b ∷ w ∷ []) store e = record { rest = b ∷ w ∷ []; no_option = refl; first = ap (λ x. x ∷ b ∷ w ∷ []) (rejudge_store _ _ word store e) }
+of_rejudge None (word ∷ b ∷ w ∷ []) store e = record { rest = b ∷ w ∷ []; no_option = refl; first = ap (λ x. x ∷ b ∷ w ∷ []) (rejudge_store (number_in 1 4294967295 b) (number_in 1 16 w) word store e) }
 of_rejudge None [] store e = none_stores store e
 of_rejudge None (a ∷ []) store e = none_stores store e
 of_rejudge None (a ∷ b ∷ []) store e = none_stores store e
@@ -156,13 +158,21 @@ asks_store name budget operands store e =
     (either (same_name name (codes "check")) _ _ (Stores store) e.1))
     (either (same_name name (codes "order")) _ _ (Stores store) e)
 
+not_mark : (b rest : Bool) (x y : Option (List ℕ)) → not b ≡ true → (if b && rest then x else y) ≡ y
+not_mark false rest x y e = refl
+not_mark true rest x y e = cc
+
+and_first : (a b : Bool) → (a && b) ≡ true → a ≡ true
+and_first true b e = refl
+and_first false b e = e
+
 -- a plain word is not the `--` that ends the options
 no_mark : (word : List ℕ) (words : Words) → is_plain word ≡ true → first_behind_mark (word ∷ words) ≡ Some word
 no_mark [] words plain = refl
-no_mark (b ∷ bs) words plain = grind arith
+no_mark (b ∷ bs) words plain = not_mark (nat_eq b 45) (same_name bs (45 ∷ [])) (first_word words) (Some (b ∷ bs)) plain
 
 plain_first : (word : List ℕ) (words : Words) → list_all is_plain (word ∷ words) ≡ true → is_plain word ≡ true
-plain_first word words plain = grind
+plain_first word words plain = and_first (is_plain word) (list_all is_plain words) plain
 
 list_head : (a b : List ℕ) (more others : Words) → a ∷ more ≡ b ∷ others → a ≡ b
 list_head a b more others e = cc

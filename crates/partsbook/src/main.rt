@@ -92,7 +92,9 @@ fn closed(rt: HostRuntime, end: RunEnd<FileStore>) -> ExitCode
     ensures { exit_status result ≡ status_number end.status }
 {
     if !close(end.keeper) {
-        let _told = rt.eprintln("the store's log stays beside it: keep both, the next run takes both");
+        let _told = rt.eprintln(
+            "the store's log stays beside it: keep both, the next run takes both",
+        );
     }
     exit_code(end.status)
 }
