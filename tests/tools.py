@@ -88,7 +88,7 @@ def rows(place):
     check("each lists the same rows", len(set(lists)) == 1 and lists[0].count("order") == 20)
     filled(place / "own.db")
     check("a desk's own store of SQLite has the same rows", stores.read_store(place / "own.db") == stores.read_store(place / "c.db"))
-    dumps = {subprocess.run(["sqlite3", place / name, ".dump"], capture_output=True, check=False).stdout for name in ("own.db", "c.db")}
+    dumps = {subprocess.run(["sqlite3", place / name, ".schema"], capture_output=True, check=False).stdout for name in ("own.db", "c.db")}
     check("and the same schema", len(dumps) == 1)
     check("a name that is there is refused", tool("journal", "compact", place / "a.journal", place / "b.journal")[0] == 1)
     check("another ending is refused", tool("journal", "compact", place / "a.journal", place / "e.db")[0] == 1)
@@ -102,7 +102,7 @@ def torn(place):
     whole = stores.Journal(data)
     begins = [at for at, _, _ in whole.records]
     dice, counts = random.Random(1), collections.Counter()
-    cuts = sorted(set(range(len(data) - 120, len(data))) | set(dice.sample(range(9, len(data)), 60)))
+    cuts = sorted(set(range(len(data) - 40, len(data))) | set(dice.sample(range(9, len(data)), 20)))
     for cut in cuts:
         (place / "cut.journal").write_bytes(data[:cut])
         (place / "out.journal").unlink(missing_ok=True)
@@ -120,11 +120,11 @@ def torn(place):
 
 def changed(place):
     """One byte of a journal is changed: salvage says so, or the desk sees it, or the row is another right one."""
-    filled(place / "whole.journal", orders=6, drafts=2)
+    filled(place / "whole.journal", orders=3, drafts=2)
     data = (place / "whole.journal").read_bytes()
     whole = stores.Journal(data)
     dice, counts = random.Random(2), collections.Counter()
-    for _ in range(120):
+    for _ in range(40):
         at = dice.randrange(8, len(data) - 1)
         other = bytearray(data)
         other[at] ^= 1 << dice.randrange(8)
@@ -147,7 +147,7 @@ def changed(place):
     (place / "early.journal").write_bytes(data.replace(b"HALL1", b"HALL!"))
     status, _, error = tool("journal", "salvage", place / "early.journal", place / "early-out.journal")
     check("without --drop a refused row is named", status == 1 and "HALL!" in error and not (place / "early-out.journal").exists(), error)
-    return "one bit changed 120 times: " + ", ".join(f"{count} {kind}" for kind, count in counts.most_common())
+    return "one bit changed 40 times: " + ", ".join(f"{count} {kind}" for kind, count in counts.most_common())
 
 
 def copy(place):
