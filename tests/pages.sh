@@ -9,6 +9,7 @@
 # begins with `$ `; what follows it, up to the next one or the end of the block, has to be its standard output. There `..` on a
 # line of its own stands for any lines, and blank lines at the end and the CR of lines that end in CR LF don't count.
 # Commands of the tools that prove and build (see `is_left_out`) are not typed. The status is 1 where a page differs.
+# Where PAGES_FROM names a folder, pages are typed in copies of it, as of an archive that was unpacked (tests/archive.sh).
 # It needs curl, sqlite3, xxd, python3, soffice (LibreOffice) and haproxy, for the pages that use them.
 top=$(cd "$(dirname "$0")/.." && pwd) || exit 1
 program=$(realpath "${1:-$top/crates/partsbook/out/partsbook}") || exit 1
@@ -63,9 +64,13 @@ is_left_out() {
 type_page() { # page
     folder=$work/$(basename "$1" .md)
     mkdir -p "$folder/page" "$folder/steps"
-    cp -r "$top/examples" "$folder/page/examples"
-    cp -r "$top/tools" "$folder/page/tools"
-    cp "$program" "$folder/page/partsbook"
+    if [ -n "$PAGES_FROM" ]; then
+        cp -r "$PAGES_FROM/." "$folder/page"
+    else
+        cp -r "$top/examples" "$folder/page/examples"
+        cp -r "$top/tools" "$folder/page/tools"
+        cp "$program" "$folder/page/partsbook"
+    fi
     cut_page "$1" "$folder/steps"
     for command in "$folder"/steps/*.command; do
         [ -e "$command" ] || continue
