@@ -20,6 +20,7 @@ import subprocess
 import sys
 import tempfile
 import threading
+import time
 
 sys.dont_write_bytecode = True
 TOP = pathlib.Path(__file__).resolve().parent.parent
@@ -170,6 +171,7 @@ def copy(place):
             if b" 201 " in head:
                 answered[0] += 1
             number += 1
+            time.sleep(0.002)
 
     worker = threading.Thread(target=load)
     worker.start()
@@ -229,7 +231,7 @@ def keep(place):
         pass
     held.stdin.write(request("GET", "/orders/66", "HALL6"))
     held.stdin.flush()
-    subprocess.run(["sleep", "0.5"], check=True)
+    time.sleep(0.5)
     held.kill()
     held.wait()
     (place / "after").mkdir()
