@@ -312,9 +312,9 @@ def office(place):
     """LibreOffice opens what to-sheet writes, and writes what from-sheet reads."""
     if not shutil.which("soffice"):
         return "; LibreOffice isn't there"
-    words = ["soffice", f"-env:UserInstallation=file://{place}/profile", "--headless", "--norestore", "--outdir", place / "office"]
+    words = ["soffice", f"-env:UserInstallation=file://{place}/profile", "--headless", "--norestore"]
     for to in ("xlsx", "csv:Text - txt - csv (StarCalc):59,34,76,1,,0,false,true,false"):
-        subprocess.run([*words, "--convert-to", to, *sorted(place.glob("*.xlsx"))], stdout=subprocess.DEVNULL, stderr=subprocess.DEVNULL, check=False)
+        subprocess.run([*words, "--convert-to", to, "--outdir", place / "office", *sorted(place.glob("*.xlsx"))], stdout=subprocess.DEVNULL, stderr=subprocess.DEVNULL, check=False)
     count = 0
     for book in sorted((TOP / "examples").glob("*.csv")):
         wanted = [r.fields for r in read_records(book.read_text())]
