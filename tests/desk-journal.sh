@@ -3,6 +3,9 @@
 # desk is killed at many moments under load, and a file that is no journal is refused and left as it was. It isn't part of the
 # gate: it needs the built program, python3 and cmp. The number of kills is the first argument, or 20.
 top=$(cd "$(dirname "$0")/.." && pwd) || exit 1
+# The program itself: behind a launcher a kill would meet it some moments later.
+program=$top/crates/partsbook/out/partsbook
+[ -x "$program" ] || { echo "there is no program $program: ./build makes it" >&2; exit 1; }
 work=$(mktemp -d) || exit 1
 trap 'rm -rf "$work"' EXIT
 store=$work/desk.journal
@@ -26,7 +29,7 @@ request() {
     printf '%s %s HTTP/1.1\r\nHost: localhost\r\nX-Caller: %s\r\nContent-Length: %s\r\n\r\n%s' "$1" "$2" "$3" "${#4}" "$4"
 }
 
-desk() { "$top/partsbook" desk "$store"; }
+desk() { "$program" desk "$store"; }
 
 rows() { python3 "$top/tests/journal-rows.py" "$store"; }
 
@@ -64,7 +67,7 @@ most=0
 while [ $round -lt "$kills" ]; do
     rm -f "$store"
     # Called by its name and not by the function, so that the kill meets the program.
-    "$top/partsbook" desk "$store" < "$work/load.http" > "$work/load.out" &
+    "$program" desk "$store" < "$work/load.http" > "$work/load.out" &
     child=$!
     sleep "0.$(od -An -N2 -tu2 /dev/urandom | tr -d ' ')"
     kill -9 $child 2> /dev/null

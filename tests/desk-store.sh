@@ -2,6 +2,9 @@
 # Tries the desk over a real file with real tools: a desk is run, sqlite3 reads its store, a second desk goes on from it, and
 # bad stores are refused and left as they were. It isn't part of the gate: it needs the built program, sqlite3 and cmp.
 top=$(cd "$(dirname "$0")/.." && pwd) || exit 1
+# The program itself: behind a launcher a kill would meet it some moments later.
+program=$top/crates/partsbook/out/partsbook
+[ -x "$program" ] || { echo "there is no program $program: ./build makes it" >&2; exit 1; }
 work=$(mktemp -d) || exit 1
 trap 'rm -rf "$work"' EXIT
 store=$work/desk.db
@@ -24,7 +27,7 @@ request() {
     printf '%s %s HTTP/1.1\r\nHost: localhost\r\nX-Caller: %s\r\nContent-Length: %s\r\n\r\n%s' "$1" "$2" "$3" "${#4}" "$4"
 }
 
-desk() { "$top/partsbook" desk "$store"; }
+desk() { "$program" desk "$store"; }
 
 desk < "$top/examples/desk.http" > "$work/first.out"
 same 'a first desk ends with 0' 0 $?
@@ -40,7 +43,7 @@ same 'withdrawn' 1 "$(sqlite3 "$store" 'select number from withdrawn')"
 # sqlite3 writes a line's end behind a value, but not into a file of its own.
 (cd "$work" && sqlite3 desk.db "select writefile('book.csv', body), writefile('book.cert', cert) from books" > /dev/null)
 same 'the kept certificate shows the kept book' 'verified T slices 1' \
-    "$("$top/partsbook" verify "$work/book.cert" < "$work/book.csv" | cut -d ' ' -f 1-4)"
+    "$("$program" verify "$work/book.cert" < "$work/book.csv" | cut -d ' ' -f 1-4)"
 
 request GET /orders/7 HALL1 '' | desk > "$work/second.out"
 same 'a second desk ends with 0' 0 $?

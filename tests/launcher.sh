@@ -124,6 +124,23 @@ same "$books/engine.csv" compare 1 "$work/book.csv"; said "the fault is in $work
 same "$work/book.csv" compare 1 "$books/engine.csv"; grep -q 'the fault is in' "$work/said" && wrong 'a fault of the first book is told of the second'
 same "$books/engine.csv" compare 2000 "$books/engine.csv"; said "the day isn't in the term of book 1"
 
+# How large a check is, as the launcher shows it on a terminal: the slices are those of the report, and the questions those that the
+# program counts where there are too many.
+size() { LC_ALL=C awk -v mode=size -f "$top/tools/book.awk" "$1"; }
+for book in "$books"/*.csv; do
+    slices=$("$program" check < "$book" | grep -c '^slice')
+    [ "$(size "$book" | cut -d' ' -f1)" = "$slices" ] || wrong "$book: $(size "$book") for $slices slices"
+done
+awk 'BEGIN {
+    print "book,T,5,90\ncode,A,a\ncode,B,b\nconstruct,C,*,A,,4\nconstruct,D,*,A,91,"
+    for (p = 0; p < 12; p++) {
+        print "position,P" p ",," (p % 2 ? "mandatory" : "optional") "," (p == 3 ? "5," : ",")
+        for (v = 0; v < 199; v++) print "variant,V" p "N" v ",P" p ",X,1,A,,"
+    }
+}' > "$work/book.csv"
+same "$work/book.csv" check; said 'slice 0, counted from 0, has'
+[ "$(cat "$work/wanted")" = "limit questions 0 $(size "$work/book.csv" | cut -d' ' -f2)" ] || wrong "the questions are $(cat "$work/wanted"), and not $(size "$work/book.csv")"
+
 # Stores, and who holds one.
 out() { "$top/partsbook" "$@" < /dev/null > "$work/found" 2> "$work/said"; }
 tried=$((tried + 4))
