@@ -58,6 +58,7 @@ same "$books/estate.csv" supplements --budget 5
 same "$books/tarn.csv" check
 same "$books/engine.csv" verify "$books/engine.cert"
 same "$books/engine.csv" compare 1 "$books/engine.csv"
+said 'only cars that both books allow were compared'
 same "$books/engine.csv" sample 1 8 3
 
 # A quote that is never closed, and two that hide what stands between them. The counts are those of a book without these rows.

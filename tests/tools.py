@@ -3,7 +3,7 @@
 
     tests/tools.py [PART..]
 
-Parts: rows, torn, changed, copy, keep, next, sheet, report. Without one, all of them. It needs crates/partsbook/out/partsbook, or the
+Parts: rows, torn, changed, copy, keep, next, sheet, report, common. Without one, all of them. It needs crates/partsbook/out/partsbook, or the
 program that PARTSBOOK_PROGRAM names, and for a part of `sheet` soffice, without which that part is left out. The status is 1 where
 something is otherwise.
 """
@@ -325,6 +325,52 @@ def office(place):
     return f"; {count} files that LibreOffice had opened and saved, too"
 
 
+def common(place):
+    """Whether any car is in both of two books, beside all sets of their codes, each ordered by both books."""
+    dice, counts = random.Random(3), collections.Counter()
+    for _ in range(25):
+        books = [drawn(dice) for _ in range(2)]
+        (place / "next.csv").write_bytes(books[1])
+        status, said, error = tool("compare", "5", place / "next.csv", text=books[0])
+        if "book T" in said:
+            counts["void"] += 1
+            continue
+        both = set.intersection(*(set(r.fields[1] for r in read_records(book.decode()) if r.kind == "code") for book in books))
+        cars = [cars_of(book, sorted(both)) for book in books]
+        wanted = "some car" if cars[0] & cars[1] else "no car"
+        check(f"{wanted} is in both", said.startswith(wanted), said + error)
+        if wanted == "some car":
+            check("the car is one", frozenset(said.split("\n")[0].split(": ")[1].split()) in cars[0] & cars[1], said)
+        check("the status", status == (1 if wanted == "no car" or "->" in said else 0), said)
+        counts[wanted] += 1
+    return "pairs of drawn books: " + ", ".join(f"{count} with {what}" for what, count in counts.items())
+
+
+def drawn(dice):
+    """A book of some of five codes, with rules of some days."""
+    codes = dice.sample("ABCDE", 4)
+    rows = ["book,T,1,9", *(f"code,{code},x" for code in codes)]
+    for at in range(3):
+        one, two, three = dice.sample(codes, 3)
+        rows.append(f"construct,C{at},{dice.choice(['*', one])},{dice.choice(['', '-'])}{two}{dice.choice('+/')}{dice.choice(['', '-'])}{three},{dice.choice(['', '3', '6'])},")
+    one, two, three = dice.sample(codes, 3)
+    rows.append(f"supplement,S1,10,{one},{two}/-{three},,")
+    rows += ["position,P,,mandatory,,", f"variant,V1,P,X1,1,{codes[0]},,", f"variant,V2,P,{dice.choice(['X1', 'X2'])},1,-{codes[0]},,"]
+    return "\n".join([*rows, ""]).encode()
+
+
+def cars_of(book, codes):
+    """The sets of these codes that are accepted on day 5 and complete to themselves."""
+    found = set()
+    for at in range(2 ** len(codes)):
+        car = [code for bit, code in enumerate(codes) if at >> bit & 1]
+        done = subprocess.run([PROGRAM, "order", "5", *car], input=book, capture_output=True, check=False)
+        lines = done.stdout.decode().splitlines()
+        if done.returncode == 0 and set(lines[1].split()[1:]) == set(car):
+            found.add(frozenset(car))
+    return found
+
+
 def report(place):
     """The reports have each line of `check`, and texts of a book are never read as markup."""
     count = 0
@@ -353,7 +399,7 @@ def report(place):
 
 
 def main(words):
-    parts = {"rows": rows, "torn": torn, "changed": changed, "copy": copy, "keep": keep, "next": next_, "sheet": sheet, "report": report}
+    parts = {"rows": rows, "torn": torn, "changed": changed, "copy": copy, "keep": keep, "next": next_, "sheet": sheet, "report": report, "common": common}
     for name in words or parts:
         with tempfile.TemporaryDirectory(dir="/dev/shm" if os.path.isdir("/dev/shm") else None) as place:
             print(f"{name}: {parts[name](pathlib.Path(place))}", flush=True)
