@@ -3,9 +3,15 @@
 import os
 import shutil
 import sqlite3
+import sys
 import tempfile
 
 TOP = os.path.dirname(os.path.dirname(os.path.abspath(__file__)))
+sys.path.insert(0, os.path.join(TOP, "tools"))
+sys.dont_write_bytecode = True
+import stores
+from program import Refused
+
 PROGRAM = os.path.join(TOP, "crates", "partsbook", "out", "partsbook")
 # The tables of a store, with the keys by which its rows are put in order.
 TABLES = {
@@ -46,7 +52,12 @@ def split_messages(stream):
 
 
 def rows_of(store):
-    """All rows of a store that is whole, and {} where it has no tables."""
+    """All rows of a store that is whole, and {} where it has no tables. A journal is whole where its records end at a closed gate."""
+    if stores.is_journal(store):
+        try:
+            return stores.read_store(store)
+        except Refused as refused:
+            raise NotWhole(str(refused)) from refused
     link = sqlite3.connect(store)
     try:
         said = link.execute("pragma integrity_check").fetchall()
@@ -63,10 +74,11 @@ def rows_left(store):
     if not os.path.exists(store):
         return {}
     with tempfile.TemporaryDirectory(dir=work_place()) as look:
+        copy = os.path.join(look, os.path.basename(store))
         for end in ("", "-wal"):
             if os.path.exists(store + end):
-                shutil.copyfile(store + end, os.path.join(look, "desk.db" + end))
-        return rows_of(os.path.join(look, "desk.db"))
+                shutil.copyfile(store + end, copy + end)
+        return rows_of(copy)
 
 
 def work_place():

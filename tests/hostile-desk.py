@@ -2,9 +2,10 @@
 """Tries a desk on a machine that lets it down: a full disk, a store that can't be written any more, an output that nobody takes,
 a kill at random moments, a log or a store that was being written when the power failed, and many desks at one new store.
 
-    tests/hostile-desk.py [--seed N] [--kills N] [PROGRAM [SUBJECT..]]
+    tests/hostile-desk.py [--journal] [--seed N] [--kills N] [PROGRAM [SUBJECT..]]
 
-PROGRAM is crates/partsbook/out/partsbook without the word, SUBJECT one of output, disk, locked, kill, torn and race. What must
+PROGRAM is crates/partsbook/out/partsbook without the word, SUBJECT one of output, disk, locked, kill, torn and race. The store is
+one of SQLite, and with --journal a journal, of which `race` isn't tried and `integrity_check` is that its records are whole. What must
 hold each time: every order that was answered 201 is in the store that is left, and at most one more, which was sent and not
 answered 201; `integrity_check` says ok; an order that is kept can be read while nothing can be written; and when the cause is
 away a desk starts over the store, and has these orders. `torn` takes away what a disk may lose when the power fails, which a
@@ -25,9 +26,12 @@ import threading
 import time
 
 from desk_stream import PROGRAM, TOP, NotWhole, example, request, rows_left, rows_of, work_place
+from stores import is_journal
 
 NOBODY = 65534
 FAULT = "503 store fault"
+# The name of the store in its folder.
+STORE = "desk.db"
 CODES = b'{"book":1,"day":1,"codes":["M1"]}'
 
 
@@ -125,7 +129,7 @@ def try_output(program, given):
             count += 1
     for end in ("full", "closed", "gone"):
         with tempfile.TemporaryDirectory() as folder:
-            store = os.path.join(folder, "desk.db")
+            store = os.path.join(folder, STORE)
             said = run_into(end, [program, "desk", store], PUT + RELEASE + place(1))
             must("status 5 and no word", said == (5, b""), "desk", end, said)
             rows = rows_of(store)
@@ -133,7 +137,7 @@ def try_output(program, given):
             count += 1
     with tempfile.TemporaryDirectory() as folder:
         closed = subprocess.run(
-            ["sh", "-c", 'exec "$0" "$@" <&-', program, "desk", os.path.join(folder, "desk.db")], capture_output=True
+            ["sh", "-c", 'exec "$0" "$@" <&-', program, "desk", os.path.join(folder, STORE)], capture_output=True
         )
         must("a closed input", (closed.returncode, closed.stdout) == (4, b"read fault\n"), closed)
     return f"{count + 1} runs into a full, a closed and an abandoned output: status 5 each time; a closed input: status 4"
@@ -189,7 +193,7 @@ def fill_rest(folder):
 
 
 def fill(program, folder, count):
-    store = os.path.join(folder, "desk.db")
+    store = os.path.join(folder, STORE)
     kept, failed, answer = set(), set(), None
     desk = Desk(program, store)
     first = desk.ask(PUT)
@@ -226,8 +230,10 @@ def fill(program, folder, count):
 def try_locked(program, given):
     told = []
     for what in ("mode of the store", "mode of the folder", "store", "log", "folder"):
+        if what == "log" and is_journal(STORE):
+            continue
         folder = tempfile.mkdtemp()
-        store = os.path.join(folder, "desk.db")
+        store = os.path.join(folder, STORE)
         os.chown(folder, NOBODY, NOBODY)
         try:
             told.append(f"{what}: " + lock(program, store, what))
@@ -284,7 +290,7 @@ def try_kill(program, given):
             if round_ % 10 == 0:
                 shutil.rmtree(folder)
                 os.mkdir(folder)
-                store, before, number = os.path.join(folder, "desk.db"), set(), 1
+                store, before, number = os.path.join(folder, STORE), set(), 1
             answered, asked, end = kill(program, store, number, draw)
             new = start_over(program, store, before | answered, set(asked))
             ends[end] += 1
@@ -340,10 +346,40 @@ def kill(program, store, first, draw):
 # A log and a store that were being written when the power failed.
 
 
-def try_torn(program, given):
+def try_torn_journal(program, given):
+    """The last change was being written: its gate is closed, and behind it stands what the disk had taken of the record, or
+    anything else. The next desk has all before it, and what it then keeps is there."""
     draw = random.Random(given.seed)
     with tempfile.TemporaryDirectory(dir=work_place()) as folder:
-        store = os.path.join(folder, "desk.db")
+        store, sizes = os.path.join(folder, STORE), []
+        desk = Desk(program, store)
+        must("a book", (desk.ask(PUT), desk.ask(RELEASE)) == ("201 kept T 1", "201 book 1"))
+        for number in range(1, 41):
+            must("an order", desk.ask(place(number)) == "201 accepted")
+            sizes.append(os.path.getsize(store))
+        desk.end()
+        whole = contents(store)
+        for round_ in range(300):
+            there = draw.randrange(1, 40)
+            size = sizes[there - 1]
+            cut = size + draw.randrange(sizes[there] - size + 1)
+            behind = whole[size:cut] if round_ % 2 else draw.randbytes(cut - size)
+            with open(store, "wb") as file:
+                file.write(whole[: size - 1] + b"\0" + behind)
+            desk = Desk(program, store)
+            must("the last one isn't there", desk.ask(read(there + 1)) == "404 no such order")
+            must("an order", desk.ask(place(900)) == "201 accepted")
+            must("the end", desk.end() == (0, "", ""))
+            must("the first orders and the new one", orders_of(rows_of(store)) == {*range(1, there + 1), 900})
+    return "300 journals whose last record was there in part, or was something else: the orders before it, and one more that was placed"
+
+
+def try_torn(program, given):
+    if is_journal(STORE):
+        return try_torn_journal(program, given)
+    draw = random.Random(given.seed)
+    with tempfile.TemporaryDirectory(dir=work_place()) as folder:
+        store = os.path.join(folder, STORE)
         desk = Desk(program, store)
         orders = list(range(1, 41))
         must("the orders", [desk.ask(message) for message in (PUT, RELEASE, *map(place, orders))][2:] == ["201 accepted"] * 40)
@@ -394,7 +430,7 @@ def try_race(program, given):
     ends = collections.Counter()
     for _ in range(20):
         with tempfile.TemporaryDirectory(dir=work_place()) as folder:
-            store = os.path.join(folder, "desk.db")
+            store = os.path.join(folder, STORE)
             kept, failed = set(), []
 
             def run(caller):
@@ -417,8 +453,10 @@ def try_race(program, given):
 
 
 def main():
+    global STORE
     subjects = {"output": try_output, "disk": try_disk, "locked": try_locked, "kill": try_kill, "torn": try_torn, "race": try_race}
-    reader = argparse.ArgumentParser(usage="tests/hostile-desk.py [--seed N] [--kills N] [--place FOLDER] [PROGRAM [SUBJECT..]]")
+    reader = argparse.ArgumentParser(usage="tests/hostile-desk.py [--journal] [--seed N] [--kills N] [--place FOLDER] [PROGRAM [SUBJECT..]]")
+    reader.add_argument("--journal", action="store_true")
     reader.add_argument("--seed", type=int, default=1)
     reader.add_argument("--kills", type=int, default=100)
     reader.add_argument("--place", help="where the stores that are killed over stand")
@@ -426,6 +464,9 @@ def main():
     reader.add_argument("subject", nargs="*")
     given = reader.parse_args()
     failed = 0
+    if given.journal:
+        STORE = "desk.journal"
+        del subjects["race"]
     for name in given.subject or subjects:
         begun = time.time()
         try:
