@@ -118,11 +118,13 @@ class Caller:
         self.fields = {"Authorization": f"Basic {word}", "Host": "localhost:8080", "X-Caller": "ANNA"}
 
     def put(self, number):
-        body = json.dumps({"book": 1, "day": 1 + number % 1000, "codes": ["M1"]})
+        return self.ask("PUT", f"/orders/{number}", json.dumps({"book": 1, "day": 1 + number % 1000, "codes": ["M1"]}))
+
+    def ask(self, method, path, body=None):
         if self.link is None:
             self.link = http.client.HTTPConnection("127.0.0.1", self.port, timeout=120)
         try:
-            self.link.request("PUT", f"/orders/{number}", body, self.fields)
+            self.link.request(method, path, body, self.fields)
             answer = self.link.getresponse()
             return answer.status, answer.read()
         except (OSError, http.client.HTTPException):
@@ -205,6 +207,12 @@ def refusals(place):
         subprocess.run([TOP / "tools" / "desks", "release", "U", other, "ANNA", str(desks.ports[1])], capture_output=True, check=True)
         done = desks.release()
         check("other books are refused", done.returncode == 1 and "has other books" in done.stderr, done.stdout + done.stderr)
+        engineer, dealer = Caller(desks.proxy_port, "ANNA"), Caller(desks.proxy_port, "HALL0")
+        engineer.fields["Authorization"] = "Basic " + base64.b64encode(b"ANNA:a-secret").decode()
+        for method, path in (("GET", "/drafts/T"), ("PUT", "/drafts/X"), ("POST", "/drafts/T/release"), ("POST", "/books/1/withdraw"), ("GET", "/drafts/T?/orders")):
+            check(f"a dealer is kept from {path}", dealer.ask(method, path)[0] == 403)
+        check("an engineer reads a draft", engineer.ask("GET", "/drafts/T")[0] == 200)
+        check("a dealer reads a book", dealer.ask("GET", "/books/1")[0] == 200)
         stranger = Caller(desks.proxy_port, "HALL0")
         stranger.fields["Authorization"] = "Basic " + base64.b64encode(b"KIEL1:another-secret").decode()
         check("a caller without a row is sent to no desk", stranger.put(1)[0] == 403)
@@ -212,7 +220,7 @@ def refusals(place):
         check("withdrawn at both", done.stdout.count("withdrawn 1") == 2, done.stdout + done.stderr)
     finally:
         desks.stop()
-    return "a release goes on behind a service that was down; other books, and callers without a row, are refused"
+    return "a release goes on behind a service that was down; other books, callers without a row, and dealers who ask for drafts, are refused"
 
 
 def rates(place, kind):

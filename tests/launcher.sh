@@ -176,6 +176,7 @@ for word in $("$top/partsbook" --help | sed -n 's/^  \([a-z]*\) .*/\1/p' | grep 
     "$top/partsbook" help "$word" | grep -q "^partsbook" || wrong "there is no help for $word"
 done
 "$top/partsbook" --version | grep -q '^partsbook' || wrong 'there is no version'
+(PARTSBOOK_PROGRAM=$work/none; out check; [ $? = 125 ] || wrong 'a program that is not there has another status'); said "there is no program $work/none"
 # One standard input for many commands: the second one isn't told of the first one's bytes.
 { read -r _; "$top/partsbook" check 2> "$work/said" > "$work/found"; } < "$books/van.csv"
 grep -q read "$work/said" && wrong 'a book is counted whose first line another command has read'
