@@ -123,6 +123,10 @@ same "$books/engine.csv" verify "$work/none"; said "can't be read, or isn't ther
 changed engine.csv 's/M1+-G7/M1+-G8/'
 same "$books/engine.csv" compare 1 "$work/book.csv"; said "the fault is in $work/book.csv"
 same "$work/book.csv" compare 1 "$books/engine.csv"; grep -q 'the fault is in' "$work/said" && wrong 'a fault of the first book is told of the second'
+changed engine.csv 's/engine two/"&/'
+same "$books/engine.csv" compare --budget 5 1 "$work/book.csv"; said "$work/book.csv: the quote that opens on line 3 is never closed"
+same "$books/compact.csv" order 40 -- P18 XX; said 'the book has no code `XX`'
+same "$books/engine.csv" compare 1 --budget=5 "$work/none"; said "the file $work/none can't be read"
 same "$books/engine.csv" compare 2000 "$books/engine.csv"; said "the day isn't in the term of book 1"
 
 # How large a check is, as the launcher shows it on a terminal: the slices are those of the report, and the questions those that the
