@@ -97,7 +97,7 @@ fault 's/^module,/Module,/' 'book fault 12 5' 'has to be `module`, in small lett
 fault 's/^construct,C1,.*/group,C1,one,M1\/M2,,/' 'book fault 7 5' 'needs a book of form 2'
 fault 's/engine one/engine, one/' 'book fault 2 6' 'a `code` record has 3 fields; this one has 4'
 fault 's/^code,M2/code,m2/' 'book fault 3 7' '`m2` has small letters'
-fault 's/,A100,1,/,A100,0,/' 'book fault 14 8' 'quantities 1 to 999'
+fault 's/,A100,1,/,A100,0,/' 'book fault 14 8' 'quantities from 1 to 999'
 fault 's/^variant,V1.*/variant,V1,P1,A100,1,M1,9,3/' 'book fault 14 9' 'line 14: variant,V1,P1,A100,1,M1,9,3'
 fault 's/^construct,C4/construct,C2/' 'book fault 10 10' 'is taken by line 8'
 fault 's/^variant,V1,P1/variant,V1,P2/' 'book fault 14 11' 'there is no position `P2`'

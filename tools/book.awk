@@ -284,20 +284,31 @@ function print_fault(   word, kind, more, place, text, low) {
         text = "a `" wanted[1] "` record has " fields_needed(wanted[1]) " fields" (wanted[1] == "book" ? ", or 5 with a form" : "") "; this one has " wanted_count
         if (wanted_count > fields_needed(wanted[1])) text = text ": a text with a comma in it stands in quotes"
         print text
-    } else if (kind == 7) print "a field is no name: a name is 1 to 8 capitals and digits without blanks (a part 1 to 16); a group names 2 to 64 codes, each once, with / between them" small_letters()
-    else if (kind == 8) print "a field is no number of 1 to 5 digits, or out of its range: days 1 to 99999, ranks 0 to 9999, quantities 1 to 999, the form 1 or 2"
-    else if (kind == 9) print "the first day comes after the last"
+    } else if (kind == 7) {
+        print "a field is no name: a name is 1 to 8 capitals and digits without blanks (a part 1 to 16)" small_letters()
+        if (wanted[1] == "group") print "a group names 2 to 64 codes, each once, with / between them"
+    } else if (kind == 8) {
+        print "a field is no number of 1 to 5 digits, or out of its range"
+        print "days go from 1 to 99999, ranks from 0 to 9999, quantities from 1 to 999; a form is 1 or 2"
+    } else if (kind == 9) print "the first day comes after the last"
     else if (kind == 10) {
         word[3] = wanted[1] == "supplement" || wanted[1] == "construct" || wanted[1] == "group" ? "rule" : wanted[1]
-        print "the name `" wanted[2] "` is taken by line " line_of[named[word[3], wanted[2]]] (word[3] == "rule" ? "; supplementing rules, constructibility rules and groups share their names" : "")
+        print "the name `" wanted[2] "` is taken by line " line_of[named[word[3], wanted[2]]]
+        if (word[3] == "rule") print "supplementing rules, constructibility rules and groups share their names"
     } else if (kind == 11) print unknown_name()
     else if (kind == 12) print rule_fault(word[3] + 0, word[4] + 0)
     else if (kind == 13) print "there are too many " (word[3] == "choices" ? "variants of this position: 200 at most" : word[3])
 }
 
+# Whether a field of the record has a name, and no text and no word of its own.
+function has_name(i) {
+    if (wanted[i] == "mandatory" || wanted[i] == "optional") return 0
+    return i != 3 || (wanted[1] != "group" && wanted[1] != "code" && wanted[1] != "module")
+}
+
 function small_letters(   i) {
     for (i = 2; i <= wanted_count; i++)
-        if (wanted[i] ~ /^[A-Za-z0-9]+$/ && wanted[i] ~ /[a-z]/ && wanted[i] != "mandatory" && wanted[i] != "optional" && !(wanted[1] == "group" && i == 3) && !((wanted[1] == "code" || wanted[1] == "module") && i == 3))
+        if (has_name(i) && wanted[i] ~ /^[A-Za-z0-9]+$/ && wanted[i] ~ /[a-z]/)
             return "; `" wanted[i] "` has small letters"
     return ""
 }
