@@ -85,7 +85,8 @@ def rows(place):
     check("compacted and by way of SQLite it is the same", (place / "b.journal").read_bytes() == (place / "d.journal").read_bytes())
     check("it is shorter", (place / "b.journal").stat().st_size < (place / "a.journal").stat().st_size)
     lists = [tool("journal", "rows", place / f"{name}.journal")[1] for name in "abd"]
-    lists.append(subprocess.run([sys.executable, TOP / "tests" / "journal-rows.py", place / "a.journal"], capture_output=True, text=True, check=False).stdout)
+    reader = [sys.executable, TOP / "tests" / "journal-rows.py", place / "a.journal"]
+    lists.append(subprocess.run(reader, capture_output=True, text=True, check=False).stdout)
     check("each lists the same rows", len(set(lists)) == 1 and lists[0].count("order") == 20)
     filled(place / "own.db")
     check("a desk's own store of SQLite has the same rows", stores.read_store(place / "own.db") == stores.read_store(place / "c.db"))
@@ -236,7 +237,9 @@ def keep(place):
     held.wait()
     (place / "after").mkdir()
     status, _, error = tool("desk-store", "backup", place / "s.db", place / "after")
-    check("a backup after a kill has the log's orders", status == 0 and any(row[0] == "HALL6" for row in stores.read_store(next((place / "after").iterdir()))["orders"]), error)
+    check("a backup after a kill", status == 0, error)
+    left = stores.read_store(next((place / "after").iterdir()))["orders"]
+    check("it has the log's orders", any(row[0] == "HALL6" for row in left))
     reasons = {
         "nowhere/x.db": "there is no folder", "folder": "is no file", "text.db": "is no database", "other.db": "without the tables",
         "second.db": "hard link", "j.db": "a journal, whose name", "link.db": "is a link to nothing", "text.journal": "is damaged at byte 0",
@@ -265,7 +268,9 @@ def next_(place):
     check("only the book in force is there", [b[3] for b in new["books"]] == [old["books"][0][3]] and not new["orders"])
     status, said, error = tool("desk-store", "next", "--all", place / "old.db", place / "all.db")
     every = stores.read_store(place / "all.db")
-    check("with --all the numbers stay", status == 0 and [b[::3] for b in every["books"]] == [b[::3] for b in old["books"]] and every["withdrawn"] == old["withdrawn"], said + error)
+    check("next --all", status == 0, said + error)
+    check("with --all the numbers stay", [b[::3] for b in every["books"]] == [b[::3] for b in old["books"]])
+    check("and so do withdrawals", every["withdrawn"] == old["withdrawn"])
     done = desk(place / "all.db", order("HALL1", 1) + request("PUT", "/orders/2", "HALL1", b'{"book":2,"day":1,"codes":["M1"]}'))
     check("orders to them are answered as before", done.stdout.startswith(b"HTTP/1.1 201") and b"withdrawn 2" in done.stdout)
     return "the next store: drafts with owners, books in force, and with --all all numbers"
@@ -277,7 +282,8 @@ def sheet(place):
     for book in sorted((TOP / "examples").glob("*.csv")):
         wanted = [r.fields for r in read_records(book.read_text())]
         status, _, error = tool("to-sheet", book, place / f"{book.stem}.xlsx")
-        check(f"to-sheet {book.stem}", status == subprocess.run([PROGRAM, "check"], stdin=book.open("rb"), stdout=subprocess.DEVNULL, check=False).returncode, error)
+        checked = subprocess.run([PROGRAM, "check"], input=book.read_bytes(), capture_output=True, check=False)
+        check(f"to-sheet {book.stem}", status == checked.returncode, error)
         status, text, error = tool("from-sheet", place / f"{book.stem}.xlsx")
         check(f"{book.stem}.xlsx comes back", [r.fields for r in read_records(text)] == wanted, error)
         count += 1
@@ -314,7 +320,8 @@ def office(place):
         return "; LibreOffice isn't there"
     words = ["soffice", f"-env:UserInstallation=file://{place}/profile", "--headless", "--norestore"]
     for to in ("xlsx", "csv:Text - txt - csv (StarCalc):59,34,76,1,,0,false,true,false"):
-        subprocess.run([*words, "--convert-to", to, "--outdir", place / "office", *sorted(place.glob("*.xlsx"))], stdout=subprocess.DEVNULL, stderr=subprocess.DEVNULL, check=False)
+        these = [*words, "--convert-to", to, "--outdir", place / "office", *sorted(place.glob("*.xlsx"))]
+        subprocess.run(these, stdout=subprocess.DEVNULL, stderr=subprocess.DEVNULL, check=False)
     count = 0
     for book in sorted((TOP / "examples").glob("*.csv")):
         wanted = [r.fields for r in read_records(book.read_text())]
@@ -352,7 +359,8 @@ def drawn(dice):
     rows = ["book,T,1,9", *(f"code,{code},x" for code in codes)]
     for at in range(3):
         one, two, three = dice.sample(codes, 3)
-        rows.append(f"construct,C{at},{dice.choice(['*', one])},{dice.choice(['', '-'])}{two}{dice.choice('+/')}{dice.choice(['', '-'])}{three},{dice.choice(['', '3', '6'])},")
+        rule = f"{dice.choice(['', '-'])}{two}{dice.choice('+/')}{dice.choice(['', '-'])}{three}"
+        rows.append(f"construct,C{at},{dice.choice(['*', one])},{rule},{dice.choice(['', '3', '6'])},")
     one, two, three = dice.sample(codes, 3)
     rows.append(f"supplement,S1,10,{one},{two}/-{three},,")
     rows += ["position,P,,mandatory,,", f"variant,V1,P,X1,1,{codes[0]},,", f"variant,V2,P,{dice.choice(['X1', 'X2'])},1,-{codes[0]},,"]
@@ -399,7 +407,8 @@ def report(place):
 
 
 def main(words):
-    parts = {"rows": rows, "torn": torn, "changed": changed, "copy": copy, "keep": keep, "next": next_, "sheet": sheet, "report": report, "common": common}
+    parts = {"rows": rows, "torn": torn, "changed": changed, "copy": copy, "keep": keep, "next": next_}
+    parts |= {"sheet": sheet, "report": report, "common": common}
     for name in words or parts:
         with tempfile.TemporaryDirectory(dir="/dev/shm" if os.path.isdir("/dev/shm") else None) as place:
             print(f"{name}: {parts[name](pathlib.Path(place))}", flush=True)
