@@ -211,6 +211,8 @@ def keep(place):
         check("backup", tool("desk-store", "backup", store, folder)[0] == 0)
         made = next(folder.iterdir())
         desk(store, order("HALL7", 77))
+        (place / f"link-{name}").symlink_to(store)
+        store = place / f"link-{name}" if name == "s.journal" else store
         status, said, error = tool("desk-store", "restore", made, store)
         check("restore tells the order that is lost", status == 0 and "1 orders were kept" in said and "HALL7|77|1|1|M1" in said, said + error)
         check("the rows are those of the backup", stores.read_store(store) == stores.read_store(made))
