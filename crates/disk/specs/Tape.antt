@@ -1,10 +1,10 @@
 -- A disk in memory: the file as it was at first, and what each call did.
 --     leaves_of    the images that may be left after some calls
 --     left_since   the images of some moment
-use Rattle.std.specs.Prelude.{◌≡◌, ℕ, ◌≤◌, List, [], ◌∷◌, length, take, Option}
+use Rattle.std.specs.Prelude.{◌≡◌, ℕ, ◌≤◌, Bool, false, ◌||◌, ◌&&◌, not, nat_lt, nat_le, List, [], ◌∷◌, length, take, Option, Some, None}
 use Rattle.std.proofs.Common.{sym, subst, arith}
 use Rattle.std.proofs.lemmas.List.{take_all}
-use Rattle.pb_outside.specs.FaultPlan.{Plan}
+use Rattle.pb_outside.specs.FaultPlan.{Plan, is_to_fail}
 use Rattle.disk.specs.Disk.{overwritten, Torn, IsCutOrNot, AfterStep}
 
 -- what a call came to; a call that failed changed no byte, and a stop may leave it done in part
@@ -61,6 +61,19 @@ pub record Tape : Type 0 where
   pub calls_left : ℕ
   pub room_left : ℕ
   pub stop : Option ℕ
+
+-- the disk stops in the call of this number, or stopped before it
+abbrev pub is_stopped : Option ℕ → ℕ → Bool
+is_stopped None number = false
+is_stopped (Some last) number = nat_le last number
+
+-- the next call is to fail: by its number, since the disk stops, or for want of room
+abbrev pub is_due : Plan → Option ℕ → Bool → Bool
+is_due plan stop has_room = is_to_fail plan || is_stopped stop plan.next_call || not has_room
+
+-- there is room for one call more that writes, cuts or syncs, and for the bytes that it writes
+abbrev pub has_room : ℕ → ℕ → ℕ → Bool
+has_room calls_left room_left bytes = nat_lt 0 calls_left && nat_le bytes room_left
 
 -- the images that a stop may leave now
 abbrev pub left_now : List ℕ → List Done → List ℕ → Type 0

@@ -1,10 +1,10 @@
 //! A disk in memory.
-ghost use Rattle.std.specs.Prelude.{◌≡◌, ◌≢◌, ◌≤◌, ◌+◌, ◌⊎◌, List, ℕ, Some, Err, [], ◌∷◌, ◌++◌, length, take, replicate, IfOk, OnOk, OnErr};
+ghost use Rattle.std.specs.Prelude.{◌≡◌, ◌≢◌, ◌≤◌, ◌+◌, ◌⊎◌, ◌↔◌, true, false, List, ℕ, Some, Err, [], ◌∷◌, ◌++◌, length, take, replicate, IfOk, OnOk, OnErr};
 ghost use Rattle.std.specs.Option.{option_map};
 ghost use Rattle.pb_outside.specs.Faults.{Rose};
 ghost use Rattle.disk.specs.Disk.{overwritten, Torn, IsCutOrNot, WhereTold, Becomes, Follows, Only, Elapses, CountsFaults};
 ghost use Rattle.disk.specs.Calls.{dones, total, IsAnswered};
-ghost use Rattle.disk.specs.Tape.{Wrote, TriedWrite, Cut, TriedCut, Synced, content_of, AreWithin, left_now, LeftSince};
+ghost use Rattle.disk.specs.Tape.{Wrote, TriedWrite, Cut, TriedCut, Synced, content_of, AreWithin, left_now, LeftSince, is_stopped, is_due, has_room};
 
 use crate::Disk;
 use pb_base::Memory;
@@ -63,18 +63,35 @@ enum Fate {
     Refused,
 }
 
+// Whether the disk stops in the call of this number, or stopped before it.
+fn is_stopped(stop: Option<u64>, number: u64) -> bool
+    ensures { result ≡ is_stopped stop number }
+{
+    match stop {
+        Some(last) => last <= number,
+        None => false,
+    }
+}
+
+// Whether there is room for one call more, and for the bytes that it writes.
+fn has_room(calls_left: u64, room_left: u64, bytes: u64) -> bool
+    ensures { result ≡ has_room calls_left room_left bytes }
+{
+    calls_left > 0 && bytes <= room_left
+}
+
 // Begins the next call. It is recorded where there is room for one more, and it goes only where there is room for all of
 // it.
 fn fate_of(plan: &mut FaultPlan, stop: Option<u64>, is_recorded: bool, has_room: bool) -> Fate
+    ensures due { is_due plan.old stop has_room ≡ true → result ≢ Fate.Goes }
+    ensures not_due { is_due plan.old stop has_room ≡ false → result ≡ Fate.Goes }
     ensures later { plan.old.faults ≤ plan.new.faults }
     ensures goes { result ≡ Fate.Goes → plan.new.faults ≡ plan.old.faults }
     ensures fails { result ≢ Fate.Goes → Rose plan.old.faults plan.new.faults }
 {
     let number = plan.next_call();
-    let (stops, has_stopped) = match stop {
-        Some(last) => (last <= number, last < number),
-        None => (false, false),
-    };
+    let stops = is_stopped(stop, number);
+    let has_stopped = number > 0 && is_stopped(stop, number - 1);
     if plan.begin_call() {
         return unmade(is_recorded && !has_stopped);
     }
@@ -383,16 +400,48 @@ impl Disk for MemoryDisk {
 
     ghost only_now = { only_now };
 
-    fn read(&mut self, alloc: Global) -> Result<Vec<u8>, OutError> {
+    fn read(&mut self, alloc: Global) -> Result<Vec<u8>, OutError>
+        ensures due { (result ≡ Err OutError.Failed) ↔ (is_due self.old.plan self.old.stop true ≡ true) }
+        ensures bytes { IfOk result (λ bytes. WhereTold (Some (content_of self.old.first self.old.calls))
+            (λ file. bytes.items ≡ file)) }
+        ensures kept { Some (content_of self.new.first self.new.calls)
+            ≡ Some (content_of self.old.first self.old.calls) }
+        ensures crash { (image : List ℕ) → left_now self.new.first self.new.calls image
+            → left_now self.old.first self.old.calls image }
+        ensures time { Elapses (length self.old.calls) (length self.new.calls)
+            (λ t image. LeftSince self.old.first self.old.calls t image)
+            (λ t image. LeftSince self.new.first self.new.calls t image)
+            (λ image. left_now self.new.first self.new.calls image) }
+        ensures count { CountsFaults result self.old.plan.faults self.new.plan.faults }
+    {
         if fate_of(&mut self.plan, self.stop, true, true) != Fate::Goes {
             return Err(OutError::Failed);
         }
         Ok(Vec::from_slice(alloc, &self.content)?)
     }
 
-    fn write_at(&mut self, at: u64, bytes: &[u8]) -> Result<(), OutError> {
+    fn write_at(&mut self, at: u64, bytes: &[u8]) -> Result<(), OutError>
+        requires { WhereTold (Some (content_of self.old.first self.old.calls)) (λ file. at ≤ length file) }
+        ensures due { is_due self.old.plan self.old.stop
+            (has_room self.old.calls_left self.old.room_left (length bytes.now)) ≡ true
+            → result ≡ Err OutError.Failed }
+        ensures written { OnOk result (Some (content_of self.new.first self.new.calls)
+            ≡ option_map (overwritten at bytes.now) (Some (content_of self.old.first self.old.calls))) }
+        ensures torn { OnErr result (Becomes (Torn at (length bytes.now))
+            (Some (content_of self.old.first self.old.calls))
+            (Some (content_of self.new.first self.new.calls))) }
+        ensures crash { Follows (Torn at (length bytes.now))
+            (λ image. left_now self.old.first self.old.calls image)
+            (λ image. left_now self.new.first self.new.calls image) }
+        ensures time { Elapses (length self.old.calls) (length self.new.calls)
+            (λ t image. LeftSince self.old.first self.old.calls t image)
+            (λ t image. LeftSince self.new.first self.new.calls t image)
+            (λ image. left_now self.new.first self.new.calls image) }
+        ensures no_memory { result ≢ Err OutError.Memory }
+        ensures count { CountsFaults result self.old.plan.faults self.new.plan.faults }
+    {
         let len = bytes.len() as u64;
-        let has_room = self.calls_left > 0 && len <= self.room_left;
+        let has_room = has_room(self.calls_left, self.room_left, len);
         match fate_of(&mut self.plan, self.stop, self.calls_left > 0, has_room) {
             Fate::Goes => self.write(at, bytes),
             Fate::Fails => {
@@ -403,13 +452,26 @@ impl Disk for MemoryDisk {
         }
     }
 
-    fn cut(&mut self, len: u64) -> Result<(), OutError> {
-        match fate_of(
-            &mut self.plan,
-            self.stop,
-            self.calls_left > 0,
-            self.calls_left > 0,
-        ) {
+    fn cut(&mut self, len: u64) -> Result<(), OutError>
+        ensures due { is_due self.old.plan self.old.stop (has_room self.old.calls_left self.old.room_left 0)
+            ≡ true → result ≡ Err OutError.Failed }
+        ensures cut { OnOk result (Some (content_of self.new.first self.new.calls)
+            ≡ option_map (take len) (Some (content_of self.old.first self.old.calls))) }
+        ensures torn { OnErr result (Becomes (IsCutOrNot len)
+            (Some (content_of self.old.first self.old.calls))
+            (Some (content_of self.new.first self.new.calls))) }
+        ensures crash { Follows (IsCutOrNot len)
+            (λ image. left_now self.old.first self.old.calls image)
+            (λ image. left_now self.new.first self.new.calls image) }
+        ensures time { Elapses (length self.old.calls) (length self.new.calls)
+            (λ t image. LeftSince self.old.first self.old.calls t image)
+            (λ t image. LeftSince self.new.first self.new.calls t image)
+            (λ image. left_now self.new.first self.new.calls image) }
+        ensures no_memory { result ≢ Err OutError.Memory }
+        ensures count { CountsFaults result self.old.plan.faults self.new.plan.faults }
+    {
+        let has_room = has_room(self.calls_left, self.room_left, 0);
+        match fate_of(&mut self.plan, self.stop, has_room, has_room) {
             Fate::Goes => self.shorten(len),
             Fate::Fails => {
                 self.try_cut(len);
@@ -419,13 +481,24 @@ impl Disk for MemoryDisk {
         }
     }
 
-    fn sync(&mut self) -> Result<(), OutError> {
-        match fate_of(
-            &mut self.plan,
-            self.stop,
-            self.calls_left > 0,
-            self.calls_left > 0,
-        ) {
+    fn sync(&mut self) -> Result<(), OutError>
+        ensures due { is_due self.old.plan self.old.stop (has_room self.old.calls_left self.old.room_left 0)
+            ≡ true → result ≡ Err OutError.Failed }
+        ensures durable { OnOk result (WhereTold (Some (content_of self.old.first self.old.calls))
+            (λ file. Only file (λ image. left_now self.new.first self.new.calls image))) }
+        ensures kept { Some (content_of self.new.first self.new.calls)
+            ≡ Some (content_of self.old.first self.old.calls) }
+        ensures crash { (image : List ℕ) → left_now self.new.first self.new.calls image
+            → left_now self.old.first self.old.calls image }
+        ensures time { Elapses (length self.old.calls) (length self.new.calls)
+            (λ t image. LeftSince self.old.first self.old.calls t image)
+            (λ t image. LeftSince self.new.first self.new.calls t image)
+            (λ image. left_now self.new.first self.new.calls image) }
+        ensures no_memory { result ≢ Err OutError.Memory }
+        ensures count { CountsFaults result self.old.plan.faults self.new.plan.faults }
+    {
+        let has_room = has_room(self.calls_left, self.room_left, 0);
+        match fate_of(&mut self.plan, self.stop, has_room, has_room) {
             Fate::Goes => self.settle(),
             _ => Err(OutError::Failed),
         }

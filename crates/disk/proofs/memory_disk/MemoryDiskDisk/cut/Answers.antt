@@ -26,3 +26,6 @@ returns-in-Fails-clause-crash c = rw (← c.self.view_is)
 pub returns-in-Fails-clause-time : goal.returns-in-Fails-clause-time
 returns-in-Fails-clause-time c = rw (← c.self.view_is)
     (grew_time _ _ _ _ (TriedCut c.args.len) (record { first_is = c.try_cut.ensures.first; calls_are = c.try_cut.ensures.calls }))
+
+pub returns-in-Refused-clause-crash : goal.returns-in-Refused-clause-crash
+returns-in-Refused-clause-crash c = rw (← c.self.view_is) (λ image left. (image, left, inl refl))
