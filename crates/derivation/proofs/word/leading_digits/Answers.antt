@@ -1,4 +1,4 @@
-use Rattle.std.proofs.Common.{◌≡◌, ◌≤◌, ◌<◌, ◌+◌, ◌-◌, ◌*◌, ◌^◌, ◌∙◌, ℕ, true, length, slice_index_or, sym, arith}
+use Rattle.std.proofs.Common.{◌≡◌, ◌<◌, ◌+◌, ◌-◌, ◌*◌, ◌^◌, ◌∙◌, ℕ, true, length, slice_index_or, sym, arith}
 use Rattle.pb_base.specs.Digits.{is_digit}
 use Rattle.derivation.proofs.FrontLaws.{room_for_digit, power_next, digit_is, digits_more, value_next}
 use Rattle.derivation.proofs.word.leading_digits.Goals as goal

@@ -1,4 +1,4 @@
-use Rattle.std.proofs.Common.{◌≡◌, ◌<◌, ◌≤◌, ◌^◌, ◌-◌, length, take, true}
+use Rattle.std.proofs.Common.{◌≡◌, ◌<◌, ◌≤◌, ◌^◌, ◌-◌, take, true}
 use Rattle.std.specs.List.{list_all}
 use Rattle.pb_base.specs.Digits.{is_digit, value_of}
 use Rattle.derivation.proofs.word.leading_digits.Given as goal
