@@ -38,7 +38,7 @@ map_if f true x y = refl
 map_if f false x y = refl
 
 -- numbers
-digits_are : (v : ℕ) (word : List ℕ) → digits_kept (kept v) word ≡ cond (list_all is_digit word) (Some (kept (value_from v word))) None
+pub digits_are : (v : ℕ) (word : List ℕ) → digits_kept (kept v) word ≡ cond (list_all is_digit word) (Some (kept (value_from v word))) None
 digits_are v [] = refl
 digits_are v (b ∷ bs) =
     let same : with_digit (kept v) b ≡ kept (10 * v + (b - 48)) = omega arith in

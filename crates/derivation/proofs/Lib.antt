@@ -9,6 +9,7 @@ pub mod Walk
 pub mod Released
 pub mod NamedLaws
 pub mod WordLaws
+pub mod FrontLaws
 pub mod LineLaws
 pub mod MemberLaws
 pub mod PairLaws

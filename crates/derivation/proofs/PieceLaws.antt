@@ -3,7 +3,9 @@ use Rattle.std.proofs.Common.{cond, sym, IsTrue, ◌≡◌, ℕ, ◌+◌, ◌<�
 use Rattle.std.specs.List.{onto_first}
 use Rattle.std.proofs.lemmas.List.Splits.{slice_split-cons_yes, slice_split-cons_no, length-slice_split}
 use Rattle.std.proofs.lemmas.Bool.Decides.{nat_tests}
-use Rattle.derivation.specs.Pieces.{pieces, pieces_left}
+use Rattle.std.proofs.lemmas.Bool.{eqb-true}
+use Rattle.memchr.specs.Find.{Nowhere, NoneBefore, Passes, is_byte}
+use Rattle.derivation.specs.Pieces.{pieces, pieces_left, EndsPiece}
 
 other_byte : (x y : ℕ) → (x ≡ y → ⊥) → eqb x y ≡ false
 other_byte x y differs = grind (arith, nat_tests)
@@ -34,16 +36,30 @@ pieces_are_some separator text empty =
 
 -- what a reader that is not done gives next, and what it then has left
 pub first_piece : (now : List (List ℕ)) (done : Bool) (separator : ℕ) (text : List ℕ) (i : ℕ) → pieces_left done separator text ≡ now → done ≡ false
-    → (i ≤ length text) → (i ≡ length text → ⊥) → ((k : ℕ) → k < i → get_or text k 0 ≡ separator → ⊥) → (i < length text → get_or text i 0 ≡ separator)
-    → now ≡ take i text ∷ pieces_left done separator (drop (i + 1) text)
-first_piece now true separator text i is more within inside before found = absurd (cc)
-first_piece now false separator text i is more within inside before found =
-    let below : i < length text = omega arith in sym is ∙ pieces_at separator text i below before (found below)
+    → (i ≡ length text → ⊥) → EndsPiece separator text i → now ≡ take i text ∷ pieces_left done separator (drop (i + 1) text)
+first_piece now true separator text i is more inside ends = absurd (cc)
+first_piece now false separator text i is more inside ends =
+    let below : i < length text = omega (arith, ends.within) in sym is ∙ pieces_at separator text i below ends.before (ends.found below)
 
 pub last_piece : (now : List (List ℕ)) (done : Bool) (separator : ℕ) (text : List ℕ) (i : ℕ) → pieces_left done separator text ≡ now → done ≡ false
-    → i ≡ length text → ((k : ℕ) → k < i → get_or text k 0 ≡ separator → ⊥) → now ≡ text ∷ []
-last_piece now true separator text i is more all before = absurd (cc)
-last_piece now false separator text i is more all before = sym is ∙ pieces_without separator text i all before
+    → i ≡ length text → EndsPiece separator text i → now ≡ text ∷ []
+last_piece now true separator text i is more all ends = absurd (cc)
+last_piece now false separator text i is more all ends = sym is ∙ pieces_without separator text i all ends.before
+
+-- the first piece ends at the first separator that is found
+pub ends_there : (separator : ℕ) (text : List ℕ) (end : ℕ) → NoneBefore (Passes (is_byte separator) text) 0 (length text) end → Passes (is_byte separator) text end → EndsPiece separator text end
+ends_there separator text end before found = record {
+  within = let below : end < length text = before.high in omega arith;
+  before = λ k below is. before.before k (omega arith) below (eq-eqb (get_or text k 0) separator is);
+  found = λ _. eqb-true (get_or text end 0) separator found;
+}
+
+pub ends_with_text : (separator : ℕ) (text : List ℕ) → Nowhere (Passes (is_byte separator) text) 0 (length text) → EndsPiece separator text (length text)
+ends_with_text separator text none = record {
+  within = omega arith;
+  before = λ k below is. none k (omega arith) below (eq-eqb (get_or text k 0) separator is);
+  found = λ below. absurd (omega arith);
+}
 
 pub none_when_done : (now : List (List ℕ)) (done : Bool) (separator : ℕ) (text : List ℕ) → pieces_left done separator text ≡ now
     → (IsTrue done → now ≡ []) × (now ≡ [] → IsTrue done)

@@ -15,7 +15,7 @@ use Rattle.derivation.specs.Written.{literal_word}
 abbrev pub is_plain : List ℕ → Bool
 is_plain word = list_all (λ b. ltb 32 b) word
 
-value_more : (v : ℕ) (ds : List ℕ) (d : ℕ) → value_from v (ds ++ d ∷ []) ≡ 10 * value_from v ds + (d - 48)
+pub value_more : (v : ℕ) (ds : List ℕ) (d : ℕ) → value_from v (ds ++ d ∷ []) ≡ 10 * value_from v ds + (d - 48)
 value_more v [] d = refl
 value_more v (b ∷ bs) d = value_more (10 * v + (b - 48)) bs d
 

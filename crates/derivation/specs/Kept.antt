@@ -9,7 +9,7 @@ use Rattle.std.specs.List.{AllByRecursion}
 use Rattle.clause_pool.specs.Literal.{literal}
 use Rattle.clause_pool.specs.Clause.{AreBelow}
 use Rattle.clause_pool.specs.declared.chain.Pair.{Pair}
-use Rattle.derivation.specs.CertLine.{CertLine, line_from, head_line, book_line, slice_line, set_line, step_line, close_line, end_line}
+use Rattle.derivation.specs.CertLine.{CertLine, line_from, pairs_from, head_line, book_line, slice_line, set_line, step_line, close_line, end_line}
 use Rattle.derivation.specs.Pieces.{pieces}
 use Rattle.derivation.specs.Words.{has_number_form}
 use Rattle.derivation.specs.Stage.{SliceSoFar, Stage, within}
@@ -45,6 +45,21 @@ literal_kept [] = None
 literal_kept (sign ∷ number) =
     if sign == 43 then option_map (literal_at true) (number_kept number)
     else (if sign == 45 then option_map (literal_at false) (number_kept number) else None)
+
+-- the first word as a number or a literal, and the words behind it
+abbrev pub first_as : (List ℕ → Option ℕ) → List (List ℕ) → Option (ℕ × List (List ℕ))
+first_as read [] = None
+first_as read (word ∷ words) = option_map (λ value. (value, words)) (read word)
+
+abbrev pub first_number : List (List ℕ) → Option (ℕ × List (List ℕ))
+first_number words = first_as number_kept words
+
+abbrev pub first_literal : List (List ℕ) → Option (ℕ × List (List ℕ))
+first_literal words = first_as literal_kept words
+
+-- the pairs that words are
+abbrev pub pairs_kept : List (List ℕ) → Option (List Pair)
+pairs_kept words = pairs_from number_kept literal_kept words
 
 -- a line as it is read
 abbrev pub line_kept : List ℕ → Option CertLine

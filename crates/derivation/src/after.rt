@@ -134,7 +134,7 @@ fn after_number(
                 return Err(Fail::Refused(CertKind::BadSet(number)));
             }
             let slice = open_slice(alloc, book, slice, number)?;
-            Ok(Stage::Within(slice))
+            Ok(Stage::Within(Box::new(alloc, slice)?))
         }
         _ => Err(Fail::Refused(CertKind::Syntax)),
     }
@@ -172,30 +172,30 @@ fn open_slice(alloc: Global, book: &Book, slice: &Slice, number: u32) -> Result<
 
 fn after_within(
     count: u32,
-    mut slice: OpenSlice,
+    mut slice: Box<OpenSlice>,
     line: &Line,
     pairs: &[Pair],
 ) -> Result<Stage, Fail<CertKind>>
     requires pairs { HasPairs line.now pairs.now }
-    requires named { NamesKept (so_far_of slice) }
-    ensures answer { Gives result stage_of (after_within count (so_far_of slice)
+    requires named { NamesKept (so_far_of slice.value) }
+    ensures answer { Gives result stage_of (after_within count (so_far_of slice.value)
         (line_of line.now pairs.now)) }
     ensures named { IfOk result (λ behind. AllNamed (stage_of behind)) }
 {
     match line {
         Line::Step { start } => {
-            derive(&mut slice, *start, pairs)?;
+            derive(&mut *slice, *start, pairs)?;
             Ok(Stage::Within(slice))
         }
         Line::Close { question, clause } => {
-            close_next(&mut slice, *question, *clause)?;
+            close_next(&mut *slice, *question, *clause)?;
             Ok(Stage::Within(slice))
         }
         Line::Slice(number) => {
             let next = u64::from(slice.slice) + 1;
-            next_slice(count, next, first_left(&slice), *number)
+            next_slice(count, next, first_left(&*slice), *number)
         }
-        Line::End => end_behind(count, &slice),
+        Line::End => end_behind(count, &*slice),
         _ => Err(Fail::Refused(CertKind::Syntax)),
     }
 }

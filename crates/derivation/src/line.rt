@@ -1,13 +1,13 @@
 //! The lines of a certificate, each read once from its words.
-ghost use Rattle.std.specs.Prelude.{◌≡◌, None, Some, List, IfOk, IfSome, if◌then◌else◌};
+ghost use Rattle.std.specs.Prelude.{◌≡◌, ◌≢◌, ◌<◌, None, Some, List, [], ◌∷◌, IfOk, IfSome, MatchOption, length, if◌then◌else◌};
 ghost use Rattle.std.specs.Option.{option_map};
-ghost use Rattle.derivation.specs.CertLine.{book_from, close_from, end_from, head_from, other_from, pair_from, pairs_from, set_from, slice_from, step_from};
+ghost use Rattle.derivation.specs.CertLine.{book_from, close_from, end_from, head_from, other_from, set_from, slice_from, step_from};
 ghost use Rattle.clause_pool.specs.declared.chain.Pair.{Pair};
-ghost use Rattle.derivation.specs.Kept.{line_kept, literal_kept, number_kept};
+ghost use Rattle.derivation.specs.Kept.{line_kept, literal_kept, number_kept, pairs_kept};
 ghost use Rattle.derivation.specs.Reading.{HasPairs, line_of};
 
 use crate::pieces::Pieces;
-use crate::word::{literal, number};
+use crate::word::number;
 use clause_pool::{Pair, Ref};
 use pb_base::{CodeList, CodeName, Id, Memory};
 use std::alloc::Global;
@@ -84,10 +84,7 @@ fn read_step(mut words: Pieces, pairs: &mut Vec<Pair>) -> Result<Option<Line>, M
         ≡ option_map (λ l. line_of l pairs.new.items) line) }
     ensures pairs { IfOk result (λ line. IfSome line (λ l. HasPairs l pairs.new.items)) }
 {
-    let Some(start) = words.next() else {
-        return Ok(None);
-    };
-    let Some(start) = number(start) else {
+    let Some(start) = words.next_number() else {
         return Ok(None);
     };
     let are_pairs = read_pairs(words, pairs)?;
@@ -105,15 +102,12 @@ fn read_step(mut words: Pieces, pairs: &mut Vec<Pair>) -> Result<Option<Line>, M
 // Whether the words are pairs, which take the place of those that are there.
 #[tactic(auto, using(crate::proofs::ReadLaws::no_pairs_read, crate::proofs::ReadLaws::all_pairs_read, crate::proofs::ReadLaws::pair_read))]
 fn read_pairs(mut words: Pieces, pairs: &mut Vec<Pair>) -> Result<bool, Memory>
-    ensures { IfOk result (λ are_pairs. pairs_from number_kept literal_kept words.entry
+    ensures { IfOk result (λ are_pairs. pairs_kept words.entry
         ≡ (if are_pairs then Some pairs.new.items else None)) }
 {
     pairs.clear();
-    while let Some(lit) = words.next() {
-        let Some(other) = words.next() else {
-            return Ok(false);
-        };
-        let Some(pair) = read_pair(lit, other) else {
+    while !words.is_done() {
+        let Some(pair) = read_pair(&mut words) else {
             return Ok(false);
         };
         pairs.push(pair)?;
@@ -121,11 +115,15 @@ fn read_pairs(mut words: Pieces, pairs: &mut Vec<Pair>) -> Result<bool, Memory>
     Ok(true)
 }
 
-fn read_pair(lit: &[u8], other: &[u8]) -> Option<Pair>
-    ensures { result ≡ pair_from number_kept literal_kept lit.now other.now }
+// Reads the first of the pairs that are left.
+fn read_pair(words: &mut Pieces) -> Option<Pair>
+    requires { words.old ≢ [] }
+    ensures pairs { MatchOption result (pairs_kept words.old ≡ None)
+        (λ pair. pairs_kept words.old ≡ option_map (λ pairs. pair ∷ pairs) (pairs_kept words.new)) }
+    ensures fewer { IfSome result (λ pair. length words.new < length words.old) }
 {
-    let lit = literal(lit)?;
-    let with = number(other)? as usize;
+    let lit = words.next_literal()?;
+    let with = words.next_number()? as usize;
     Some(Pair { lit, with })
 }
 
@@ -134,13 +132,11 @@ fn read_close(mut words: Pieces) -> Option<Line>
         ≡ option_map (λ l. line_of l pairs) result }
     ensures pairs { (pairs : List Pair) → IfSome result (λ l. HasPairs l pairs) }
 {
-    let question = words.next()?;
-    let clause = words.next()?;
+    let question = words.next_number()?;
+    let clause = words.next_number()? as usize;
     if !words.is_done() {
         return None;
     }
-    let question = number(question)?;
-    let clause = number(clause)? as usize;
     Some(Line::Close { question, clause })
 }
 

@@ -14,8 +14,8 @@ pub(crate) enum Stage {
     Slices,
     /// The set line of a slice.
     Set(u32),
-    /// A line of a slice, or the line behind it.
-    Within(OpenSlice),
+    /// A line of a slice, or the line behind it. The slice stays where it is while the stage goes from line to line.
+    Within(Box<OpenSlice>),
     /// Nothing.
     End,
 }
