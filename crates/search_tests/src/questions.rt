@@ -13,7 +13,7 @@ use std::alloc::Global;
 use std::test::Fail;
 
 // The variable of a digit, or of a letter from `a` for 10 on.
-pub(crate) fn var_of(byte: u8) -> Option<u32>
+fn var_of(byte: u8) -> Option<u32>
     ensures { IfSome result (λ var. var < 36) }
 {
     match byte {
@@ -55,7 +55,7 @@ fn clauses_of(alloc: Global, text: &[u8]) -> Result<Pool, Memory>
 }
 
 // A solver of 36 variables, of which five are codes.
-pub(crate) fn solver_of(alloc: Global, text: &[u8]) -> Result<Solver, Memory>
+fn solver_of(alloc: Global, text: &[u8]) -> Result<Solver, Memory>
     ensures { IfOk result (λ solver. solver.vars ≡ 36) }
 {
     let pool = clauses_of(alloc, text)?;
