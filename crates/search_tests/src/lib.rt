@@ -2,8 +2,6 @@
 #![tactic(auto)]
 
 #[cfg(test)]
-mod assumed;
-#[cfg(test)]
 mod chain_steps;
 #[cfg(test)]
 mod coded;

@@ -13,7 +13,7 @@ use std::alloc::Global;
 use std::test::Fail;
 
 // The variable of a digit, or of a letter from `a` for 10 on.
-pub(crate) fn var_of(byte: u8) -> Option<u32>
+fn var_of(byte: u8) -> Option<u32>
     ensures { IfSome result (λ var. var < 36) }
 {
     match byte {
@@ -55,7 +55,7 @@ fn clauses_of(alloc: Global, text: &[u8]) -> Result<Pool, Memory>
 }
 
 // A solver of 36 variables, of which five are codes.
-pub(crate) fn solver_of(alloc: Global, text: &[u8]) -> Result<Solver, Memory>
+fn solver_of(alloc: Global, text: &[u8]) -> Result<Solver, Memory>
     ensures { IfOk result (λ solver. solver.vars ≡ 36) }
 {
     let pool = clauses_of(alloc, text)?;
@@ -224,6 +224,7 @@ const PIGEONS: &[u8] =
     b"+c;+0+1+2;+3+4+5;+6+7+8;+9+a+b;-0-3;-0-6;-0-9;-3-6;-3-9;-6-9;-1-4;-1-7;-1-a;-4-7;-4-a;-7-a;-2-5;-2-8;-2-b;-5-8;-5-b;-8-b;";
 
 // Whether it is refuted within so many clauses that the variable `c` is true.
+#[tactic(auto, using(solver::proofs::OneLaws::one_below, solver::proofs::OneLaws::one_consistent))]
 fn is_refuted_within(solver: &mut Solver, budget: u32) -> Result<bool, Memory>
     requires vars { solver.old.vars ≡ 36 }
     requires some { 0 < budget }
