@@ -146,7 +146,7 @@ asks_store name budget operands store e =
     ⊎_elim (λ here. absurd (not_sample budget operands store here.1)) (λ e.
     ⊎_elim (λ here. absurd (not_check Supplements (λ n. refl) budget operands store here.1)) (λ e.
     ⊎_elim (λ here. absurd (not_compare budget operands store here.1)) (λ e.
-    ⊎_elim (λ here. (takes_rejudge _ _ (same_name name (codes "rejudge")) here.0, of_rejudge budget operands store here.1)) (λ e. none_stores store e.1)
+    ⊎_elim (λ here. (takes_rejudge (same_name name (codes "desk")) (same_name name (codes "serve")) (same_name name (codes "rejudge")) here.0, of_rejudge budget operands store here.1)) (λ e. none_stores store e.1)
     (either (same_name name (codes "rejudge")) _ _ (Stores store) e.1))
     (either (same_name name (codes "compare")) _ _ (Stores store) e.1))
     (either (same_name name (codes "supplements")) _ _ (Stores store) e.1))
