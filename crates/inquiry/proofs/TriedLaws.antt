@@ -90,26 +90,28 @@ first_at [] (suc at) x later e = absurd (cc)
 first_at (y ∷ xs) zero x later e = cc
 first_at (y ∷ xs) (suc at) x later e = first_at xs at x later e
 
+later_from : {X : Type 0} (xs : List X) (at : ℕ) (x : X) (later : List X) → drop at xs ≡ x ∷ later → drop (suc at) xs ≡ later
+later_from [] zero x later e = absurd (cc)
+later_from [] (suc at) x later e = absurd (cc)
+later_from (y ∷ xs) zero x later e = cc
+later_from (y ∷ xs) (suc at) x later e = later_from xs at x later e
+
 later_at : {X : Type 0} (xs : List X) (at : ℕ) (x : X) (later : List X) → drop at xs ≡ x ∷ later → drop (at + 1) xs ≡ later
-later_at [] zero x later e = absurd (cc)
-later_at [] (suc at) x later e = absurd (cc)
-later_at (y ∷ xs) zero x later e = cc
-later_at (y ∷ xs) (suc at) x later e = later_at xs at x later e
+later_at xs at x later e = ap (λ (n : ℕ). drop n xs) (let one : at + 1 ≡ suc at = omega arith in one) ∙ later_from xs at x later e
 
 module _ {Q : Type 0} (f : Form Q) (qs : List Q) (tried : Tried Q) (is : IsTried f qs tried) where
   pub may_find : (place : ℕ) (q : Q) → slice_get qs place ≡ Some q → MayFind f q (get_or tried.found.items place None)
   may_find place q there = zip_at (MayFind f) qs tried.found.items place q None is.found there
 
-  pub left_first : drop 0 tried.rest.items ≡ unanswered (drop 0 qs) (drop 0 tried.found.items)
-  left_first = is.rest
+  pub found_within : (place : ℕ) → place < length qs → place < length tried.found.items
+  found_within place within = omega (arith, within, zip_length (MayFind f) qs tried.found.items is.found)
 
   step : (place : ℕ) (q : Q) → slice_get qs place ≡ Some q
       → unanswered (drop place qs) (drop place tried.found.items) ≡ unanswered (q ∷ drop (place + 1) qs) (get_or tried.found.items place None ∷ drop (place + 1) tried.found.items)
   step place q there =
       let within : place < length qs = slice_get_within qs place q there in
-      let found_within : place < length tried.found.items = omega (arith, within, zip_length (MayFind f) qs tried.found.items is.found) in
       ap (λ ps. unanswered ps (drop place tried.found.items)) (drop_more qs place q within ∙ ap (λ p. p ∷ drop (place + 1) qs) (get_or_from_slice_get qs place q q there))
-      ∙ ap (unanswered (q ∷ drop (place + 1) qs)) (drop_more tried.found.items place None found_within)
+      ∙ ap (unanswered (q ∷ drop (place + 1) qs)) (drop_more tried.found.items place None (found_within place within))
 
   pub left_there : (place asked : ℕ) (q : Q) → slice_get qs place ≡ Some q → drop asked tried.rest.items ≡ unanswered (drop place qs) (drop place tried.found.items)
       → get_or tried.found.items place None ≡ None → slice_get tried.rest.items asked ≡ Some q

@@ -116,7 +116,8 @@ fn begin<S: Inquiry>(
 {
     source.lawful();
     let codes = source.codes();
-    let Coded { pool, vars, goals } = source.encode(alloc, questions)?;
+    let coded = source.encode(alloc, questions)?;
+    let Coded { pool, vars, goals } = coded;
     let kernel = Kernel::of(alloc, pool);
     let solver = Solver::new(alloc, kernel, vars, codes)?;
     Ok(Asking { solver, goals })

@@ -109,6 +109,7 @@ const MOST_TOGETHER: u32 = 1_073_741_824;
 
 // Whether a solver whose questions add so many variables takes one that adds its own. It takes any where it has none.
 fn has_room(most: u32, taken: u32, own: u32) -> bool
+    requires taken { taken ≤ 2 ^ 30 }
     requires own { own ≤ 2 ^ 30 }
     ensures none { taken ≡ 0 → result ≡ true }
     ensures few { result ≡ true → taken + own ≤ 2 ^ 30 }

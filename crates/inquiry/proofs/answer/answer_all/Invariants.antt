@@ -10,5 +10,5 @@ invariant-loop-at g l = record {
   kept : All (IsKept (g.S.Inquiry.form l.source) (g.S.Inquiry.MayShow l.source)) l.sets;
 }
 
-abbrev pub measure-loop-at : goal.measure-loop-at
-measure-loop-at g l = length l.questions - l.at
+abbrev pub decreases-loop-at : goal.decreases-loop-at
+decreases-loop-at g l = length l.questions - l.at
