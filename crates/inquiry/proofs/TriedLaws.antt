@@ -1,7 +1,7 @@
 -- Questions on which sets were tried, and those that are left.
 use Rattle.std.proofs.Common.{inl, inr, ◌≡◌, ℕ, zero, suc, ◌+◌, ◌^◌, ◌≤◌, ◌<◌, Bool, true, false, List, [], ◌∷◌, ◌++◌, Option, Some, None, length, get_or, take, drop, refl, sym, ap, subst, ◌∙◌, arith, All, add-one}
 use Rattle.std.specs.List.{AllByRecursion, AllZip, slice_get, sum_by}
-use Rattle.std.proofs.lemmas.List.{take_more, drop_more, drop_all}
+use Rattle.std.proofs.lemmas.List.{take_more, drop_more, length-take-le}
 use Rattle.std.proofs.lemmas.List.Elements.{All-from_recursion, recursion_from_All}
 use Rattle.std.proofs.lemmas.List.Sums.{sum_by_push}
 use Rattle.std.proofs.lemmas.Option.{slice_get_within, get_or_from_slice_get}
@@ -74,6 +74,17 @@ module _ {Q : Type 0} (f : Form Q) (qs : List Q) (place : ℕ) (q : Q) (there : 
         taken = taken ∙ ap (λ (n : ℕ). n + f.size q) is.taken ∙ sym (sum_by_push f.size old.rest.items q) ∙ ap (sum_by f.size) (sym left);
         few = omega (arith, taken, few);
       })
+
+-- so many questions were tried as there are answers
+module _ {Q : Type 0} (f : Form Q) (qs : List Q) (place : ℕ) (tried : Tried Q) (is : IsTried f (take place qs) tried) (within : place ≤ length qs) where
+  pub tried_count : length tried.found.items ≡ place
+  tried_count = zip_length (MayFind f) (take place qs) tried.found.items is.found ∙ length-take-le place qs within
+
+  pub tried_within : length tried.found.items ≤ length qs
+  tried_within = omega (arith, tried_count, within)
+
+  pub tried_pack : IsTried f (take (length tried.found.items) qs) tried
+  tried_pack = subst (λ (n : ℕ). IsTried f (take n qs) tried) (sym tried_count) is
 
 -- where questions that are left add variables, some were tried
 pub some_tried : {Q : Type 0} (f : Form Q) (qs : List Q) (tried : Tried Q) → IsTried f qs tried → (tried.taken ≡ 0 → ⊥) → 0 < length tried.found.items

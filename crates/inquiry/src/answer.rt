@@ -65,7 +65,16 @@ fn answer_tried<S: Inquiry>(
     let mut told = Vec::new(alloc);
     let mut searching = Searching::new();
     for (place, question) in questions.iter().enumerate() {
-        let own = answer_at(alloc, source, place, *question, tried, &mut searching, budget, sets)?;
+        let own = answer_at(
+            alloc,
+            source,
+            place,
+            *question,
+            tried,
+            &mut searching,
+            budget,
+            sets,
+        )?;
         put(&mut told, own)?;
     }
     Ok(told)
@@ -119,7 +128,16 @@ fn answer_at<S: Inquiry>(
         None => {
             let at = searching.asked;
             searching.asked = at + 1;
-            answer(alloc, source, &tried.rest, at, question, searching, budget, sets)
+            answer(
+                alloc,
+                source,
+                &tried.rest,
+                at,
+                question,
+                searching,
+                budget,
+                sets,
+            )
         }
     }
 }

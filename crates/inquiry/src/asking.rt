@@ -104,11 +104,7 @@ pub(crate) fn ask_alone<S: Inquiry>(
 }
 
 // A solver over the clauses of some questions.
-fn begin<S: Inquiry>(
-    alloc: Global,
-    source: &S,
-    questions: &[S::Question],
-) -> Result<Asking, Memory>
+fn begin<S: Inquiry>(alloc: Global, source: &S, questions: &[S::Question]) -> Result<Asking, Memory>
     requires ready { S.IsReady source.now }
     requires posed { All (S.IsPosed source.now) questions.now }
     requires few { sum_by (S.form source.now).size questions.now ≤ 2 ^ 30 }

@@ -55,12 +55,7 @@ pub trait Inquiry {
         ensures goals { IfOk result (λ c. c.goals.items ≡ (form self.now).goals questions.now) };
 
     /// Whether a set shows what a question asks for. Where this says no, the question is asked of a solver.
-    fn shows(
-        &self,
-        alloc: Global,
-        question: Self::Question,
-        set: &CodeSet,
-    ) -> Result<bool, Memory>
+    fn shows(&self, alloc: Global, question: Self::Question, set: &CodeSet) -> Result<bool, Memory>
         requires ready { IsReady self.now }
         requires posed { IsPosed self.now question }
         requires counted { length set.now ≡ (form self.now).codes }

@@ -7,13 +7,7 @@ use pb_base::CodeSet;
 #[derive(Drop)]
 pub enum Told<Q> {
     /// The set shows what the question asks for.
-    Finding {
-        question: Q,
-        set: CodeSet,
-    },
+    Finding { question: Q, set: CodeSet },
     /// The question was left when these clauses had been learnt, as many as the budget allows.
-    Undecided {
-        question: Q,
-        learnt: Pool,
-    },
+    Undecided { question: Q, learnt: Pool },
 }
