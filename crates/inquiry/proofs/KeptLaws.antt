@@ -1,5 +1,5 @@
 -- Sets that are kept.
-use Rattle.std.proofs.Common.{◌≡◌, ℕ, Bool, List, [], ◌∷◌, length, All}
+use Rattle.std.proofs.Common.{◌≡◌, Bool, List, [], ◌∷◌, length, All}
 use Rattle.std.specs.List.{remove}
 use Rattle.std.proofs.lemmas.List.Elements.{All-weaker, All-tail, All-nil}
 use Rattle.inquiry.specs.Form.{Form}

@@ -1,4 +1,4 @@
-use Rattle.std.proofs.Common.{List, length, refl, subst}
+use Rattle.std.proofs.Common.{length, refl, subst}
 use Rattle.std.proofs.lemmas.Option.{slice_get_read}
 use Rattle.std.specs.Option.{option_to_list}
 use Rattle.inquiry.specs.Told.{IsTold}
