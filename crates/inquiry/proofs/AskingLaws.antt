@@ -32,17 +32,6 @@ module _ {Q : Type 0} (f : Form Q) (IsPosed : Q → Type 0) (MayShow : List Bool
   pub codes_few : (codes vars : ℕ) → codes ≡ f.codes → vars ≡ f.variables qs → codes ≤ vars
   codes_few codes vars few count = omega (arith, few, count, law.codes_within qs)
 
-  -- the literal that is assumed
-  pub goal_there : (goals : List ℕ) (place : ℕ) (q : Q) → goals ≡ f.goals qs → slice_get qs place ≡ Some q → place < length goals
-  goal_there goals place q are there = omega (arith, ap length are, law.goals_counted qs, slice_get_within qs place q there)
-
-  pub goal_within : (goals : List ℕ) (place vars goal : ℕ) (q : Q) → goals ≡ f.goals qs → vars ≡ f.variables qs → slice_get qs place ≡ Some q → goal ≡ get_or goals place 0
-      → goal < 2 * vars
-  goal_within goals place vars goal q are count there is =
-      let same : goal ≡ goal_at f qs place = is ∙ ap (λ (gs : List ℕ). get_or gs place 0) are in
-      let below = law.goals_below qs (recursion_from_All IsPosed qs posed) place (slice_get_within qs place q there) in
-      omega (arith, same, count, below)
-
   -- a set that a solver answers by shows what the question asks for
   pub set_shows : (place : ℕ) (q : Q) (asking : Asking) (x : List Bool) → slice_get qs place ≡ Some q → IsAsking f qs asking
       → Begins (given_of asking.solver.kernel) (goal_at f qs place) asking.solver.codes x → ShownBy f q x
@@ -66,27 +55,6 @@ module _ {Q : Type 0} (f : Form Q) (IsPosed : Q → Type 0) (MayShow : List Bool
       (sym found.holds ∙ ap (is_true m.assignment) (closed.refutes found.literal found.is_in) ∙ is_true-complement m.assignment g ∙ ap not m.meets_it))
 
 module _ {Q : Type 0} (f : Form Q) (qs : List Q) where
-  pub asking_made : (kernel : Derivation) (clauses : List (List ℕ)) (vars codes : ℕ) (goals : List ℕ) (asking : Asking)
-      → kernel ≡ kernel_of clauses → clauses ≡ f.clauses qs → vars ≡ f.variables qs → codes ≡ f.codes → goals ≡ f.goals qs
-      → asking.solver ≡ record { kernel = kernel; vars = vars; codes = codes } → asking.goals.items ≡ goals → IsAsking f qs asking
-  asking_made kernel clauses vars codes goals asking made are count few gs solver gs_are = record {
-    clauses =
-        ap (λ (s : Solving). given_of s.kernel) solver ∙ ap given_of made
-        ∙ take_all (length clauses) clauses (let e : length clauses ≤ length clauses = omega arith in e) ∙ are;
-    variables = ap (λ (s : Solving). s.vars) solver ∙ count;
-    codes = ap (λ (s : Solving). s.codes) solver ∙ few;
-    goals = gs_are ∙ gs;
-  }
-
-  -- a solver that derived further clauses is over the same questions
-  pub asking_onwards : (old new : Asking) → IsAsking f qs old → Onwards old.solver new.solver → new.goals.items ≡ old.goals.items → IsAsking f qs new
-  asking_onwards old new is on same = record {
-    clauses = on.extends.same_given ∙ is.clauses;
-    variables = on.same_vars ∙ is.variables;
-    codes = on.same_codes ∙ is.codes;
-    goals = same ∙ is.goals;
-  }
-
   pub left_over : (place budget : ℕ) (asking : Asking) (learnt : List (List ℕ)) → IsAsking f qs asking
       → IsSpent asking.solver.vars (given_of asking.solver.kernel) (goal_at f qs place) budget learnt → IsLeft f qs place budget learnt
   left_over place budget asking learnt is h =

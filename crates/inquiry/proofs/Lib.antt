@@ -1,4 +1,3 @@
 mod AskingLaws
-mod KeptLaws
 mod TriedLaws
 pub mod PartLaws

@@ -86,14 +86,6 @@ module _ {Q : Type 0} (f : Form Q) (qs : List Q) (place : ℕ) (tried : Tried Q)
   pub tried_pack : IsTried f (take (length tried.found.items) qs) tried
   tried_pack = subst (λ (n : ℕ). IsTried f (take n qs) tried) (sym tried_count) is
 
--- where questions that are left add variables, some were tried
-pub some_tried : {Q : Type 0} (f : Form Q) (qs : List Q) (tried : Tried Q) → IsTried f qs tried → (tried.taken ≡ 0 → ⊥) → 0 < length tried.found.items
-some_tried f qs tried is some = has tried.found.items tried.rest.items is.rest is.taken
-  where
-    has : (found : List Found) (rest : List _) → rest ≡ unanswered qs found → tried.taken ≡ sum_by f.size rest → 0 < length found
-    has [] rest are taken = absurd (some (taken ∙ ap (sum_by f.size) are))
-    has (t ∷ found) rest are taken = omega arith
-
 -- what is left of a list begins with the item at the place
 first_at : {X : Type 0} (xs : List X) (at : ℕ) (x : X) (later : List X) → drop at xs ≡ x ∷ later → slice_get xs at ≡ Some x
 first_at [] zero x later e = absurd (cc)

@@ -1,5 +1,5 @@
 -- What is told of the questions of a slice.
-use Rattle.std.proofs.Common.{◌≡◌, ℕ, ◌≤◌, Bool, true, false, cond, leb, List, [], ◌∷◌, length, map, Result, Ok, Err, refl, sym, ap, subst, ◌∙◌, arith}
+use Rattle.std.proofs.Common.{◌≡◌, ℕ, ◌≤◌, Bool, true, false, cond, leb, List, [], ◌∷◌, length, map, Result, Ok, Err, refl, sym, ap, subst, ◌∙◌, arith, All}
 use Rattle.std.specs.List.{AllByRecursion}
 use Rattle.std.proofs.lemmas.Bool.{and_from, le-leb, leb-true, false≢true}
 use Rattle.std.proofs.lemmas.List.{map-append}
@@ -12,15 +12,16 @@ use Rattle.pb_base.proofs.PartLaws.{none_in_parts}
 use Rattle.book_model.specs.Activity.{is_within}
 use Rattle.book_model.specs.Book.{IsBook}
 use Rattle.book_model.specs.Contents.{Contents}
+use Rattle.book_model.specs.Good.{is_constructible}
 use Rattle.book_model.specs.Slices.{IsOrdered, IsSteady, all_slices, slices_of}
 use Rattle.book_model.specs.declared.slicing.LimitFault.{LimitFault}
 use Rattle.book_model.specs.declared.slicing.LimitFault.TheVariants.{Slices}
 use Rattle.book_model.specs.declared.record.Slice.{Slice}
 use Rattle.clausify.proofs.ListLaws.{all_weaker}
-use Rattle.inquiry.specs.Told.{IsTold}
+use Rattle.inquiry.specs.Told.{IsKept, IsTold}
 use Rattle.inquiry.specs.declared.told.Told.{Told}
 use Rattle.inquiry.specs.declared.told.Told.TheVariants as told
-use Rattle.supplement_findings.specs.Answering.{IsPosed, form, inquiry}
+use Rattle.supplement_findings.specs.Answering.{IsPosed, IsCounted, form, inquiry}
 use Rattle.supplement_findings.specs.Ends.{IsCalm}
 use Rattle.supplement_findings.specs.NoteOf.{note_of}
 use Rattle.supplement_findings.specs.Notes.{ShownBy, ShownByNone, OwnNotes, HasOneEndThrough, SliceNotes}
@@ -90,6 +91,9 @@ all_noted b budget s (q ∷ qs) told steady posed parts = (
   noted b budget s q parts.0 steady posed.0 parts.3,
   all_noted b budget s qs parts.1 steady posed.1 parts.4,
 )
+
+pub counted_of_kept : (b : Contents) (day : ℕ) (xs : List (List Bool)) → All (IsKept (form b day) (λ x. is_constructible b day x ≡ true)) xs → All (IsCounted b) xs
+counted_of_kept b day xs h k d inside = (h k d inside).0
 
 -- a refusal that is passed on is that of the definition
 pub refusal_passed : {T A E : Type 0} (result : Result T (Fail E)) (e : Fail E) (answer : Result A E) → IsErr result × IsErrAnd result (λ x. x ≡ e)

@@ -100,7 +100,7 @@ afters_size n c day i (r ∷ rs) h =
     and_off true q e = e
     and_off false q e = refl
 
-touched_few : (c i : ℕ) (rs : List Construct) → length (touched_from i c rs) ≤ length rs
+pub touched_few : (c i : ℕ) (rs : List Construct) → length (touched_from i c rs) ≤ length rs
 touched_few c i [] = omega arith
 touched_few c i (r ∷ rs) =
     let ps : List ℕ = touched_from (suc i) c rs in

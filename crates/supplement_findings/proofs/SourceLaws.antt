@@ -1,6 +1,6 @@
 -- The clauses of questions on supplementing rules say what these ask for.
-use Rattle.std.proofs.Common.{◌≡◌, ℕ, zero, suc, ◌+◌, ◌*◌, ◌≤◌, ◌<◌, Bool, true, List, [], ◌∷◌, Some, length, map, get_or, refl, sym, ap, subst, ◌∙◌, arith}
-use Rattle.std.specs.List.{AllByRecursion, slice_get}
+use Rattle.std.proofs.Common.{◌≡◌, ℕ, zero, suc, ◌+◌, ◌*◌, ◌^◌, ◌≤◌, ◌<◌, Bool, true, List, [], ◌∷◌, Some, length, map, get_or, refl, sym, ap, subst, ◌∙◌, arith}
+use Rattle.std.specs.List.{AllByRecursion, slice_get, sum_by}
 use Rattle.std.proofs.lemmas.Option.{slice_get_within}
 use Rattle.book_model.specs.Book.{IsBook}
 use Rattle.book_model.specs.Contents.{Contents}
@@ -10,9 +10,10 @@ use Rattle.clausify.proofs.ItemLaws.{variables_of-append}
 use Rattle.clausify.proofs.ListLaws.{all_weaker}
 use Rattle.clausify.proofs.RangeLaws.{positive_below}
 use Rattle.clausify.proofs.Truth.{true_positive}
+use Rattle.clausify.specs.Coded.{construct_variables}
 use Rattle.clausify.specs.Items.{construct_items, free_item}
 use Rattle.inquiry.specs.Form.{IsLawful}
-use Rattle.supplement_findings.specs.Answering.{IsPosed, form, goals_of}
+use Rattle.supplement_findings.specs.Answering.{IsPosed, form, goals_of, question_size}
 use Rattle.supplement_findings.specs.Clauses.{all_own, goals_start, questions_clauses, questions_variables}
 use Rattle.supplement_findings.specs.Questions.{QuestionFits}
 use Rattle.supplement_findings.specs.declared.question.SupplementQuestion.{SupplementQuestion}
@@ -35,12 +36,13 @@ posed_fit b day qs posed = all_weaker (IsPosed b day) (QuestionFits b) (λ q is.
 pub source_lawful : (b : Contents) (day : ℕ) → IsBook b → IsLawful (form b day) (IsPosed b day) (λ x. is_constructible b day x ≡ true)
 source_lawful b day book = record {
   below = λ qs posed. clauses_below b day qs book (posed_fit b day qs posed);
-  codes_within = λ qs. omega arith;
+  codes_within = λ qs. let few : length b.codes ≤ questions_variables b day qs = omega arith in few;
   goals_counted = λ qs. length-goals_of (goals_start b day qs) qs;
   goals_below = λ qs posed place within.
-      let is = goal_is (goals_start b day qs) qs place within in
-      let below = positive_below (goals_start b day qs + place) (questions_variables b day qs) (omega (arith, within)) in
-      omega (arith, is, below);
+      let m : ℕ = questions_variables b day qs in
+      let goal : ℕ = goals_start b day qs + place in
+      let less : goal < m = omega (arith, within) in
+      subst (λ (g : ℕ). g < 2 * m) (sym (goal_is (goals_start b day qs) qs place within)) (positive_below goal m less);
   lifts = λ qs posed place q there x len met.
       let m : MeetsGoal (questions_clauses b day qs) (goals_start b day qs + place) = lifts_to_goal b day qs book posed place q there x len met in
       record {
@@ -56,7 +58,9 @@ source_lawful b day book = record {
       ∙ sym (ap (is_true a) (goal_is (goals_start b day qs) qs place (slice_get_within qs place q there))) ∙ assumed);
   may_show = λ q posed x len met. built_from_meets b day q x met;
   added = λ qs posed.
-      omega (arith, all_own_size b day qs book (posed_fit b day qs posed), variables_of-append (construct_items b day) (map free_item (all_own b day qs)));
-  shared_few = omega (arith, constructs_size b day book, book.codes_limit);
-  size_few = λ q posed. omega (arith, size_few b q book);
+      let few : questions_variables b day qs ≤ construct_variables b day + sum_by (question_size b) qs =
+      omega (arith, all_own_size b day qs book (posed_fit b day qs posed), variables_of-append (construct_items b day) (map free_item (all_own b day qs))) in
+      few;
+  shared_few = let few : construct_variables b day ≤ 2 ^ 30 = omega (arith, constructs_size b day book, book.codes_limit) in few;
+  size_few = λ q posed. let few : question_size b q ≤ 2 ^ 30 = omega (arith, size_few b q book) in few;
 }

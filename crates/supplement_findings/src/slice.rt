@@ -24,6 +24,7 @@ pub(crate) struct SliceTask {
 }
 
 /// The notes on a slice, its days first. The sets are those that answered questions of earlier slices, and then of this one, too.
+#[tactic(auto, using(crate::proofs::ReportLaws::counted_of_kept))]
 pub(crate) fn check_slice(
     alloc: Global,
     book: &Book,

@@ -1,5 +1,5 @@
 //! The questions of a day, and how they are asked.
-ghost use Rattle.std.specs.Prelude.{◌≡◌, IfOk, All, ◌^◌, ◌<◌, true};
+ghost use Rattle.std.specs.Prelude.{◌≡◌, ◌+◌, ◌*◌, ◌≤◌, true};
 ghost use Rattle.book_model.specs.Good.{is_constructible};
 ghost use Rattle.supplement_findings.specs.Answering as answering;
 ghost use Rattle.supplement_findings.specs.Answering.{IsSource, question_size};
@@ -79,8 +79,17 @@ fn question_size(book: &Book, touched: &[Sequence<u32>], question: SupplementQue
     book.codes();
     match question {
         SupplementQuestion::Breaks(place) => {
-            513 + 513 * touched_at(book, touched, place).len() as u32
+            let places = touched_at(book, touched, place);
+            breaks_size(places.len())
         }
         SupplementQuestion::Swaps { .. } => 2_049,
     }
+}
+
+// The same of a rule whose code touches so many others.
+fn breaks_size(touched: usize) -> u32
+    requires { touched ≤ 11000 }
+    ensures { result ≡ 513 + 513 * touched }
+{
+    513 + 513 * touched as u32
 }
