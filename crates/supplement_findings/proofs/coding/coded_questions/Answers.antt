@@ -24,6 +24,14 @@ add_goals-requires c =
     ap length (c.deref.ensures.value ∙ c.in_ok-lits.ensures.lits) ∙ length-all_lits c.args.book.now c.args.day c.add_constructs.new.encoder.next c.args.questions.now in
     omega (arith, own_room c.args.book.now c.args.day c.add_constructs.new.encoder.next c.args.questions.now c.requires.room next, count, c.into_parts-pool.ensures.vars, c.in_ok-lits.ensures.made.next)
 
+pub goals_from-requires : goal.goals_from-requires
+goals_from-requires c =
+    let start = begun c.args.book.now c.in_ok-encoder.encoder c.len.result (c.len.ensures.value ∙ ap length c.codes.ensures.value) c.in_ok-encoder.ensures.clauses c.in_ok-encoder.ensures.truth c.in_ok-encoder.ensures.next c.in_ok-encoder.ensures.first in
+    let next = own_begin c.args.book.now c.args.day c.in_ok-encoder.encoder c.add_constructs.new.encoder start c.in_ok-add_constructs.ensures.made in
+    let room : c.into_parts-pool.result.vars + length c.args.questions.now < 4294967296 =
+    omega (arith, own_room c.args.book.now c.args.day c.add_constructs.new.encoder.next c.args.questions.now c.requires.room next, c.into_parts-pool.ensures.vars, c.in_ok-lits.ensures.made.next) in
+    omega (arith, room)
+
 pub overflow_add-vars : goal.overflow_add-vars
 overflow_add-vars c =
     let start = begun c.args.book.now c.in_ok-encoder.encoder c.len.result (c.len.ensures.value ∙ ap length c.codes.ensures.value) c.in_ok-encoder.ensures.clauses c.in_ok-encoder.ensures.truth c.in_ok-encoder.ensures.next c.in_ok-encoder.ensures.first in
