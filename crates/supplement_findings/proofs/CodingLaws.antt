@@ -18,7 +18,7 @@ use Rattle.supplement_findings.specs.declared.question.SupplementQuestion.TheVar
 use Rattle.supplement_findings.proofs.SizeLaws.{own_first}
 
 -- the questions that are left, the next one first
-left_at : (qs : List SupplementQuestion) (i : ℕ) → i < length qs → drop i qs ≡ question_at qs i ∷ drop (i + 1) qs
+pub left_at : (qs : List SupplementQuestion) (i : ℕ) → i < length qs → drop i qs ≡ question_at qs i ∷ drop (i + 1) qs
 left_at qs i within = drop_more qs i (Breaks 0) within
 
 own_left : (b : Contents) (day i : ℕ) (qs : List SupplementQuestion) → i < length qs

@@ -6,6 +6,6 @@ mod FitLaws
 mod GoalLaws
 mod SizeLaws
 mod CodingLaws
-mod AnswerLaws
+mod SourceLaws
 mod ReportLaws
 mod OccursLaws

@@ -1,38 +1,35 @@
 -- What is told of the questions of a slice.
-use Rattle.std.proofs.Common.{◌≡◌, ℕ, ◌<◌, ◌≤◌, ◌+◌, ◌-◌, Bool, true, false, cond, leb, List, [], ◌∷◌, ◌++◌, length, Result, Ok, Err, take, drop, take-add, get_or, refl, sym, ap, subst, ◌∙◌, arith, append_assoc, All}
+use Rattle.std.proofs.Common.{◌≡◌, ℕ, ◌≤◌, Bool, true, false, cond, leb, List, [], ◌∷◌, length, map, Result, Ok, Err, refl, sym, ap, subst, ◌∙◌, arith, All}
 use Rattle.std.specs.List.{AllByRecursion}
 use Rattle.std.proofs.lemmas.Bool.{and_from, le-leb, leb-true, false≢true}
-use Rattle.std.proofs.lemmas.List.Elements.{All-get_or, All-weaker}
-use Rattle.std.proofs.lemmas.List.{take_more}
-use Rattle.std.proofs.lemmas.Option.{get_or_from_slice_get, slice_get_read}
+use Rattle.std.proofs.lemmas.List.{map-append}
 use Rattle.std.specs.Result.{IsErr, IsErrAnd}
 use Rattle.pb_base.specs.Answers.{Answers, IfRefused}
 use Rattle.pb_base.specs.declared.answer.Fail.{Fail}
 use Rattle.pb_base.specs.declared.answer.Fail.TheVariants.{Refused, Memory}
 use Rattle.pb_base.specs.InParts.{InParts}
-use Rattle.pb_base.proofs.PartLaws.{none_in_parts, parts_more}
+use Rattle.pb_base.proofs.PartLaws.{none_in_parts}
 use Rattle.book_model.specs.Activity.{is_within}
 use Rattle.book_model.specs.Book.{IsBook}
 use Rattle.book_model.specs.Contents.{Contents}
+use Rattle.book_model.specs.Good.{is_constructible}
 use Rattle.book_model.specs.Slices.{IsOrdered, IsSteady, all_slices, slices_of}
 use Rattle.book_model.specs.declared.slicing.LimitFault.{LimitFault}
 use Rattle.book_model.specs.declared.slicing.LimitFault.TheVariants.{Slices}
 use Rattle.book_model.specs.declared.record.Slice.{Slice}
-use Rattle.clause_pool.specs.Literal.{literal}
-use Rattle.clause_pool.specs.PoolContents.{PoolContents}
 use Rattle.clausify.proofs.ListLaws.{all_weaker}
-use Rattle.solver.specs.Answer.{IsSpent}
-use Rattle.supplement_findings.specs.Answering.{IsPosed, IsCounted, IsKept, inquiry, question_at}
-use Rattle.supplement_findings.specs.Clauses.{goals_start, questions_clauses, questions_variables}
+use Rattle.inquiry.specs.Told.{IsKept, IsTold}
+use Rattle.inquiry.specs.declared.told.Told.{Told}
+use Rattle.inquiry.specs.declared.told.Told.TheVariants as told
+use Rattle.supplement_findings.specs.Answering.{IsPosed, IsCounted, form, inquiry}
 use Rattle.supplement_findings.specs.Ends.{IsCalm}
+use Rattle.supplement_findings.specs.NoteOf.{note_of}
 use Rattle.supplement_findings.specs.Notes.{ShownBy, ShownByNone, OwnNotes, HasOneEndThrough, SliceNotes}
 use Rattle.supplement_findings.specs.Questions.{all_questions, is_put, questions, meets, QuestionFits}
 use Rattle.supplement_findings.specs.declared.question.SupplementQuestion.{SupplementQuestion}
-use Rattle.supplement_findings.specs.declared.question.SupplementQuestion.TheVariants.{Breaks}
 use Rattle.supplement_findings.specs.declared.report.SupplementNote.{SupplementNote}
-use Rattle.supplement_findings.specs.declared.report.SupplementNote.TheVariants.{Days, Finding, Undecided}
+use Rattle.supplement_findings.specs.declared.report.SupplementNote.TheVariants.{Days}
 use Rattle.supplement_findings.proofs.EndLaws.{one_end_law}
-use Rattle.supplement_findings.proofs.GoalLaws.{built_from_meets}
 use Rattle.supplement_findings.proofs.QuestionLaws.{calm_law, calm_alike, meets_alike, questions_fit, all_pass}
 
 -- a set that shows something on the first day of a slice shows it on each
@@ -76,55 +73,27 @@ questions_posed b day = both (questions b day) (questions_fit b day) (all_pass (
     both [] fits put = tt
     both (q ∷ qs) fits put = (record { fits = fits.0; put = put.0 }, both qs fits.1 put.1)
 
--- one part more behind others
-pub parts-append : {X N : Type 0} (IsPart : X → List N → Type 0) (xs ys : List X) (ns ms : List N) → InParts IsPart xs ns → InParts IsPart ys ms → InParts IsPart (xs ++ ys) (ns ++ ms)
-parts-append {X} {N} IsPart [] ys ns ms h k = subst (λ (ls : List N). InParts IsPart ys (ls ++ ms)) (sym h) k
-parts-append {X} {N} IsPart (x ∷ xs) ys ns ms h k =
-    (h.0, h.1 ++ ms, ap (λ (ls : List N). ls ++ ms) h.2 ∙ append_assoc h.0 h.1 ms, h.3, parts-append IsPart xs ys h.1 ms h.4 k)
+-- what is told of a question on the first day of a slice is told of the slice
+noted : (b : Contents) (budget : ℕ) (s : Slice) (q : SupplementQuestion) (told : List (Told SupplementQuestion)) → IsSteady b s → IsPosed b s.first q
+    → IsTold (form b s.first) budget q told → OwnNotes (inquiry b budget) s q (map note_of told)
+noted b budget s q [] steady posed none = none_through b s q steady posed.fits none
+noted b budget s q (told.Finding question set ∷ []) steady posed h = (h.0, shown_through b s q set steady posed.fits h.1.0 h.1.1)
+noted b budget s q (told.Undecided question learnt ∷ []) steady posed h = h
+noted b budget s q (first ∷ second ∷ more) steady posed h = absurd h
 
--- what is told of a question
-pub posed_at : (b : Contents) (day : ℕ) (qs : List SupplementQuestion) (place : ℕ) → All (IsPosed b day) qs → place < length qs → IsPosed b day (question_at qs place)
-posed_at b day qs place posed within = All-get_or (IsPosed b day) qs place (Breaks 0) within posed
-
-pub same_question : (qs : List SupplementQuestion) (place : ℕ) (question : SupplementQuestion) → place < length qs → question ≡ get_or qs place question → question ≡ question_at qs place
-same_question qs place question within is =
-    sym (get_or_from_slice_get qs place question (Breaks 0) (slice_get_read qs (length qs) place question refl within is))
-
-pub finding_note : (b : Contents) (budget : ℕ) (s : Slice) (q question : SupplementQuestion) (x : List Bool) → IsSteady b s → QuestionFits b q → question ≡ q → length x ≡ length b.codes
-    → meets b s.first q x ≡ true → OwnNotes (inquiry b budget) s q (Finding question x ∷ [])
-finding_note b budget s q question x steady fits same len met = (same, shown_through b s q x steady fits len met)
-
-pub left_note : (b : Contents) (budget : ℕ) (s : Slice) (q question : SupplementQuestion) (learnt : PoolContents) → question ≡ q
-    → IsSpent (questions_variables b s.first (q ∷ [])) (questions_clauses b s.first (q ∷ [])) (literal (goals_start b s.first (q ∷ []) + 0) true ∷ []) budget learnt.clauses
-    → OwnNotes (inquiry b budget) s q (Undecided question learnt ∷ [])
-left_note b budget s q question learnt same spent = (
-  same,
-  subst (λ (v : ℕ). IsSpent (questions_variables b s.first (q ∷ [])) (questions_clauses b s.first (q ∷ [])) (literal v true ∷ []) budget learnt.clauses)
-      (let e : goals_start b s.first (q ∷ []) + 0 ≡ goals_start b s.first (q ∷ []) = omega arith in e) spent,
+pub all_noted : (b : Contents) (budget : ℕ) (s : Slice) (qs : List SupplementQuestion) (told : List (Told SupplementQuestion)) → IsSteady b s → AllByRecursion (IsPosed b s.first) qs
+    → InParts (IsTold (form b s.first) budget) qs told → InParts (OwnNotes (inquiry b budget) s) qs (map note_of told)
+all_noted b budget s [] told steady posed parts = ap (map note_of) parts
+all_noted b budget s (q ∷ qs) told steady posed parts = (
+  map note_of parts.0,
+  map note_of parts.1,
+  ap (map note_of) parts.2 ∙ map-append note_of parts.0 parts.1,
+  noted b budget s q parts.0 steady posed.0 parts.3,
+  all_noted b budget s qs parts.1 steady posed.1 parts.4,
 )
 
--- the notes on one question more
-pub part_noted : {X N : Type 0} (IsPart : X → List N → Type 0) (xs : List X) (place : ℕ) (d : X) (notes more own : List N) → place < length xs
-    → InParts IsPart (take place xs) notes → IsPart (get_or xs place d) own → more ≡ notes ++ own → InParts IsPart (take (place + 1) xs) more
-part_noted {X} {N} IsPart xs place d notes more own within parts part is =
-    subst (λ (ns : List N). InParts IsPart (take (place + 1) xs) ns) (sym is)
-    (subst (λ (ys : List X). InParts IsPart ys (notes ++ own)) (sym (take_more xs place d within)) (parts_more IsPart (take place xs) (get_or xs place d) notes own parts part))
-
--- the notes on some questions more
-pub parts_further : {X N : Type 0} (IsPart : X → List N → Type 0) (xs : List X) (at end : ℕ) (notes own more : List N) → at ≤ end
-    → InParts IsPart (take at xs) notes → InParts IsPart (take (end - at) (drop at xs)) own → more ≡ notes ++ own → InParts IsPart (take end xs) more
-parts_further {X} {N} IsPart xs at end notes own more order parts further is =
-    let whole : at + (end - at) ≡ end = omega arith in
-    subst (λ (ns : List N). InParts IsPart (take end xs) ns) (sym is)
-    (subst (λ (ys : List X). InParts IsPart ys (notes ++ own)) (sym (take-add at (end - at) xs) ∙ ap (λ (n : ℕ). take n xs) whole)
-    (parts-append IsPart (take at xs) (take (end - at) (drop at xs)) notes own parts further))
-
-pub kept_by_meets : (b : Contents) (day : ℕ) (q : SupplementQuestion) (x y : List Bool) → y ≡ x → length x ≡ length b.codes → meets b day q x ≡ true → IsKept b day y
-kept_by_meets b day q x y same len met =
-    subst (λ (z : List Bool). IsKept b day z) (sym same) (record { counted = len; built = built_from_meets b day q x met })
-
-pub counted_of_kept : (b : Contents) (day : ℕ) (xs : List (List Bool)) → All (IsKept b day) xs → All (IsCounted b) xs
-counted_of_kept b day xs h = All-weaker (IsKept b day) (IsCounted b) (λ x kept. kept.counted) xs h
+pub counted_of_kept : (b : Contents) (day : ℕ) (xs : List (List Bool)) → All (IsKept (form b day) (λ x. is_constructible b day x ≡ true)) xs → All (IsCounted b) xs
+counted_of_kept b day xs h k d inside = (h k d inside).0
 
 -- a refusal that is passed on is that of the definition
 pub refusal_passed : {T A E : Type 0} (result : Result T (Fail E)) (e : Fail E) (answer : Result A E) → IsErr result × IsErrAnd result (λ x. x ≡ e)

@@ -1,9 +1,9 @@
 -- The variables of questions are few enough to be numbered, and their clauses speak of no others.
-use Rattle.std.proofs.Common.{inl, inr, ◌≡◌, ℕ, ◌+◌, ◌*◌, ◌≤◌, ◌<◌, Bool, true, false, not, eqb, List, [], ◌∷◌, None, Some, length, map, refl, ap, ◌∙◌, arith, All}
-use Rattle.std.specs.List.{filter, AllByRecursion}
+use Rattle.std.proofs.Common.{inl, inr, ◌≡◌, ℕ, suc, ◌+◌, ◌*◌, ◌≤◌, ◌<◌, Bool, true, false, not, ◌&&◌, eqb, List, [], ◌∷◌, None, Some, length, map, refl, ap, ◌∙◌, arith}
+use Rattle.std.specs.List.{filter, sum_by, AllByRecursion}
 use Rattle.std.proofs.lemmas.Bool.{cases_Bool, cond-true, cond-false}
 use Rattle.std.proofs.lemmas.List.{map-append}
-use Rattle.std.proofs.lemmas.List.Elements.{recursion_from_All}
+use Rattle.std.proofs.lemmas.List.Sums.{sum_by-cons}
 use Rattle.pb_base.specs.Leaves.{with_present}
 use Rattle.pb_base.specs.Rule.{Rule, code, negation, both, either}
 use Rattle.pb_base.proofs.LeafLaws.{nodes-with_leaves}
@@ -27,10 +27,10 @@ use Rattle.clausify.proofs.Bounds.{connectives_below, variables_below, demand_it
 use Rattle.clausify.proofs.ItemLaws.{AllBelow, variables_of-append}
 use Rattle.clausify.proofs.ListLaws.{all-append, all_weaker}
 use Rattle.clausify.proofs.RangeLaws.{positive_below, negative_below, complement_below, literal_below, items_below}
-use Rattle.supplement_findings.specs.Answering.{IsPosed}
+use Rattle.supplement_findings.specs.Answering.{question_size}
 use Rattle.supplement_findings.specs.Clauses.{swaps_own, own, own_variables, question_lits, goal_clauses, all_own, all_lits, all_goal_clauses, asked_items, goals_start, questions_clauses, questions_variables}
 use Rattle.supplement_findings.specs.Questions.{rule_at, QuestionFits}
-use Rattle.supplement_findings.specs.Touching.{no_other, after, is_touched, afters}
+use Rattle.supplement_findings.specs.Touching.{touches, no_other, after, is_touched, afters, touched_from}
 use Rattle.supplement_findings.specs.declared.lits.QuestionLits.{QuestionLits}
 use Rattle.supplement_findings.specs.declared.lits.QuestionLits.TheVariants.{BreaksLits, SwapsLits}
 use Rattle.supplement_findings.specs.declared.question.SupplementQuestion.{SupplementQuestion}
@@ -75,27 +75,51 @@ after_size n c (demand.Rule (Some on) f) h =
 after_size n c (demand.One group) h = omega (arith, other_size c group h.most)
 after_size n c (demand.Most group) h = omega (arith, other_size c group h.most)
 
-afters_size : (n c : ℕ) (w : Construct → Bool) (rs : List Construct) → AllByRecursion (ConstructFits n) rs
-    → variables_of (map free_item (map (λ (r : Construct). after c r.demand) (filter w rs))) ≤ 513 * length rs
-afters_size n c w [] h = omega arith
-afters_size n c w (r ∷ rs) h =
+-- what the touched rules ask takes few variables for each of them, active or not
+afters_size : (n c day i : ℕ) (rs : List Construct) → AllByRecursion (ConstructFits n) rs
+    → variables_of (map free_item (map (λ (r : Construct). after c r.demand) (filter (is_touched day c) rs))) ≤ 513 * length (touched_from i c rs)
+afters_size n c day i [] h = omega arith
+afters_size n c day i (r ∷ rs) h =
+    let w : Construct → Bool = is_touched day c in
     let made : List Construct → ℕ = λ ks. variables_of (map free_item (map (λ (k : Construct). after c k.demand) ks)) in
-    elim (cases_Bool (w r)) [
-      | inl e ↦ omega (arith, ap made (cond-true (w r) (r ∷ filter w rs) (filter w rs) e), after_size n c r.demand h.0.demand, afters_size n c w rs h.1)
-      | inr e ↦ omega (arith, ap made (cond-false (w r) (r ∷ filter w rs) (filter w rs) e), afters_size n c w rs h.1)
+    let ps : List ℕ = touched_from (suc i) c rs in
+    let later = afters_size n c day (suc i) rs h.1 in
+    elim (cases_Bool (touches c r.demand)) [
+      | inl on_ ↦
+          let counted = ap length (cond-true (touches c r.demand) (i ∷ ps) ps on_) in
+          elim (cases_Bool (w r)) [
+            | inl e ↦ omega (arith, ap made (cond-true (w r) (r ∷ filter w rs) (filter w rs) e), after_size n c r.demand h.0.demand, counted, later)
+            | inr e ↦ omega (arith, ap made (cond-false (w r) (r ∷ filter w rs) (filter w rs) e), counted, later)
+          ]
+      | inr off ↦
+          let counted = ap length (cond-false (touches c r.demand) (i ∷ ps) ps off) in
+          omega (arith, ap made (cond-false (w r) (r ∷ filter w rs) (filter w rs) (and_off (is_within r.from r.until day) (touches c r.demand) off)), counted, later)
+    ]
+  where
+    and_off : (p q : Bool) → q ≡ false → (p && q) ≡ false
+    and_off true q e = e
+    and_off false q e = refl
+
+pub touched_few : (c i : ℕ) (rs : List Construct) → length (touched_from i c rs) ≤ length rs
+touched_few c i [] = omega arith
+touched_few c i (r ∷ rs) =
+    let ps : List ℕ = touched_from (suc i) c rs in
+    let later = touched_few c (suc i) rs in
+    elim (cases_Bool (touches c r.demand)) [
+      | inl on_ ↦ omega (arith, ap length (cond-true (touches c r.demand) (i ∷ ps) ps on_), later)
+      | inr off ↦ omega (arith, ap length (cond-false (touches c r.demand) (i ∷ ps) ps off), later)
     ]
 
--- a question's formulas take fewer than 2^23 variables
-pub own_size : (b : Contents) (day : ℕ) (q : SupplementQuestion) → IsBook b → QuestionFits b q → own_variables b day q ≤ 8388608
+pub size_few : (b : Contents) (q : SupplementQuestion) → IsBook b → question_size b q ≤ 8388608
+size_few b (Breaks place) book = omega (arith, touched_few (rule_at b place).code 0 b.constructs, constructs_below b book)
+size_few b (Swaps first second) book = omega arith
+
+-- a question's formulas and its goal take no more variables than its size
+own_size : (b : Contents) (day : ℕ) (q : SupplementQuestion) → IsBook b → QuestionFits b q → own_variables b day q + 1 ≤ question_size b q
 own_size b day (Breaks place) book fits =
     let n : ℕ = length b.codes in
     let s : Supplement = rule_at b place in
-    omega (
-      arith,
-      fitting_rule n s.rule (supplement_fits b place book fits).rule,
-      afters_size n s.code (is_touched day s.code) b.constructs (constructs_fit b book),
-      constructs_below b book,
-    )
+    omega (arith, fitting_rule n s.rule (supplement_fits b place book fits).rule, afters_size n s.code day 0 b.constructs (constructs_fit b book))
 own_size b day (Swaps first second) book fits =
     let n : ℕ = length b.codes in
     let s : Supplement = rule_at b first in
@@ -109,9 +133,11 @@ pub own_first : (b : Contents) (day : ℕ) (q : SupplementQuestion) (qs : List S
 own_first b day q qs =
     ap variables_of (map-append free_item (own b day q) (all_own b day qs)) ∙ variables_of-append (map free_item (own b day q)) (map free_item (all_own b day qs))
 
-all_own_size : (b : Contents) (day : ℕ) (qs : List SupplementQuestion) → IsBook b → AllByRecursion (QuestionFits b) qs → variables_of (map free_item (all_own b day qs)) ≤ 8388608 * length qs
+pub all_own_size : (b : Contents) (day : ℕ) (qs : List SupplementQuestion) → IsBook b → AllByRecursion (QuestionFits b) qs
+    → variables_of (map free_item (all_own b day qs)) + length qs ≤ sum_by (question_size b) qs
 all_own_size b day [] book fits = omega arith
-all_own_size b day (q ∷ qs) book fits = omega (arith, own_first b day q qs, own_size b day q book fits.0, all_own_size b day qs book fits.1)
+all_own_size b day (q ∷ qs) book fits =
+    omega (arith, own_first b day q qs, own_size b day q book fits.0, all_own_size b day qs book fits.1, sum_by-cons (question_size b) q qs)
 
 pub constructs_size : (b : Contents) (day : ℕ) → IsBook b → variables_of (construct_items b day) ≤ 512 * 11000
 constructs_size b day book =
@@ -122,23 +148,13 @@ constructs_size b day book =
       constructs_below b book,
     )
 
--- there is room for the formulas and goals of 256 questions
 pub constructs_room : (b : Contents) (day next : ℕ) → IsBook b → next ≡ length b.codes + 1 → next + variables_of (construct_items b day) < 4294967296
 constructs_room b day next book is = omega (arith, constructs_size b day book, book.codes_limit)
 
-pub own_room : (b : Contents) (day next : ℕ) (qs : List SupplementQuestion) → IsBook b → All (QuestionFits b) qs → length qs ≤ 256 → next ≡ construct_variables b day
+-- there is room for the formulas and goals of questions whose variables can be numbered
+pub own_room : (b : Contents) (day next : ℕ) (qs : List SupplementQuestion) → questions_variables b day qs < 4294967296 → next ≡ construct_variables b day
     → next + variables_of (map free_item (all_own b day qs)) + length qs < 4294967296
-own_room b day next qs book fits few is =
-    omega (arith, all_own_size b day qs book (recursion_from_All (QuestionFits b) qs fits), constructs_size b day book, book.codes_limit)
-
-pub goals_room : (b : Contents) (day : ℕ) (qs : List SupplementQuestion) → IsBook b → All (QuestionFits b) qs → length qs ≤ 256 → goals_start b day qs + length qs < 4294967296
-goals_room b day qs book fits few =
-    omega (arith, own_room b day (construct_variables b day) qs book fits few refl, variables_of-append (construct_items b day) (map free_item (all_own b day qs)))
-
-pub goal_room : (b : Contents) (day place first : ℕ) (qs : List SupplementQuestion) → IsBook b → All (IsPosed b day) qs → length qs ≤ 256 → place < length qs → first ≡ goals_start b day qs
-    → first + place < 4294967296
-goal_room b day place first qs book posed few within is =
-    omega (arith, goals_room b day qs book (λ k d inside. (posed k d inside).fits) few)
+own_room b day next qs room is = omega (arith, room, is, variables_of-append (construct_items b day) (map free_item (all_own b day qs)))
 
 -- The literals of a question are of variables below m, and so are those of its goal's clauses.
 abbrev LitsBelow : ℕ → QuestionLits → Type 0

@@ -5,3 +5,4 @@ pub mod Clauses
 pub mod Limits
 pub mod Notes
 pub mod Answering
+pub mod NoteOf

@@ -19,6 +19,7 @@ use crate::report::{SupplementNote, SupplementReport};
 use crate::slice::{SliceTask, check_slice};
 use crate::touched::all_touched;
 use book_model::{Book, LimitFault, Slice};
+use inquiry::KeptSets;
 use pb_base::{Fail, Memory, Sequence};
 use std::alloc::Global;
 
@@ -63,7 +64,7 @@ fn check_slices(
     ensures { IfOk result (λ notes. InParts (SliceNotes (inquiry book.now budget)) slices.now notes.items) }
 {
     let mut notes = Vec::new(alloc);
-    let mut sets = Vec::new(alloc);
+    let mut sets = KeptSets::new(alloc);
     for slice in slices {
         let task = SliceTask {
             slice: *slice,

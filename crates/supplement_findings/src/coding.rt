@@ -5,6 +5,7 @@ ghost use Rattle.clause_pool.specs.Literal.{literal, complement};
 ghost use Rattle.clausify.specs.Encoding.{EncodesItems};
 ghost use Rattle.clausify.specs.Formulas.{literals_from};
 ghost use Rattle.clausify.specs.Items.{free_item, variables_of};
+ghost use Rattle.supplement_findings.specs.Answering.{goals_of};
 ghost use Rattle.supplement_findings.specs.Clauses.{breaks_own, swaps_own, own, own_variables, all_own, breaks_lits, swaps_lits, question_lits, all_lits};
 ghost use Rattle.supplement_findings.specs.Clauses.{goal_clauses, all_goal_clauses, goals_start, questions_clauses, questions_variables};
 ghost use Rattle.supplement_findings.specs.Questions.{QuestionFits};
@@ -17,20 +18,9 @@ use crate::touched::touched_at;
 use book_model::{Book, Supplement, active};
 use clause_pool::{Lit, Pool};
 use clausify::{Encoded, Encoder, add_constructs};
+use inquiry::Coded;
 use pb_base::{Day, Formula, Memory, Present, Sequence};
 use std::alloc::Global;
-
-/// The most questions that share their clauses.
-pub(crate) const MOST_TOGETHER: usize = 256;
-
-/// The clauses of some questions, the number of their variables, and the variable of the first question's goal. Those of the
-/// others follow in order.
-#[derive(Drop)]
-pub(crate) struct CodedQuestions {
-    pub pool: Pool,
-    pub vars: u32,
-    pub first_goal: u32,
-}
 
 /// The clauses of some questions on a day.
 pub(crate) fn coded_questions(
@@ -39,13 +29,13 @@ pub(crate) fn coded_questions(
     day: Day,
     questions: &[SupplementQuestion],
     touched: &[Sequence<u32>],
-) -> Result<CodedQuestions, Memory>
+) -> Result<Coded, Memory>
     requires fit { All (QuestionFits book.now) questions.now }
     requires touched { touched.now ≡ all_touched book.now }
-    requires few { length questions.now ≤ MOST_TOGETHER }
+    requires room { questions_variables book.now day questions.now < 2 ^ 32 }
     ensures clauses { IfOk result (λ c. c.pool.clauses ≡ questions_clauses book.now day questions.now) }
     ensures vars { IfOk result (λ c. c.vars ≡ questions_variables book.now day questions.now) }
-    ensures goals { IfOk result (λ c. c.first_goal ≡ goals_start book.now day questions.now) }
+    ensures goals { IfOk result (λ c. c.goals.items ≡ goals_of (goals_start book.now day questions.now) questions.now) }
 {
     let mut encoder = Encoder::new(alloc, book.codes().len())?;
     let mut starts = Vec::new(alloc);
@@ -57,11 +47,25 @@ pub(crate) fn coded_questions(
         gates: _,
     } = encoder.into_parts();
     add_goals(alloc, &mut pool, first_goal, &lits)?;
-    Ok(CodedQuestions {
-        pool,
-        vars: first_goal + questions.len() as u32,
-        first_goal,
-    })
+    let goals = goals_from(alloc, first_goal, questions)?;
+    let vars = first_goal + questions.len() as u32;
+    Ok(Coded { pool, vars, goals })
+}
+
+// The goals of questions, of which the first has this variable.
+fn goals_from(
+    alloc: Global,
+    first_goal: u32,
+    questions: &[SupplementQuestion],
+) -> Result<Vec<Lit>, Memory>
+    requires { first_goal + length questions.now < 2 ^ 32 }
+    ensures { IfOk result (λ goals. goals.items ≡ goals_of first_goal questions.now) }
+{
+    let mut goals = Vec::new(alloc);
+    for (place, _) in questions.iter().enumerate() {
+        goals.push(Lit::new(first_goal + place as u32, true))?;
+    }
+    Ok(goals)
 }
 
 // The formulas of some questions.

@@ -3,7 +3,6 @@
 #![tactic(auto)]
 
 mod after;
-mod answer;
 mod check;
 mod coding;
 mod laws;
@@ -14,6 +13,7 @@ mod questions;
 mod report;
 mod sets;
 mod slice;
+mod source;
 mod touched;
 
 pub use check::check_supplements;

@@ -1,9 +1,9 @@
-//! Sets that were found for one question and may answer others.
-ghost use Rattle.std.specs.Prelude.{◌≡◌, ◌<◌, All, IfOk, IfSome, OnOk, length, true};
+//! What sets show.
+ghost use Rattle.std.specs.Prelude.{◌≡◌, ◌<◌, All, IfOk, length, true};
 ghost use Rattle.std.specs.List.{list_any};
 ghost use Rattle.book_model.specs.Book.{SupplementFits, ConstructFits};
 ghost use Rattle.book_model.specs.Good.{breaks, is_constructible};
-ghost use Rattle.supplement_findings.specs.Answering.{IsCounted, IsKept};
+ghost use Rattle.supplement_findings.specs.Answering.{IsCounted};
 ghost use Rattle.supplement_findings.specs.Ends.{breaks_with, swaps_with, with_code};
 ghost use Rattle.supplement_findings.specs.Questions.{meets, QuestionFits};
 ghost use Rattle.supplement_findings.specs.Touching.{all_touched, touched_from, construct_at};
@@ -14,55 +14,8 @@ use book_model::{Book, Construct, Supplement, breaks, fires};
 use pb_base::{CodeSet, Day, Memory, Sequence};
 use std::alloc::Global;
 
-/// Lets go of the sets that are not constructible on a day.
-#[tactic(auto, using(crate::proofs::ReportLaws::counted_of_kept))]
-pub(crate) fn keep_built(
-    alloc: Global,
-    book: &Book,
-    day: Day,
-    sets: &mut Vec<CodeSet>,
-) -> Result<(), Memory>
-    requires counted { All (IsCounted book.now) sets.old.items }
-    ensures counted { All (IsCounted book.now) sets.new.items }
-    ensures kept { OnOk result (All (IsKept book.now day) sets.new.items) }
-{
-    let kept = built(alloc, book, day, sets)?;
-    *sets = kept;
-    Ok(())
-}
-
-// Those of the sets that are constructible on a day.
-fn built(alloc: Global, book: &Book, day: Day, sets: &[CodeSet]) -> Result<Vec<CodeSet>, Memory>
-    requires { All (IsCounted book.now) sets.now }
-    ensures { IfOk result (λ kept. All (IsKept book.now day) kept.items) }
-{
-    let mut kept = Vec::new(alloc);
-    for set in sets {
-        if is_built(book, day, set) {
-            keep_copy(alloc, book, day, set, &mut kept)?;
-        }
-    }
-    Ok(kept)
-}
-
-/// Puts a copy of a set behind the others.
-pub(crate) fn keep_copy(
-    alloc: Global,
-    book: &Book,
-    day: Day,
-    set: &CodeSet,
-    sets: &mut Vec<CodeSet>,
-) -> Result<(), Memory>
-    requires set { IsKept book.now day set.now }
-    requires kept { All (IsKept book.now day) sets.old.items }
-    ensures { All (IsKept book.now day) sets.new.items }
-{
-    let copy = set.copy(alloc)?;
-    sets.push(copy)?;
-    Ok(())
-}
-
-fn is_built(book: &Book, day: Day, set: &CodeSet) -> bool
+/// Whether a set is constructible on a day.
+pub(crate) fn is_built(book: &Book, day: Day, set: &CodeSet) -> bool
     requires { IsCounted book.now set.now }
     ensures { result ≡ is_constructible book.now day set.now }
 {
@@ -76,31 +29,8 @@ fn any_broken(constructs: &[Construct], day: Day, set: &CodeSet) -> bool
     constructs.iter().any(|c| breaks(c, day, set))
 }
 
-/// A further set, equal to the first of these that shows what the question asks for.
-pub(crate) fn set_for(
-    alloc: Global,
-    book: &Book,
-    day: Day,
-    sets: &[CodeSet],
-    question: SupplementQuestion,
-    touched: &[Sequence<u32>],
-) -> Result<Option<CodeSet>, Memory>
-    requires fits { QuestionFits book.now question }
-    requires touched { touched.now ≡ all_touched book.now }
-    requires kept { All (IsKept book.now day) sets.now }
-    ensures kept { IfOk result (λ found. IfSome found (λ x. length x ≡ length book.now.codes)) }
-    ensures shown { IfOk result (λ found. IfSome found (λ x. meets book.now day question x ≡ true)) }
-{
-    for set in sets {
-        if meets(alloc, book, day, set, question, touched)? {
-            return Ok(Some(set.copy(alloc)?));
-        }
-    }
-    Ok(None)
-}
-
-// Whether a constructible set shows what the question asks for.
-fn meets(
+/// Whether a constructible set shows what the question asks for.
+pub(crate) fn meets(
     alloc: Global,
     book: &Book,
     day: Day,
@@ -110,7 +40,8 @@ fn meets(
 ) -> Result<bool, Memory>
     requires fits { QuestionFits book.now question }
     requires touched { touched.now ≡ all_touched book.now }
-    requires kept { IsKept book.now day set.now }
+    requires counted { IsCounted book.now set.now }
+    requires built { is_constructible book.now day set.now ≡ true }
     ensures { IfOk result (λ met. met ≡ meets book.now day question set.now) }
 {
     let rules = book.supplements();
@@ -141,7 +72,8 @@ fn is_broken(
     rule: &Supplement,
     touched: &[u32],
 ) -> Result<bool, Memory>
-    requires kept { IsKept book.now day set.now }
+    requires counted { IsCounted book.now set.now }
+    requires built { is_constructible book.now day set.now ≡ true }
     requires fits { SupplementFits (length set.now) rule.now }
     requires touched { touched.now ≡ touched_from 0 rule.now.code book.now.constructs }
     ensures { IfOk result (λ met. met ≡ breaks_with book.now day rule.now set.now) }
@@ -161,7 +93,8 @@ fn is_swapped(
     first: &Supplement,
     second: &Supplement,
 ) -> Result<bool, Memory>
-    requires kept { IsKept book.now day set.now }
+    requires counted { IsCounted book.now set.now }
+    requires built { is_constructible book.now day set.now ≡ true }
     requires first { SupplementFits (length set.now) first.now }
     requires second { SupplementFits (length set.now) second.now }
     ensures { IfOk result (λ met. met ≡ swaps_with book.now day first.now second.now set.now) }

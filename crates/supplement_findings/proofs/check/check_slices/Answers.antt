@@ -2,7 +2,7 @@ use Rattle.std.proofs.Common.{◌<◌, length, arith}
 use Rattle.book_model.specs.declared.record.Slice.{Slice}
 use Rattle.supplement_findings.specs.Answering.{inquiry}
 use Rattle.supplement_findings.specs.Notes.{SliceNotes}
-use Rattle.supplement_findings.proofs.ReportLaws.{part_noted}
+use Rattle.inquiry.proofs.PartLaws.{part_noted}
 use Rattle.supplement_findings.proofs.check.check_slices.Goals as goal
 
 pub loop-slice-preserved : goal.loop-slice-preserved

@@ -8,5 +8,5 @@ use Rattle.supplement_findings.proofs.check.check_slices.Given as goal
 abbrev pub invariant-loop-slice : goal.invariant-loop-slice
 invariant-loop-slice l = record {
   parts : InParts (SliceNotes (inquiry l.book l.budget)) (take l.slice-index l.slices) l.notes.items;
-  counted : All (IsCounted l.book) l.sets.items;
+  counted : All (IsCounted l.book) l.sets;
 }

@@ -1,6 +1,7 @@
 use Rattle.std.proofs.Common.{◌≡◌, length, ◌∙◌, ap, ◌+◌, ◌<◌, arith}
 use Rattle.clausify.proofs.CodedLaws.{begun}
 use Rattle.supplement_findings.proofs.CodingLaws.{own_begin, goals_begin, clauses_made, length-all_lits}
+use Rattle.supplement_findings.specs.Answering.{goals_of}
 use Rattle.supplement_findings.proofs.SizeLaws.{constructs_room, own_room}
 use Rattle.supplement_findings.proofs.coding.coded_questions.Goals as goal
 
@@ -13,7 +14,7 @@ pub add_all_own-requires-clause-room : goal.add_all_own-requires-clause-room
 add_all_own-requires-clause-room c =
     let start = begun c.args.book.now c.in_ok-encoder.encoder c.len.result (c.len.ensures.value ∙ ap length c.codes.ensures.value) c.in_ok-encoder.ensures.clauses c.in_ok-encoder.ensures.truth c.in_ok-encoder.ensures.next c.in_ok-encoder.ensures.first in
     let next = own_begin c.args.book.now c.args.day c.in_ok-encoder.encoder c.add_constructs.new.encoder start c.in_ok-add_constructs.ensures.made in
-    omega (arith, own_room c.args.book.now c.args.day c.add_constructs.new.encoder.next c.args.questions.now c.codes.ensures.book c.requires.fit c.requires.few next)
+    omega (arith, own_room c.args.book.now c.args.day c.add_constructs.new.encoder.next c.args.questions.now c.requires.room next)
 
 pub add_goals-requires : goal.add_goals-requires
 add_goals-requires c =
@@ -21,14 +22,22 @@ add_goals-requires c =
     let next = own_begin c.args.book.now c.args.day c.in_ok-encoder.encoder c.add_constructs.new.encoder start c.in_ok-add_constructs.ensures.made in
     let count : length c.deref.result.now ≡ length c.args.questions.now =
     ap length (c.deref.ensures.value ∙ c.in_ok-lits.ensures.lits) ∙ length-all_lits c.args.book.now c.args.day c.add_constructs.new.encoder.next c.args.questions.now in
-    omega (arith, own_room c.args.book.now c.args.day c.add_constructs.new.encoder.next c.args.questions.now c.codes.ensures.book c.requires.fit c.requires.few next, count, c.into_parts-pool.ensures.vars, c.in_ok-lits.ensures.made.next)
+    omega (arith, own_room c.args.book.now c.args.day c.add_constructs.new.encoder.next c.args.questions.now c.requires.room next, count, c.into_parts-pool.ensures.vars, c.in_ok-lits.ensures.made.next)
 
-pub overflow_add-result : goal.overflow_add-result
-overflow_add-result c =
+pub goals_from-requires : goal.goals_from-requires
+goals_from-requires c =
     let start = begun c.args.book.now c.in_ok-encoder.encoder c.len.result (c.len.ensures.value ∙ ap length c.codes.ensures.value) c.in_ok-encoder.ensures.clauses c.in_ok-encoder.ensures.truth c.in_ok-encoder.ensures.next c.in_ok-encoder.ensures.first in
     let next = own_begin c.args.book.now c.args.day c.in_ok-encoder.encoder c.add_constructs.new.encoder start c.in_ok-add_constructs.ensures.made in
     let room : c.into_parts-pool.result.vars + length c.args.questions.now < 4294967296 =
-    omega (arith, own_room c.args.book.now c.args.day c.add_constructs.new.encoder.next c.args.questions.now c.codes.ensures.book c.requires.fit c.requires.few next, c.into_parts-pool.ensures.vars, c.in_ok-lits.ensures.made.next) in
+    omega (arith, own_room c.args.book.now c.args.day c.add_constructs.new.encoder.next c.args.questions.now c.requires.room next, c.into_parts-pool.ensures.vars, c.in_ok-lits.ensures.made.next) in
+    omega (arith, room)
+
+pub overflow_add-vars : goal.overflow_add-vars
+overflow_add-vars c =
+    let start = begun c.args.book.now c.in_ok-encoder.encoder c.len.result (c.len.ensures.value ∙ ap length c.codes.ensures.value) c.in_ok-encoder.ensures.clauses c.in_ok-encoder.ensures.truth c.in_ok-encoder.ensures.next c.in_ok-encoder.ensures.first in
+    let next = own_begin c.args.book.now c.args.day c.in_ok-encoder.encoder c.add_constructs.new.encoder start c.in_ok-add_constructs.ensures.made in
+    let room : c.into_parts-pool.result.vars + length c.args.questions.now < 4294967296 =
+    omega (arith, own_room c.args.book.now c.args.day c.add_constructs.new.encoder.next c.args.questions.now c.requires.room next, c.into_parts-pool.ensures.vars, c.in_ok-lits.ensures.made.next) in
     omega (arith, room)
 
 pub returns-clause-clauses : goal.returns-clause-clauses
@@ -44,13 +53,21 @@ returns-clause-clauses c =
 
 pub returns-clause-goals : goal.returns-clause-goals
 returns-clause-goals c =
-    c.into_parts-pool.ensures.vars
+    c.in_ok-goals.ensures
+    ∙ ap (λ n. goals_of n c.args.questions.now) (c.into_parts-pool.ensures.vars
     ∙ goals_begin c.args.book.now c.args.day c.args.questions.now c.in_ok-encoder.encoder c.add_constructs.new.encoder c.add_all_own.new.encoder
     (record {
       begun = begun c.args.book.now c.in_ok-encoder.encoder c.len.result (c.len.ensures.value ∙ ap length c.codes.ensures.value) c.in_ok-encoder.ensures.clauses c.in_ok-encoder.ensures.truth c.in_ok-encoder.ensures.next c.in_ok-encoder.ensures.first;
       rules = c.in_ok-add_constructs.ensures.made;
       own_made = c.in_ok-lits.ensures.made;
-    })
+    }))
 
 pub returns-clause-vars : goal.returns-clause-vars
-returns-clause-vars c = ap (λ n. n + length c.args.questions.now) (returns-clause-goals c)
+returns-clause-vars c =
+    ap (λ n. n + length c.args.questions.now) (c.into_parts-pool.ensures.vars
+    ∙ goals_begin c.args.book.now c.args.day c.args.questions.now c.in_ok-encoder.encoder c.add_constructs.new.encoder c.add_all_own.new.encoder
+    (record {
+      begun = begun c.args.book.now c.in_ok-encoder.encoder c.len.result (c.len.ensures.value ∙ ap length c.codes.ensures.value) c.in_ok-encoder.ensures.clauses c.in_ok-encoder.ensures.truth c.in_ok-encoder.ensures.next c.in_ok-encoder.ensures.first;
+      rules = c.in_ok-add_constructs.ensures.made;
+      own_made = c.in_ok-lits.ensures.made;
+    }))

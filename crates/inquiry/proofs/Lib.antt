@@ -1,0 +1,3 @@
+mod AskingLaws
+mod TriedLaws
+pub mod PartLaws
