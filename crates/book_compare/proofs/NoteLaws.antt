@@ -34,7 +34,8 @@ use Rattle.book_compare.specs.JointItems.{joint_items, first_variable, joint_cla
 use Rattle.book_compare.specs.Keys.{KeyLiterals, position_clauses}
 use Rattle.book_compare.specs.Numbering.{missing_from, added_from}
 use Rattle.book_compare.specs.Picked.{picked}
-use Rattle.book_compare.specs.Searched.{IsOfTerm, AreBooks, IsOver, IsOutcome, IsFound}
+use Rattle.book_compare.specs.Comparing.{IsOfTerm, AreBooks}
+use Rattle.book_compare.specs.Searched.{IsOver, IsOutcome, IsFound}
 use Rattle.book_compare.specs.Together.{place_keys, searched_clauses, searched_variables, goal_at}
 use Rattle.book_compare.specs.declared.answer.Outcome.{Outcome}
 use Rattle.book_compare.specs.declared.answer.Outcome.TheVariants.{Differs, Alike, Left}

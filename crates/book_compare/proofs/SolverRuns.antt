@@ -6,7 +6,8 @@ use Rattle.clause_pool.specs.Clause.{AreBelow}
 use Rattle.clause_pool.specs.Derivation.{Derivation, kernel_of}
 use Rattle.chains.specs.Growth.{given_of}
 use Rattle.solver.specs.Solver.{Solving}
-use Rattle.book_compare.specs.Searched.{AreBooks, IsOver}
+use Rattle.book_compare.specs.Comparing.{AreBooks}
+use Rattle.book_compare.specs.Searched.{IsOver}
 use Rattle.book_compare.specs.Together.{searched_clauses, searched_variables}
 use Rattle.book_compare.specs.declared.place.Place.{Place}
 use Rattle.book_compare.proofs.BoundLaws.{searched_below}

@@ -7,6 +7,7 @@ pub mod Together
 pub mod Asking
 pub mod Picked
 pub mod Comparison
+pub mod Comparing
 pub mod Searched
 pub mod CompareText
 pub mod Same

@@ -1,5 +1,4 @@
 -- What is known while positions are searched.
---     AreBooks first second day            two books that can be released, on a day of both terms
 --     IsPut first second day id ps         the position of an id is the same in each car that both allow, or it is put among those that
 --                                          have to be searched
 --     ArePut first second day ps           so are those of all positions of either book, the first book's first
@@ -7,11 +6,9 @@
 --     IsOver first second day ps s         a solver over them
 --     IsOutcome first second day budget ps at id o
 --                                          what came of a search on a position, at this place in the list
-use Rattle.std.specs.Prelude.{◌≡◌, ℕ, ◌≤◌, List, [], ◌∷◌, ◌++◌, length}
+use Rattle.std.specs.Prelude.{◌≡◌, ℕ, List, [], ◌∷◌, ◌++◌, length}
 use Rattle.pb_base.specs.InParts.{InParts}
-use Rattle.book_model.specs.Book.{IsBook}
 use Rattle.book_model.specs.Contents.{Contents}
-use Rattle.book_model.specs.Sound.{IsReleasable}
 use Rattle.chains.specs.Growth.{given_of}
 use Rattle.chosen_parts.specs.Chosen.{ids_of_either}
 use Rattle.solver.specs.Answer.{IsSpent}
@@ -23,16 +20,6 @@ use Rattle.book_compare.specs.declared.answer.Outcome.TheVariants.{Differs, Alik
 use Rattle.book_compare.specs.declared.answer.Searching.{Searching}
 use Rattle.book_compare.specs.declared.place.Place.{Place}
 use Rattle.book_compare.specs.declared.position.Asked.{Asked}
-
-pub record IsOfTerm (b : Contents) (day : ℕ) : Type 0 where
-  pub book : IsBook b
-  pub releasable : IsReleasable b
-  pub first : b.first ≤ day
-  pub last : day ≤ b.last
-
-pub record AreBooks (first second : Contents) (day : ℕ) : Type 0 where
-  pub one : IsOfTerm first day
-  pub other : IsOfTerm second day
 
 abbrev pub IsPut : Contents → Contents → ℕ → List ℕ → List Place → Type 0
 IsPut first second day id [] = AreAlike first second day id

@@ -8,7 +8,8 @@ ghost use Rattle.solver.specs.Solver.{IsRight};
 ghost use Rattle.book_compare.specs.Comparison.{IsNoted, AreNoted};
 ghost use Rattle.book_compare.specs.JointItems.{IsJoint};
 ghost use Rattle.book_compare.specs.Picked.{picked_one, picked};
-ghost use Rattle.book_compare.specs.Searched.{AreBooks, IsOver, IsSearching, IsOutcome, IsFound};
+ghost use Rattle.book_compare.specs.Comparing.{AreBooks};
+ghost use Rattle.book_compare.specs.Searched.{IsOver, IsSearching, IsOutcome, IsFound};
 ghost use Rattle.book_compare.specs.Together.{searched_clauses, searched_variables, goal_at};
 
 use crate::joint::Joint;

@@ -2,6 +2,7 @@
 #![tactic(auto)]
 
 mod answer;
+mod comparing;
 mod joint;
 mod keys;
 mod note;
