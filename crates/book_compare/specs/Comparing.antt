@@ -1,7 +1,9 @@
 -- Two books that are compared on a day.
 --     AreBooks first second day    two books that can be released, on a day of both terms
---     IsComparing c                such books with their clauses
+--     IsComparing c                such books with their clauses, the first without two codes of one name
 use Rattle.std.specs.Prelude.{ℕ, ◌≤◌}
+use Rattle.std.specs.List.{IsDistinct}
+use Rattle.pb_base.specs.Names.{same_name}
 use Rattle.book_model.specs.Book.{IsBook}
 use Rattle.book_model.specs.Contents.{Contents}
 use Rattle.book_model.specs.Sound.{IsReleasable}
@@ -21,3 +23,4 @@ pub record AreBooks (first second : Contents) (day : ℕ) : Type 0 where
 pub record IsComparing (c : Comparing) : Type 0 where
   pub books : AreBooks c.first.now c.second.now c.day
   pub joint : IsJoint c.first.now c.second.now c.day c.joint
+  pub distinct : IsDistinct same_name c.first.now.codes

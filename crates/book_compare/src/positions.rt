@@ -9,10 +9,10 @@ ghost use Rattle.book_compare.specs.Comparison.{IsComparison, outside};
 ghost use Rattle.book_compare.specs.Comparing.{AreBooks, IsComparing};
 ghost use Rattle.book_compare.specs.Searched.{IsPut, ArePut, AddsPlaces};
 
-use crate::answer::notes_on;
 use crate::comparing::Comparing;
 use crate::joint::Joint;
 use crate::note::{CompareNote, Outside};
+use crate::notes::notes_on;
 use crate::place::Place;
 use crate::same::same_at;
 use book_model::{Book, active};
@@ -78,6 +78,7 @@ fn compare_on(
     requires most { budget ≤ MOST_BUDGET }
     ensures { IfOk result (λ notes. IsComparison first.now second.now day budget notes.items) }
 {
+    first.codes().names_law();
     let joint = Joint::of(alloc, first, second, day)?;
     let comparing = Comparing {
         joint,
@@ -100,15 +101,7 @@ fn compare_all(
         IfOk result (λ notes. IsComparison c.first.now c.second.now c.day budget notes.items) }
 {
     let places = places_to_search(alloc, comparing)?;
-    let notes = notes_on(
-        alloc,
-        &comparing.joint,
-        comparing.first,
-        comparing.second,
-        comparing.day,
-        budget,
-        &places,
-    )?;
+    let notes = notes_on(alloc, comparing, budget, &places)?;
     Ok(notes)
 }
 

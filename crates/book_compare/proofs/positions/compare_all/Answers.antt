@@ -4,12 +4,6 @@ use Rattle.book_compare.specs.declared.place.Place.{Place}
 use Rattle.book_compare.proofs.PlaceLaws.{compared}
 use Rattle.book_compare.proofs.positions.compare_all.Goals as goal
 
-pub notes_on-requires-clause-books : goal.notes_on-requires-clause-books
-notes_on-requires-clause-books c = c.requires.ready.books
-
-pub notes_on-requires-clause-joint : goal.notes_on-requires-clause-joint
-notes_on-requires-clause-joint c = c.requires.ready.joint
-
 pub returns : goal.returns
 returns c =
     let first = c.args.comparing.now.first.now in

@@ -1,0 +1,4 @@
+mod AskingLaws
+mod KeptLaws
+mod TriedLaws
+pub mod PartLaws
