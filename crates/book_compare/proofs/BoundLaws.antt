@@ -1,10 +1,11 @@
 -- The variables of two books are numbers of 32 bits, and the clauses of a position speak of no others.
 use Rattle.std.proofs.Common.{◌≡◌, ℕ, zero, suc, ◌+◌, ◌*◌, ◌<◌, ◌≤◌, Bool, true, false, List, [], ◌∷◌, ◌++◌, Option, Some, None, length, get_or, map, refl, sym, ap, subst, inl, inr, arith, length-append}
-use Rattle.std.specs.List.{filter, flat_map, slice_get, AllByRecursion}
+use Rattle.std.specs.List.{filter, flat_map, list_any, slice_get, sum_by, AllByRecursion}
 use Rattle.std.specs.Option.{option_map_or, is_none}
 use Rattle.std.proofs.lemmas.Bool.{cases_Bool, cond-true, cond-false}
 use Rattle.std.proofs.lemmas.List.{length-map}
 use Rattle.std.proofs.lemmas.List.Elements.{recursion_from_All}
+use Rattle.std.proofs.lemmas.List.Sums.{sum_by-cons}
 use Rattle.std.proofs.lemmas.Option.{slice_get_within}
 use Rattle.pb_base.specs.Rule.{never, nodes, codes_below}
 use Rattle.pb_base.specs.Names.{place_in}
@@ -37,12 +38,15 @@ use Rattle.clausify.proofs.RangeLaws.{positive_below, negative_below, complement
 use Rattle.book_compare.specs.Numbering.{numbers_of, further, alone}
 use Rattle.chosen_parts.specs.Chosen.{position_place, part_use, is_same_use}
 use Rattle.chosen_parts.specs.declared.part_use.PartUse.{PartUse}
-use Rattle.book_compare.specs.Asked.{is_variant_of, usages_in, usages_at, uses, keys_of, literals_with, key_literals, asked_keys}
+use Rattle.book_compare.specs.Asked.{is_variant_of, usages_in, usages_at, uses, new_keys, keys_of, literals_with, key_literals, asked_keys}
 use Rattle.book_compare.specs.Keys.{KeyLiterals, any_clauses, any_literal, either_all, either_literal, joins, key_variables, first_literal, second_literal, lost_variable, won_variable, key_clauses, keys_clauses, keys_variables, ways, goal_clause, position_clauses}
 use Rattle.book_compare.specs.Together.{position_variables, together_clauses, together_variables, together_goals, place_keys, searched_clauses, searched_variables, goal_at}
 use Rattle.book_compare.specs.declared.place.Place.{Place}
+use Rattle.book_compare.specs.declared.place.TheConstants.{MOST_OF_POSITION}
+use Rattle.book_compare.specs.Same.{active_of, variants_on, variants_at}
 use Rattle.book_compare.proofs.JointLaws.{joint_fit}
 use Rattle.book_compare.proofs.NumberLaws.{numbers_below}
+use Rattle.book_compare.proofs.UsageLaws.{variants_by_id, first_variants, renamed_variants}
 use Rattle.book_compare.specs.JointItems.{absent_item, absent_items, renamed_item, day_variants, renamed_usage, renamed_usage_items, renamed_usages, second_items, joint_items, first_variable, joint_clauses, joint_variables, first_usages_at, second_usages_at, first_usages, second_usages}
 
 -- few variables: each item takes at most 512
@@ -202,7 +206,7 @@ pub further_below : (first second : List (List ℕ)) → further first second �
 further_below first second = length-filter_below (λ c. is_none (place_in first c)) second
 
 -- all variables of two books
-pub joint_variables_fit : (first second : Contents) (day : ℕ) → IsBook first → IsBook second → joint_variables first second day < 2147483648
+pub joint_variables_fit : (first second : Contents) (day : ℕ) → IsBook first → IsBook second → joint_variables first second day ≤ 1073741824
 joint_variables_fit first second day one other =
     omega (
       arith,
@@ -398,7 +402,88 @@ module _ (first second : Contents) (day : ℕ) (one : IsBook first) (other : IsB
       (together_below (length first.codes) (joint_variables first second day) top (place_keys first second day ps) (omega arith) (places_below top ps (omega arith)) (omega arith))
 
 -- the goals' variables are among them
-pub goal_below : (first second : Contents) (day : ℕ) (ps : List Place) (at : ℕ) (p : Place) → slice_get ps at ≡ Some p → goal_at first second day ps at < 2 * searched_variables first second day ps
-goal_below first second day ps at p there =
+pub goal_below : (first second : Contents) (day : ℕ) (ps : List Place) (at : ℕ) → at < length ps → goal_at first second day ps at < 2 * searched_variables first second day ps
+goal_below first second day ps at within =
     goals_below (joint_variables first second day) (searched_variables first second day ps) (place_keys first second day ps) at
-    (omega (arith, slice_get_within ps at p there, length-map ps (λ (q : Place). asked_keys first second day q.id))) (omega arith)
+    (omega (arith, length-map ps (λ (q : Place). asked_keys first second day q.id))) (omega arith)
+
+-- few variables of a position: in each book it has at most 200 variants
+
+few_active : (b : Contents) (day : ℕ) → IsBook b → (place : ℕ) (p : Position) → length (active_of b day place p) ≤ 200
+few_active b day book place p = by (is_active_position day p) refl
+  where
+    by : (t : Bool) → is_active_position day p ≡ t → length (active_of b day place p) ≤ 200
+    by true is = omega (arith, ap length (cond-true (is_active_position day p) (active_variants b day place) [] is), active_below b day book place)
+    by false is = omega (arith, ap length (cond-false (is_active_position day p) (active_variants b day place) [] is))
+
+few_on : (b : Contents) (day : ℕ) → IsBook b → (place : ℕ) → length (variants_on b day place) ≤ 200
+few_on b day book place = by (slice_get b.positions place) refl
+  where
+    by : (o : Option Position) → slice_get b.positions place ≡ o → length (variants_on b day place) ≤ 200
+    by None is = let none : length (variants_on b day place) ≡ 0 = ap (λ o. length (option_map_or (active_of b day place) o [])) is in omega (arith, none)
+    by (Some p) is =
+        let one : length (variants_on b day place) ≡ length (active_of b day place p) = ap (λ o. length (option_map_or (active_of b day place) o [])) is in
+        omega (arith, one, few_active b day book place p)
+
+few_at : (b : Contents) (day : ℕ) → IsBook b → (id : List ℕ) → length (variants_at b day id) ≤ 200
+few_at b day book id = by (position_place b id) refl
+  where
+    by : (o : Option ℕ) → position_place b id ≡ o → length (variants_at b day id) ≤ 200
+    by None is = let none : length (variants_at b day id) ≡ 0 = ap (λ o. length (option_map_or (variants_on b day) o [])) is in omega (arith, none)
+    by (Some place) is =
+        let one : length (variants_at b day id) ≡ length (variants_on b day place) = ap (λ o. length (option_map_or (variants_on b day) o [])) is in
+        omega (arith, one, few_on b day book place)
+
+few_usages : (b : Contents) (day : ℕ) → IsBook b → (id : List ℕ) (us : List Usage) → map (λ (u : Usage). u.variant) us ≡ day_variants b day → length (usages_at b id us) ≤ 200
+few_usages b day book id us variants =
+    omega (arith, ap length (variants_by_id b day id us variants), length-map (usages_at b id us) (λ (u : Usage). u.variant), few_at b day book id)
+
+few_new : (seen ks : List PartUse) → length (new_keys seen ks) ≤ length ks
+few_new seen [] = omega arith
+few_new seen (k ∷ ks) = by (list_any (λ p. is_same_use k p) seen) refl (few_new seen ks) (few_new (seen ++ k ∷ []) ks)
+  where
+    by : (t : Bool) → list_any (λ p. is_same_use k p) seen ≡ t → length (new_keys seen ks) ≤ length ks → length (new_keys (seen ++ k ∷ []) ks) ≤ length ks → length (new_keys seen (k ∷ ks)) ≤ length (k ∷ ks)
+    by true is without_it with_it = omega (arith, ap length (cond-true (list_any (λ p. is_same_use k p) seen) (new_keys seen ks) (k ∷ new_keys (seen ++ k ∷ []) ks) is))
+    by false is without_it with_it = omega (arith, ap length (cond-false (list_any (λ p. is_same_use k p) seen) (new_keys seen ks) (k ∷ new_keys (seen ++ k ∷ []) ks) is))
+
+few_joins : (ls : List ℕ) → joins ls ≤ length ls
+few_joins [] = omega arith
+few_joins (l ∷ ls) = omega arith
+
+few_with : (b : Contents) (us : List Usage) (key : PartUse) → joins (literals_with b us key) ≤ length us
+few_with b us key =
+    omega (
+      arith,
+      few_joins (literals_with b us key),
+      length-map (filter (λ u. is_same_use (part_use b u.variant) key) us) (λ (u : Usage). u.literal),
+      length-filter_below (λ (u : Usage). is_same_use (part_use b u.variant) key) us,
+    )
+
+few_keys : (first : Contents) (us : List Usage) (second : Contents) (ws : List Usage) → length us ≤ 200 → length ws ≤ 200 → (ks : List PartUse)
+    → keys_variables (map (key_literals first us second ws) ks) ≤ 402 * length ks
+few_keys first us second ws one other [] = omega arith
+few_keys first us second ws one other (k ∷ ks) = omega (arith, few_with first us k, few_with second ws k, few_keys first us second ws one other ks)
+
+few_keys_of : (first : Contents) (us : List Usage) (second : Contents) (ws : List Usage) → length (keys_of (uses first us) (uses second ws)) ≤ length us + length ws
+few_keys_of first us second ws =
+    omega (
+      arith,
+      length-append (new_keys [] (uses first us)) (new_keys (new_keys [] (uses first us)) (uses second ws)),
+      few_new [] (uses first us),
+      few_new (new_keys [] (uses first us)) (uses second ws),
+      length-map us (λ (u : Usage). part_use first u.variant),
+      length-map ws (λ (u : Usage). part_use second u.variant),
+    )
+
+module _ (first second : Contents) (day : ℕ) (one : IsBook first) (other : IsBook second) where
+  position_few : (id : List ℕ) → position_variables (asked_keys first second day id) ≤ MOST_OF_POSITION
+  position_few id =
+      let us : List Usage = usages_at first id (first_usages first second day) in
+      let ws : List Usage = usages_at second id (second_usages first second day) in
+      let own : length us ≤ 200 = few_usages first day one id (first_usages first second day) (first_variants first day (length first.codes) _) in
+      let theirs : length ws ≤ 200 = few_usages second day other id (second_usages first second day) (renamed_variants _ second (length first.codes) _ _) in
+      omega (arith, few_keys first us second ws own theirs (keys_of (uses first us) (uses second ws)), few_keys_of first us second ws, own, theirs)
+
+  pub together_few : (ps : List Place) → together_variables (place_keys first second day ps) ≤ sum_by (λ (p : Place). MOST_OF_POSITION) ps
+  together_few [] = omega arith
+  together_few (p ∷ ps) = omega (arith, position_few p.id, together_few ps, sum_by-cons (λ (q : Place). MOST_OF_POSITION) p ps)

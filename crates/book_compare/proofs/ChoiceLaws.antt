@@ -3,6 +3,7 @@ use Rattle.std.proofs.Common.{◌≡◌, ℕ, ◌≤◌, Bool, true, false, not,
 use Rattle.std.specs.List.{list_any, filter}
 use Rattle.std.proofs.lemmas.Bool.{cases_Bool, cond-true, cond-false, or_parts, or_from, false≢true, true≢false}
 use Rattle.std.proofs.lemmas.List.Folds.{list_any-append}
+use Rattle.std.proofs.Math.Bool.{or-false}
 use Rattle.book_model.specs.Contents.{Contents}
 use Rattle.clause_pool.specs.Literal.{is_true}
 use Rattle.clausify.specs.declared.usage.Usage.{Usage}
@@ -12,14 +13,11 @@ use Rattle.chosen_parts.proofs.UseLaws.{same_from_test, test_from_same}
 use Rattle.book_compare.specs.Asked.{uses, new_keys, keys_of, literals_with, key_literals}
 use Rattle.book_compare.specs.Keys.{KeyLiterals}
 use Rattle.book_compare.proofs.KeyLaws.{chooses_first, chooses_second, differs}
+use Rattle.book_compare.proofs.PickLaws.{either_true}
 use Rattle.book_compare.proofs.UsageLaws.{has_use}
 
 same_self : (p : PartUse) → is_same_use p p ≡ true
 same_self p = test_from_same p p refl
-
-either_true : (t u : Bool) → u ≡ true → (t || u) ≡ true
-either_true true u h = refl
-either_true false u h = h
 
 -- what is the same ps one that is among some is among them
 seen_then : (k key : PartUse) (seen : List PartUse) → is_same_use k key ≡ true → list_any (λ p. is_same_use k p) seen ≡ true → has_use key seen ≡ true
@@ -35,11 +33,7 @@ seen_then k key (p ∷ seen) same there = elim (cases_Bool (is_same_use k p)) [
 
 -- all uses are among the keys
 pub all_new : (key : PartUse) (seen xs : List PartUse) → (has_use key seen || has_use key xs) ≡ true → has_use key (seen ++ new_keys seen xs) ≡ true
-all_new key seen [] some = ap (has_use key) (append-nil seen) ∙ without (has_use key seen) some
-  where
-    without : (t : Bool) → (t || false) ≡ true → t ≡ true
-    without true h = refl
-    without false h = h
+all_new key seen [] some = ap (has_use key) (append-nil seen) ∙ sym (or-false (has_use key seen)) ∙ some
 all_new key seen (k ∷ ks) some = by (list_any (λ p. is_same_use k p) seen) refl (all_new key seen ks) (all_new key (seen ++ k ∷ []) ks)
   where
     by : (t : Bool) → list_any (λ p. is_same_use k p) seen ≡ t → ((has_use key seen || has_use key ks) ≡ true → has_use key (seen ++ new_keys seen ks) ≡ true)
@@ -120,11 +114,7 @@ same_lists (p ∷ []) [] few fewer from_first from_second =
 same_lists (p ∷ []) (q ∷ []) few fewer from_first from_second =
     let there : has_use p (p ∷ []) ≡ true = ap (λ t. t || false) (same_self p) in
     let other : (is_same_use q p || false) ≡ true = sym (from_first p there) ∙ there in
-    ap (λ (u : PartUse). u ∷ []) (sym (same_from_test q p (without (is_same_use q p) other)))
-  where
-    without : (t : Bool) → (t || false) ≡ true → t ≡ true
-    without true h = refl
-    without false h = h
+    ap (λ (u : PartUse). u ∷ []) (sym (same_from_test q p (sym (or-false (is_same_use q p)) ∙ other)))
 same_lists (p ∷ r ∷ ps) qs few fewer from_first from_second = absurd (omega arith)
 same_lists [] (q ∷ r ∷ qs) few fewer from_first from_second = absurd (omega arith)
 same_lists (p ∷ []) (q ∷ r ∷ qs) few fewer from_first from_second = absurd (omega arith)

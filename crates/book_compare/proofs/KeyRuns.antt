@@ -4,16 +4,15 @@ use Rattle.book_model.specs.Contents.{Contents}
 use Rattle.clause_pool.specs.Clause.{clause_of}
 use Rattle.clause_pool.specs.Literal.{literal}
 use Rattle.clausify.specs.declared.usage.Usage.{Usage}
+use Rattle.inquiry.specs.declared.source.Coded.{Coded}
 use Rattle.chosen_parts.specs.declared.part_use.PartUse.{PartUse}
 use Rattle.book_compare.specs.Asked.{usages_at, literals_with, key_literals, keys_literals, asked_keys}
 use Rattle.book_compare.specs.Asking.{TakesKey, TakesKeys, TakesPosition, TakesPositions, key_of}
 use Rattle.book_compare.specs.JointItems.{joint_clauses, joint_variables, first_usages, IsJoint}
 use Rattle.book_compare.specs.Keys.{KeyLiterals, key_clauses, key_variables, keys_clauses, keys_variables, position_clauses, position_goal, ways, goal_clause}
-use Rattle.book_compare.specs.Searched.{IsAskedOf}
-use Rattle.book_compare.specs.Together.{position_variables, together_clauses, together_variables, together_goals, place_keys}
+use Rattle.book_compare.specs.Together.{position_variables, together_clauses, together_variables, together_goals, place_keys, searched_clauses, searched_variables, searched_goals}
 use Rattle.book_compare.specs.declared.joint.Joint.{Joint}
 use Rattle.book_compare.specs.declared.place.Place.{Place}
-use Rattle.book_compare.specs.declared.position.Asked.{Asked}
 use Rattle.book_compare.specs.declared.position.Asking.{Asking}
 use Rattle.book_compare.proofs.StepRuns.{read_at}
 
@@ -104,11 +103,16 @@ places_loop first second day start now more goals pushed l ps i p within read le
     (subst (λ (qs : List Place). PlacesLeft first second day start now goals ps qs) (read_at ps i p within read) left) made lit push
 
 -- all of them, behind the clauses of the books
-pub asked_made : (first second : Contents) (day : ℕ) (joint : Joint) (begun made : Asking) (ps : List Place) (goals : List ℕ) (asked : Asked) → IsJoint first second day joint
+pub record IsCodedOf (first second : Contents) (day : ℕ) (ps : List Place) (coded : Coded) : Type 0 where
+  pub clauses : coded.pool.clauses ≡ searched_clauses first second day ps
+  pub variables : coded.vars ≡ searched_variables first second day ps
+  pub goals : coded.goals.items ≡ searched_goals first second day ps
+
+pub coded_made : (first second : Contents) (day : ℕ) (joint : Joint) (begun made : Asking) (ps : List Place) (goals : List ℕ) (coded : Coded) → IsJoint first second day joint
     → begun.pool.clauses ≡ joint.pool.clauses → begun.next ≡ joint.vars → TakesPositions (length first.codes) begun made (place_keys first second day ps)
-    → goals ≡ together_goals begun.next (place_keys first second day ps) → asked.pool.clauses ≡ made.pool.clauses → asked.vars ≡ made.next → asked.goals.items ≡ goals
-    → IsAskedOf first second day ps asked
-asked_made first second day joint begun made ps goals asked is pool next takes goals_are clauses vars all =
+    → goals ≡ together_goals begun.next (place_keys first second day ps) → coded.pool.clauses ≡ made.pool.clauses → coded.vars ≡ made.next → coded.goals.items ≡ goals
+    → IsCodedOf first second day ps coded
+coded_made first second day joint begun made ps goals coded is pool next takes goals_are clauses vars all =
     let n : ℕ = length first.codes in
     let kss : List (List KeyLiterals) = place_keys first second day ps in
     let begins : begun.next ≡ joint_variables first second day = next ∙ is.variables in

@@ -14,8 +14,9 @@ pub mod PlaceLaws
 pub mod PickLaws
 pub mod CopyLaws
 pub mod PickRuns
+pub mod ShownLaws
 pub mod NoteLaws
 pub mod SameLaws
 pub mod StepRuns
 pub mod TermLaws
-pub mod SolverRuns
+pub mod SourceLaws

@@ -1,14 +1,11 @@
 -- Lists that are mapped, joined or taken one by one.
-use Rattle.std.proofs.Common.{◌≡◌, ◌+◌, List, [], ◌∷◌, ◌++◌, map, refl, sym, ap, subst, ◌∙◌}
+use Rattle.std.proofs.Common.{◌≡◌, ◌+◌, List, ◌++◌, map, sym, ap, subst, ◌∙◌}
+use Rattle.std.proofs.lemmas.List.{map-append}
 use Rattle.clausify.specs.Items.{Item, variables_of}
 use Rattle.clausify.specs.Encoding.{EncodesItems}
 use Rattle.clausify.specs.declared.encoder.Encoder.{Encoder}
 use Rattle.clausify.proofs.CodedLaws.{items_then}
 use Rattle.clausify.proofs.ItemLaws.{variables_of-append}
-
-pub map-append : {X Y : Type 0} (f : X → Y) (xs ys : List X) → map f (xs ++ ys) ≡ map f xs ++ map f ys
-map-append f [] ys = refl
-map-append {X} {Y} f (x ∷ xs) ys = ap (λ (zs : List Y). f x ∷ zs) (map-append f xs ys)
 
 -- items made of two lists, one after the other
 pub mapped_then : {X : Type 0} (f : X → Item) (xs ys : List X) (m0 m1 m2 : Encoder) → EncodesItems m0 m1 (map f xs) → EncodesItems m1 m2 (map f ys) → EncodesItems m0 m2 (map f (xs ++ ys))

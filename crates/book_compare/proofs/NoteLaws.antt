@@ -15,16 +15,13 @@ use Rattle.clause_pool.specs.Clause.{Sat, Follows}
 use Rattle.clause_pool.specs.Derivation.{AllFollow}
 use Rattle.clause_pool.proofs.ClauseLaws.{TrueLiteral, true_literal, all_found}
 use Rattle.clause_pool.proofs.LiteralLaws.{is_true-complement}
-use Rattle.chains.specs.Growth.{ClosedBy, given_of}
 use Rattle.clausify.specs.declared.usage.Usage.{Usage}
 use Rattle.clausify.proofs.FormulaLaws.{Names, names_last}
 use Rattle.clausify.proofs.GoalLaws.{AllRight}
 use Rattle.clausify.proofs.ItemLaws.{items_named, length-items_named}
 use Rattle.clausify.proofs.LiftLaws.{lifted, IsLiftedOver, truth_from_sat}
 use Rattle.clausify.proofs.ListLaws.{all-append, all_first, all_last, all-map, all_filtered}
-use Rattle.solver.specs.Answer.{Begins, IsSpent}
-use Rattle.solver.proofs.OneLaws.{in_one}
-use Rattle.solver.specs.Solver.{Solving, Onwards}
+use Rattle.solver.specs.Answer.{IsSpent}
 use Rattle.chosen_parts.specs.Chosen.{position_place, part_use, is_same_use, chosen_at, chosen, AreFew}
 use Rattle.chosen_parts.specs.declared.part_use.PartUse.{PartUse}
 use Rattle.chosen_parts.proofs.FewLaws.{few_chosen, few_from_sound}
@@ -35,10 +32,8 @@ use Rattle.book_compare.specs.JointItems.{joint_items, first_variable, joint_cla
 use Rattle.book_compare.specs.Keys.{KeyLiterals, position_clauses}
 use Rattle.book_compare.specs.Numbering.{missing_from, added_from}
 use Rattle.book_compare.specs.Picked.{picked}
-use Rattle.book_compare.specs.Searched.{IsOfTerm, AreBooks, IsOver, IsOutcome, IsFound}
+use Rattle.book_compare.specs.Comparing.{IsOfTerm, AreBooks}
 use Rattle.book_compare.specs.Together.{place_keys, searched_clauses, searched_variables, goal_at}
-use Rattle.book_compare.specs.declared.answer.Outcome.{Outcome}
-use Rattle.book_compare.specs.declared.answer.Outcome.TheVariants.{Differs, Alike, Left}
 use Rattle.book_compare.specs.declared.place.Place.{Place}
 use Rattle.book_compare.proofs.ChoiceLaws.{same_when_none, none_when_same}
 use Rattle.book_compare.proofs.JointLaws.{lift_common, alone_false, first_good, first_right, second_good, second_right}
@@ -115,15 +110,16 @@ absent_in : (n : ℕ) (a : ℕ → Bool) (set : List Bool) → ((i : ℕ) → i 
 absent_in n a set same [] below gone = tt
 absent_in n a set same (v ∷ vs) below gone = (sym (same v below.0) ∙ gone.0, absent_in n a set same vs below.1 gone.1)
 
-pub differs_with : (first second : Contents) (day : ℕ) (ps : List Place) (at : ℕ) (p : Place) (set : List Bool) → AreBooks first second day → IsDistinct same_name first.codes → slice_get ps at ≡ Some p
-    → Begins (searched_clauses first second day ps) (goal_at first second day ps at ∷ []) (length first.codes) set → DiffersWith first second day p.id (picked first.codes set)
-differs_with first second day ps at p set books apart there found = record {
+pub differs_with : (first second : Contents) (day : ℕ) (ps : List Place) (at : ℕ) (p : Place) (set : List Bool) (a : ℕ → Bool) → AreBooks first second day → IsDistinct same_name first.codes
+    → slice_get ps at ≡ Some p → ((i : ℕ) → i < length first.codes → a i ≡ has set i) → Sat (searched_clauses first second day ps) a → is_true a (goal_at first second day ps at) ≡ true
+    → DiffersWith first second day p.id (picked first.codes set)
+differs_with first second day ps at p set a books apart there starts satisfied assumed = record {
   common = record {
     distinct = picked_distinct 0 set first.codes apart;
     in_first = are;
     in_second =
         picked_in_other second.codes 0 set first.codes
-        (absent_in (length first.codes) a set found.begins (missing_from 0 second.codes first.codes) (missing_below (length first.codes) 0 second.codes first.codes (omega arith))
+        (absent_in (length first.codes) a set starts (missing_from 0 second.codes first.codes) (missing_below (length first.codes) 0 second.codes first.codes (omega arith))
         (all_first _ (missing_from 0 second.codes first.codes) (added_from (length first.codes + 1) first.codes second.codes)
         (alone_false first second day books.one.book books.other.book names a are begins joint)));
     good_in_first = first_good first second day books.one.book books.other.book names a are begins joint;
@@ -132,9 +128,6 @@ differs_with first second day ps at p set books apart there found = record {
   differ = λ same. true≢false (sym some ∙ none_there first second day p.id books a names are begins joint same);
 }
   where
-    a : ℕ → Bool
-    a = found.assignment
-
     names : List (List ℕ)
     names = picked first.codes set
 
@@ -142,10 +135,10 @@ differs_with first second day ps at p set books apart there found = record {
     are = picked_named 0 set first.codes
 
     begins : (i : ℕ) → i < length first.codes → a i ≡ has (named first.codes names) i
-    begins i within = found.begins i within ∙ named-picked first.codes set apart i within
+    begins i within = starts i within ∙ named-picked first.codes set apart i within
 
     joint : Sat (joint_clauses first second day) a
-    joint = all_first _ (joint_clauses first second day) _ found.satisfied
+    joint = all_first _ (joint_clauses first second day) _ satisfied
 
     truth : a (length first.codes) ≡ true
     truth = truth_from_sat (length first.codes) a joint.0
@@ -153,7 +146,7 @@ differs_with first second day ps at p set books apart there found = record {
     some : list_any (differs a) (asked_keys first second day p.id) ≡ true
     some =
         differs_together a (length first.codes) (joint_variables first second day) (place_keys first second day ps) at (asked_keys first second day p.id) truth
-        (all_last _ (joint_clauses first second day) _ found.satisfied) (keys_there first second day ps at p there) (found.assumed (goal_at first second day ps at) (in_one (goal_at first second day ps at)))
+        (all_last _ (joint_clauses first second day) _ satisfied) (keys_there first second day ps at p there) assumed
 
 -- assignments that agree on the literals of the usages
 
@@ -301,47 +294,17 @@ module _ (first second : Contents) (day : ℕ) (books : AreBooks first second da
           goal_by_values c (length first.codes) (joint_variables first second day) (place_keys first second day ps) at (asked_keys first second day p.id) (lift own).begins.truth values (keys_there first second day ps at p there)
           ∙ same_any_differs c a (asked_keys first second day p.id) (same_keys p.id) ∙ some
 
-      refuted : list_any (differs a) (asked_keys first second day p.id) ≡ true → (clause : List ℕ) → Follows (searched_clauses first second day ps) clause
-          → ((l : ℕ) → list_any (λ k. k == l) clause ≡ true → l ≡ complement (goal_at first second day ps at)) → ⊥
-      refuted some clause follows refutes =
-          let found : TrueLiteral c clause = true_literal c clause (follows c sat) in
-          true≢false (sym found.holds ∙ ap (is_true c) (refutes found.literal found.is_in) ∙ is_true-complement c (goal_at first second day ps at) ∙ ap not (assumed some))
-
-      alike_by : (clause : List ℕ) → Follows (searched_clauses first second day ps) clause → ((l : ℕ) → list_any (λ k. k == l) clause ≡ true → l ≡ complement (goal_at first second day ps at))
-          → chosen first day p.id (named first.codes names) ≡ chosen second day p.id (named second.codes names)
-      alike_by clause follows refutes = elim (cases_Bool (list_any (differs (lifted (length first.codes) m z (named_rules ++ []))) (asked_keys first second day p.id))) [
-        | inl some ↦ absurd (refuted some clause follows refutes)
-        | inr none ↦ alike_if p.id none
-      ]
-
-pub alike_when_closed : (first second : Contents) (day : ℕ) (ps : List Place) (at : ℕ) (p : Place) (s : Solving) (place : ℕ) → AreBooks first second day → slice_get ps at ≡ Some p
-    → IsOver first second day ps s → AllFollow s.kernel → ClosedBy s.kernel (goal_at first second day ps at) place → AreAlike first second day p.id
-alike_when_closed first second day ps at p s place books there over follow closed = λ names common.
-    alike_by first second day books names common ps at p there closed.clause
-    (subst (λ (cs : List (List ℕ)). Follows cs closed.clause) over.given (all_found (Follows (given_of s.kernel)) s.kernel.clauses place closed.clause follow closed.there))
-    closed.refutes
-
--- the solver's answers, over the clauses of positions
-
-pub begins_over : (first second : Contents) (day : ℕ) (ps : List Place) (s : Solving) (goal : ℕ) (set : List Bool) → IsOver first second day ps s → Begins (given_of s.kernel) (goal ∷ []) s.codes set
-    → Begins (searched_clauses first second day ps) (goal ∷ []) (length first.codes) set
-begins_over first second day ps s goal set over found =
-    subst (λ (n : ℕ). Begins (searched_clauses first second day ps) (goal ∷ []) n set) over.codes
-    (subst (λ (cs : List (List ℕ)). Begins cs (goal ∷ []) s.codes set) over.given found)
-
-pub spent_over : (first second : Contents) (day : ℕ) (ps : List Place) (s : Solving) (goal budget : ℕ) (learnt : List (List ℕ)) → IsOver first second day ps s → IsSpent s.vars (given_of s.kernel) (goal ∷ []) budget learnt
-    → IsSpent (searched_variables first second day ps) (searched_clauses first second day ps) (goal ∷ []) budget learnt
-spent_over first second day ps s goal budget learnt over spent =
-    subst (λ (n : ℕ). IsSpent n (searched_clauses first second day ps) (goal ∷ []) budget learnt) over.variables
-    (subst (λ (cs : List (List ℕ)). IsSpent s.vars cs (goal ∷ []) budget learnt) over.given spent)
-
--- a solver that derived further clauses is still over the same
-pub over_onwards : (first second : Contents) (day : ℕ) (ps : List Place) (old new : Solving) → IsOver first second day ps old → Onwards old new → IsOver first second day ps new
-over_onwards first second day ps old new over on = record {
-  given = on.extends.same_given ∙ over.given;
-  variables = on.same_vars ∙ over.variables;
-  codes = on.same_codes ∙ over.codes;
-}
+      -- where they choose otherwise, an assignment that satisfies the clauses has the position's goal
+      pub lifts_other : (chosen first day p.id (named first.codes names) ≡ chosen second day p.id (named second.codes names) → ⊥)
+          → (b : ℕ → Bool) × Sat (searched_clauses first second day ps) b × (is_true b (goal_at first second day ps at) ≡ true)
+      lifts_other apart = (
+        c,
+        sat,
+        assumed (elim (cases_Bool (list_any (differs a) (asked_keys first second day p.id))) [
+          | inl some ↦ some
+          | inr none ↦ absurd (apart (alike_if p.id none))
+        ]),
+      )
 
 -- over the clauses of one position alone
 pub left_alone : (first second : Contents) (day budget : ℕ) (p : Place) (learnt : List (List ℕ))
@@ -352,9 +315,3 @@ left_alone first second day budget p learnt spent =
     ap (λ (cs : List (List ℕ)). joint_clauses first second day ++ cs) (append-nil (position_clauses (length first.codes) (joint_variables first second day) (asked_keys first second day p.id))) in
     subst (λ (n : ℕ). IsSpent n (asked_clauses first second day p.id) (asked_goal first second day p.id ∷ []) budget learnt) variables
     (subst (λ (cs : List (List ℕ)). IsSpent (searched_variables first second day (p ∷ [])) cs (asked_goal first second day p.id ∷ []) budget learnt) clauses spent)
-
--- what came of a search is told of the position, whatever was given up
-pub found_from : (first second : Contents) (day budget : ℕ) (ps : List Place) (at : ℕ) (id : List ℕ) (o : Outcome) → IsOutcome first second day budget ps at id o → IsFound first second day id o
-found_from first second day budget ps at id (Differs names) h = h
-found_from first second day budget ps at id Alike h = h
-found_from first second day budget ps at id (Left learnt) h = tt

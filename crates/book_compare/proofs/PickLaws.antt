@@ -9,13 +9,15 @@ use Rattle.std.proofs.lemmas.Option.{slice_get-get_or}
 use Rattle.pb_base.specs.Names.{same_name, place_in}
 use Rattle.pb_base.specs.Sets.{has}
 use Rattle.pb_base.specs.NamedSet.{named}
+use Rattle.pb_base.proofs.Faultless.{same_self}
 use Rattle.pb_base.proofs.NamedSets.{code_at_place, has-named}
 use Rattle.book_compare.specs.Common.{AreNamed}
 use Rattle.book_compare.specs.Numbering.{missing_from}
 use Rattle.book_compare.specs.Picked.{picked_from, picked}
 
-same_self : (name : List ℕ) → same_name name name ≡ true
-same_self name = nat_list_eq_equiv.refl name
+pub either_true : (t u : Bool) → u ≡ true → (t || u) ≡ true
+either_true true u h = refl
+either_true false u h = h
 
 picked_with : (i : ℕ) (x : List Bool) (c : List ℕ) (cs : List (List ℕ)) → has x i ≡ true → picked_from i x (c ∷ cs) ≡ c ∷ picked_from (i + 1) x cs
 picked_with i x c cs is = ap (λ (ns : List (List ℕ)). ns ++ picked_from (i + 1) x cs) (cond-true (has x i) (c ∷ []) [] is)
@@ -88,11 +90,7 @@ named-picked codes x apart i within = by (slice_get codes i) refl
 
 named_behind : (c : List ℕ) (codes names : List (List ℕ)) → AreNamed codes names → AreNamed (c ∷ codes) names
 named_behind c codes [] are = tt
-named_behind c codes (name ∷ names) are = (any_behind (same_name name c) (list_any (same_name name) codes) are.0, named_behind c codes names are.1)
-  where
-    any_behind : (t u : Bool) → u ≡ true → (t || u) ≡ true
-    any_behind true u h = refl
-    any_behind false u h = h
+named_behind c codes (name ∷ names) are = (either_true (same_name name c) (list_any (same_name name) codes) are.0, named_behind c codes names are.1)
 
 pub picked_named : (i : ℕ) (x : List Bool) (cs : List (List ℕ)) → AreNamed cs (picked_from i x cs)
 picked_named i x [] = tt
@@ -110,11 +108,7 @@ there codes c place is = by codes place (code_at_place codes c place is)
     by : (ds : List (List ℕ)) (k : ℕ) → slice_get ds k ≡ Some c → list_any (same_name c) ds ≡ true
     by [] k at = cc
     by (d ∷ ds) zero at = let same : d ≡ c = cc in ap (λ t. t || list_any (same_name c) ds) (ap (same_name c) same ∙ same_self c)
-    by (d ∷ ds) (suc k) at = either_way (same_name c d) (list_any (same_name c) ds) (by ds k at)
-      where
-        either_way : (t u : Bool) → u ≡ true → (t || u) ≡ true
-        either_way true u h = refl
-        either_way false u h = h
+    by (d ∷ ds) (suc k) at = either_true (same_name c d) (list_any (same_name c) ds) (by ds k at)
 
 pub picked_in_other : (second : List (List ℕ)) (i : ℕ) (x : List Bool) (cs : List (List ℕ)) → AllByRecursion (λ v. has x v ≡ false) (missing_from i second cs)
     → AreNamed second (picked_from i x cs)

@@ -6,6 +6,7 @@ use Rattle.std.proofs.lemmas.List.{take_more}
 use Rattle.std.proofs.lemmas.List.Elements.{filter-append}
 use Rattle.pb_base.specs.InParts.{InParts}
 use Rattle.pb_base.proofs.PartLaws.{parts_more}
+use Rattle.inquiry.proofs.PartLaws.{parts-append}
 use Rattle.book_model.specs.Contents.{Contents}
 use Rattle.book_model.specs.declared.record.Position.{Position}
 use Rattle.chosen_parts.specs.Chosen.{position_place, position_ids, added_ids, ids_of_either}
@@ -13,12 +14,7 @@ use Rattle.book_compare.specs.Comparison.{IsNoted, IsNotedAt, AreNoted, IsCompar
 use Rattle.book_compare.specs.Searched.{IsPut, ArePut, AddsPlaces}
 use Rattle.book_compare.specs.declared.note.CompareNote.{CompareNote}
 use Rattle.book_compare.specs.declared.place.Place.{Place}
-use Rattle.book_compare.proofs.MapLaws.{map-append}
-
-in_parts_append : {X N : Type 0} (IsPart : X → List N → Type 0) (xs ys : List X) (ms ns : List N) → InParts IsPart xs ms → InParts IsPart ys ns → InParts IsPart (xs ++ ys) (ms ++ ns)
-in_parts_append IsPart [] ys ms ns one other = subst (InParts IsPart ys) (sym (ap (λ ks. ks ++ ns) one)) other
-in_parts_append IsPart (x ∷ xs) ys ms ns one other =
-    (one.0, one.1 ++ ns, ap (λ ks. ks ++ ns) one.2 ∙ append_assoc one.0 one.1 ns, one.3, in_parts_append IsPart xs ys one.1 ns one.4 other)
+use Rattle.std.proofs.lemmas.List.{map-append}
 
 module _ (first second : Contents) (day : ℕ) where
   pub adds_none : (old : List Place) → AddsPlaces first second day [] old old
@@ -85,7 +81,7 @@ module _ (first second : Contents) (day : ℕ) where
   whole start mid all none one other =
       subst (ArePut first second day)
       (sym (other.behind ∙ ap (λ (qs : List Place). qs ++ other.places) (one.behind ∙ ap (λ (qs : List Place). qs ++ one.places) none)))
-      (in_parts_append (IsPut first second day) (position_ids first) (added_ids first second) one.places other.places one.each other.each)
+      (parts-append (IsPut first second day) (position_ids first) (added_ids first second) one.places other.places one.each other.each)
 
   -- the notes on what was searched are those on all positions
   module _ (budget : ℕ) where
@@ -106,20 +102,3 @@ module _ (first second : Contents) (day : ℕ) where
 
     pub compared : (ps : List Place) (notes : List CompareNote) → ArePut first second day ps → AreNoted first second day budget ps notes → IsComparison first second day budget notes
     compared ps notes put noted = noted_all (ids_of_either first second) ps notes put noted
-
-    -- the note on one more
-    pub noted_more : (ps : List Place) (at : ℕ) (p : Place) (old new own : List CompareNote) → at < length ps → p ≡ get_or ps at p → AreNoted first second day budget (take at ps) old
-        → IsNoted first second day budget p.id own → new ≡ old ++ own → AreNoted first second day budget (take (at + 1) ps) new
-    noted_more ps at p old new own within read so_far noted put =
-        subst (λ (ns : List CompareNote). AreNoted first second day budget (take (at + 1) ps) ns) (sym put)
-        (subst (λ (qs : List Place). AreNoted first second day budget qs (old ++ own)) (sym (take_more ps at p within ∙ ap (λ (q : Place). take at ps ++ q ∷ []) (sym read)))
-        (parts_more (IsNotedAt first second day budget) (take at ps) p old own so_far noted))
-
-    -- and those on further positions
-    pub noted_further : (ps : List Place) (at end : ℕ) (old own new : List CompareNote) → at ≤ end → AreNoted first second day budget (take at ps) old
-        → AreNoted first second day budget (take (end - at) (drop at ps)) own → new ≡ old ++ own → AreNoted first second day budget (take end ps) new
-    noted_further ps at end old own new order so_far further put =
-        let whole : at + (end - at) ≡ end = omega arith in
-        subst (λ (ns : List CompareNote). AreNoted first second day budget (take end ps) ns) (sym put)
-        (subst (λ (qs : List Place). AreNoted first second day budget qs (old ++ own)) (sym (take-add at (end - at) ps) ∙ ap (λ (n : ℕ). take n ps) whole)
-        (in_parts_append (IsNotedAt first second day budget) (take at ps) (take (end - at) (drop at ps)) old own so_far further))

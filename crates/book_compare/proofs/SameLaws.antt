@@ -23,7 +23,7 @@ use Rattle.book_compare.specs.Common.{AreAlike}
 use Rattle.book_compare.specs.JointItems.{renamed_usage, first_usages, second_usages}
 use Rattle.book_compare.specs.Numbering.{numbers_of}
 use Rattle.book_compare.specs.Same.{active_of, variants_on, variants_at, IsSameUsage, AreSameBelow, AreSameUsages}
-use Rattle.book_compare.specs.Searched.{AreBooks}
+use Rattle.book_compare.specs.Comparing.{AreBooks}
 use Rattle.book_compare.proofs.ChoiceLaws.{none_differs}
 use Rattle.book_compare.proofs.JointLaws.{first_right, second_right, same_truth}
 use Rattle.book_compare.proofs.NoteLaws.{alike_over}

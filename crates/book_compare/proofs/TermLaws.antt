@@ -7,7 +7,7 @@ use Rattle.book_model.specs.Book.{IsBook}
 use Rattle.book_model.specs.Contents.{Contents}
 use Rattle.book_model.specs.Sound.{IsReleasable}
 use Rattle.book_compare.specs.Comparison.{outside}
-use Rattle.book_compare.specs.Searched.{IsOfTerm, AreBooks}
+use Rattle.book_compare.specs.Comparing.{IsOfTerm, AreBooks}
 use Rattle.book_compare.specs.declared.note.Outside.TheVariants.{First, Second}
 
 of_term : (b : Contents) (day : ℕ) → IsBook b → IsReleasable b → is_within b.first b.last day ≡ true → IsOfTerm b day

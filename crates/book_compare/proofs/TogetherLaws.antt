@@ -66,6 +66,6 @@ keys_there first second day (q ∷ ps) zero p there =
 keys_there first second day (q ∷ ps) (suc at) p there = keys_there first second day ps at p there
 
 -- each position in a list has a goal
-pub goal_within : (first second : Contents) (day : ℕ) (ps : List Place) (at : ℕ) (p : Place) → slice_get ps at ≡ Some p → at < length (searched_goals first second day ps)
-goal_within first second day ps at p there =
-    omega (arith, slice_get_within ps at p there, length-together_goals (joint_variables first second day) (place_keys first second day ps), length-map ps (λ (q : Place). asked_keys first second day q.id))
+pub length-searched_goals : (first second : Contents) (day : ℕ) (ps : List Place) → length (searched_goals first second day ps) ≡ length ps
+length-searched_goals first second day ps =
+    length-together_goals (joint_variables first second day) (place_keys first second day ps) ∙ length-map ps (λ (q : Place). asked_keys first second day q.id)

@@ -25,16 +25,13 @@ use Rattle.chosen_parts.proofs.SameLaws.{chosen_none, chosen_some}
 use Rattle.book_compare.specs.Asked.{is_variant_of, usages_in, usages_at, literals_with}
 use Rattle.book_compare.specs.Same.{active_of, variants_on, variants_at}
 use Rattle.book_compare.specs.JointItems.{day_variants, renamed_usages, renamed_usage}
+use Rattle.std.proofs.lemmas.List.{map-append}
 
 -- the variants of usages
 
 variants_of_usages : (b : Contents) (n v : ℕ) (ks : List ℕ) → map (λ (u : Usage). u.variant) (usages_from b n v ks) ≡ ks
 variants_of_usages b n v [] = refl
 variants_of_usages b n v (k ∷ ks) = ap (λ (vs : List ℕ). k ∷ vs) (variants_of_usages b n (v + connectives (usage b k)) ks)
-
-map-append : {X Y : Type 0} (f : X → Y) (xs ys : List X) → map f (xs ++ ys) ≡ map f xs ++ map f ys
-map-append f [] ys = refl
-map-append {X} {Y} f (x ∷ xs) ys = ap (λ (zs : List Y). f x ∷ zs) (map-append f xs ys)
 
 variants_of_all : (b : Contents) (n v : ℕ) (cs : List Choice) → map (λ (u : Usage). u.variant) (all_usages b n v cs) ≡ flat_map (λ c. c.variants) cs
 variants_of_all b n v [] = refl

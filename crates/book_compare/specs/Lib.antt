@@ -6,7 +6,10 @@ pub mod Asked
 pub mod Together
 pub mod Asking
 pub mod Picked
+pub mod Shown
 pub mod Comparison
+pub mod Comparing
 pub mod Searched
+pub mod Source
 pub mod CompareText
 pub mod Same

@@ -1,16 +1,18 @@
 //! What another book changes: the positions at which some car that both books allow gets other parts.
 #![tactic(auto)]
 
-mod answer;
+mod comparing;
 mod joint;
 mod keys;
 mod note;
+mod notes;
 mod numbering;
 mod place;
 mod position;
 mod positions;
 mod renaming;
 mod same;
+mod source;
 mod text;
 
 pub use note::{CompareNote, Outside};

@@ -2,6 +2,10 @@
 
 use pb_base::Id;
 
+/// The most variables that a position adds. In each book it has at most 200 variants, so that it has at most 400 keys, and each of
+/// them takes at most 402.
+pub(crate) const MOST_OF_POSITION: u32 = 160_801;
+
 /// The position of an id, and a guess where it stands in the books.
 #[derive(Clone, Copy)]
 pub(crate) struct Place {

@@ -6,10 +6,10 @@ ghost use Rattle.clausify.specs.Formulas.{either_clauses};
 ghost use Rattle.book_compare.specs.Asked.{key_literals, keys_literals, asked_keys};
 ghost use Rattle.book_compare.specs.Keys.{any_clauses, any_literal, either_all, either_literal, joins, position_goal};
 ghost use Rattle.book_compare.specs.Asking.{Takes, TakesKey, TakesKeys, TakesPosition, TakesPositions, key_of};
-ghost use Rattle.book_compare.specs.JointItems.{IsJoint};
-ghost use Rattle.book_compare.specs.Searched.{IsAskedOf};
-ghost use Rattle.book_compare.specs.Together.{place_keys, together_goals};
+ghost use Rattle.book_compare.specs.Comparing.{IsComparing};
+ghost use Rattle.book_compare.specs.Together.{place_keys, searched_clauses, searched_variables, searched_goals, together_goals};
 
+use crate::comparing::Comparing;
 use crate::joint::Joint as Both;
 use crate::keys::{keys_of, literals_with, usages_at};
 use crate::place::Place;
@@ -17,16 +17,9 @@ use book_model::Book;
 use chosen_parts::PartUse;
 use clause_pool::{Lit, Pool};
 use clausify::{Joint, Usage, tie};
-use pb_base::{Day, Memory};
+use inquiry::Coded;
+use pb_base::Memory;
 use std::alloc::Global;
-
-/// The clauses of some positions, how many variables they have, and for each position the literal that asks of it.
-#[derive(Drop)]
-pub(crate) struct Asked {
-    pub(crate) pool: Pool,
-    pub(crate) vars: u32,
-    pub(crate) goals: Vec<Lit>,
-}
 
 /// The clauses in the making, the variable that is taken next, and the literals of which one has to be true at the position in the
 /// making.
@@ -38,41 +31,40 @@ pub(crate) struct Asking {
 }
 
 /// The clauses of these positions, one behind the other.
-pub(crate) fn asked_of(
+pub(crate) fn encoded(
     alloc: Global,
-    joint: &Both,
-    first: &Book,
-    second: &Book,
-    day: Day,
+    comparing: &Comparing,
     places: &[Place],
-) -> Result<Asked, Memory>
-    requires joint { IsJoint first.now second.now day joint.now }
-    ensures { IfOk result (IsAskedOf first.now second.now day places.now) }
+) -> Result<Coded, Memory>
+    requires { IsComparing comparing.now }
+    ensures clauses { let c = comparing.now in let clauses = searched_clauses c.first.now c.second.now c.day in
+        IfOk result (λ coded. coded.pool.clauses ≡ clauses places.now) }
+    ensures vars { let c = comparing.now in let variables = searched_variables c.first.now c.second.now c.day in
+        IfOk result (λ coded. coded.vars ≡ variables places.now) }
+    ensures goals { let c = comparing.now in let goals = searched_goals c.first.now c.second.now c.day in
+        IfOk result (λ coded. coded.goals.items ≡ goals places.now) }
 {
-    let mut asking = Asking::behind(alloc, joint)?;
-    let goals = add_positions(alloc, &mut asking, joint, first, second, day, places)?;
-    Ok(asking.asked(goals))
+    let mut asking = Asking::behind(alloc, &comparing.joint)?;
+    let goals = add_positions(alloc, &mut asking, comparing, places)?;
+    Ok(asking.encoded(goals))
 }
 
 // The clauses of these positions, and the literals that ask of them.
 fn add_positions(
     alloc: Global,
     asking: &mut Asking,
-    joint: &Both,
-    first: &Book,
-    second: &Book,
-    day: Day,
+    comparing: &Comparing,
     places: &[Place],
 ) -> Result<Vec<Lit>, Memory>
-    requires joint { IsJoint first.now second.now day joint.now }
-    ensures made { let keys = place_keys first.now second.now day places.now in
-        OnOk result (TakesPositions (length first.now.codes) asking.old asking.new keys) }
-    ensures goals { let keys = place_keys first.now second.now day places.now in
+    requires { IsComparing comparing.now }
+    ensures made { let c = comparing.now in let keys = place_keys c.first.now c.second.now c.day places.now in
+        OnOk result (TakesPositions (length c.first.now.codes) asking.old asking.new keys) }
+    ensures goals { let c = comparing.now in let keys = place_keys c.first.now c.second.now c.day places.now in
         IfOk result (λ goals. goals.items ≡ together_goals asking.old.next keys) }
 {
     let mut goals = Vec::new(alloc);
     for place in places {
-        let lit = add_position(alloc, asking, joint, first, second, day, *place)?;
+        let lit = add_position(alloc, asking, comparing, *place)?;
         goals.push(lit)?;
     }
     Ok(goals)
@@ -82,20 +74,25 @@ fn add_positions(
 fn add_position(
     alloc: Global,
     asking: &mut Asking,
-    joint: &Both,
-    first: &Book,
-    second: &Book,
-    day: Day,
+    comparing: &Comparing,
     place: Place,
 ) -> Result<Lit, Memory>
-    requires joint { IsJoint first.now second.now day joint.now }
-    ensures made { let keys = asked_keys first.now second.now day place.id in
-        OnOk result (TakesPosition (length first.now.codes) asking.old asking.new keys) }
-    ensures goal { let keys = asked_keys first.now second.now day place.id in
+    requires { IsComparing comparing.now }
+    ensures made { let c = comparing.now in let keys = asked_keys c.first.now c.second.now c.day place.id in
+        OnOk result (TakesPosition (length c.first.now.codes) asking.old asking.new keys) }
+    ensures goal { let c = comparing.now in let keys = asked_keys c.first.now c.second.now c.day place.id in
         IfOk result (λ l. l ≡ position_goal asking.old.next keys) }
 {
-    let own = usages_at(alloc, first, &joint.first, &place.id, place.guess)?;
-    let other = usages_at(alloc, second, &joint.second, &place.id, place.guess)?;
+    let first = comparing.first;
+    let second = comparing.second;
+    let own = usages_at(alloc, first, &comparing.joint.first, &place.id, place.guess)?;
+    let other = usages_at(
+        alloc,
+        second,
+        &comparing.joint.second,
+        &place.id,
+        place.guess,
+    )?;
     let lit = asking.with_usages(alloc, first, &own, second, &other)?;
     Ok(lit)
 }
@@ -238,7 +235,7 @@ impl Asking {
         Ok(lit)
     }
 
-    fn asked(self, goals: Vec<Lit>) -> Asked
+    fn encoded(self, goals: Vec<Lit>) -> Coded
         ensures clauses { result.pool.clauses ≡ self.pool.clauses }
         ensures vars { result.vars ≡ self.next }
         ensures goals { result.goals.items ≡ goals.items }
@@ -248,7 +245,7 @@ impl Asking {
             next,
             ways: _ways,
         } = self;
-        Asked {
+        Coded {
             pool,
             vars: next,
             goals,

@@ -6,12 +6,13 @@ ghost use Rattle.pb_base.specs.declared.limits.TheConstants.{MOST_BUDGET};
 ghost use Rattle.book_model.specs.Activity.{is_within};
 ghost use Rattle.chosen_parts.specs.Chosen.{position_place, position_ids, added_ids};
 ghost use Rattle.book_compare.specs.Comparison.{IsComparison, outside};
-ghost use Rattle.book_compare.specs.Numbering.{numbers_of};
-ghost use Rattle.book_compare.specs.Searched.{AreBooks, IsPut, ArePut, AddsPlaces};
+ghost use Rattle.book_compare.specs.Comparing.{AreBooks, IsComparing};
+ghost use Rattle.book_compare.specs.Searched.{IsPut, ArePut, AddsPlaces};
 
-use crate::answer::notes_on;
+use crate::comparing::Comparing;
 use crate::joint::Joint;
 use crate::note::{CompareNote, Outside};
+use crate::notes::notes_on;
 use crate::place::Place;
 use crate::same::same_at;
 use book_model::{Book, active};
@@ -77,69 +78,68 @@ fn compare_on(
     requires most { budget ≤ MOST_BUDGET }
     ensures { IfOk result (λ notes. IsComparison first.now second.now day budget notes.items) }
 {
+    first.codes().names_law();
     let joint = Joint::of(alloc, first, second, day)?;
-    let places = places_to_search(alloc, &joint.numbers, first, second, day)?;
-    let notes = notes_on(alloc, &joint, first, second, day, budget, &places)?;
+    let comparing = Comparing {
+        joint,
+        first,
+        second,
+        day,
+    };
+    compare_all(alloc, &comparing, budget)
+}
+
+fn compare_all(
+    alloc: Global,
+    comparing: &Comparing,
+    budget: u32,
+) -> Result<Vec<CompareNote>, Memory>
+    requires ready { IsComparing comparing.now }
+    requires some { 0 < budget }
+    requires most { budget ≤ MOST_BUDGET }
+    ensures { let c = comparing.now in
+        IfOk result (λ notes. IsComparison c.first.now c.second.now c.day budget notes.items) }
+{
+    let places = places_to_search(alloc, comparing)?;
+    let notes = notes_on(alloc, comparing, budget, &places)?;
     Ok(notes)
 }
 
 // The positions that have to be searched, since their variants aren't the same in both books.
-fn places_to_search(
-    alloc: Global,
-    numbers: &[u32],
-    first: &Book,
-    second: &Book,
-    day: Day,
-) -> Result<Vec<Place>, Memory>
-    requires books { AreBooks first.now second.now day }
-    requires numbers { numbers.now ≡ numbers_of first.now.codes second.now.codes }
-    ensures { IfOk result (λ places. ArePut first.now second.now day places.items) }
+fn places_to_search(alloc: Global, comparing: &Comparing) -> Result<Vec<Place>, Memory>
+    requires { IsComparing comparing.now }
+    ensures { let c = comparing.now in
+        IfOk result (λ places. ArePut c.first.now c.second.now c.day places.items) }
 {
     let mut places = Vec::new(alloc);
-    put_first(alloc, &mut places, numbers, first, second, day)?;
-    put_added(alloc, &mut places, numbers, first, second, day)?;
+    put_first(alloc, &mut places, comparing)?;
+    put_added(alloc, &mut places, comparing)?;
     Ok(places)
 }
 
 // The positions of the first book.
-fn put_first(
-    alloc: Global,
-    places: &mut Vec<Place>,
-    numbers: &[u32],
-    first: &Book,
-    second: &Book,
-    day: Day,
-) -> Result<(), Memory>
-    requires books { AreBooks first.now second.now day }
-    requires numbers { numbers.now ≡ numbers_of first.now.codes second.now.codes }
-    ensures { OnOk result (AddsPlaces first.now second.now day (position_ids first.now)
+fn put_first(alloc: Global, places: &mut Vec<Place>, comparing: &Comparing) -> Result<(), Memory>
+    requires { IsComparing comparing.now }
+    ensures { let c = comparing.now in
+        OnOk result (AddsPlaces c.first.now c.second.now c.day (position_ids c.first.now)
         places.old.items places.new.items) }
 {
-    for (place, position) in first.positions().iter().enumerate() {
-        let id = &position.id;
-        let found = place_of(alloc, numbers, first, second, day, id, place)?;
+    for (place, position) in comparing.first.positions().iter().enumerate() {
+        let found = place_of(alloc, comparing, &position.id, place)?;
         put(places, found)?;
     }
     Ok(())
 }
 
 // The positions that only the second book has.
-fn put_added(
-    alloc: Global,
-    places: &mut Vec<Place>,
-    numbers: &[u32],
-    first: &Book,
-    second: &Book,
-    day: Day,
-) -> Result<(), Memory>
-    requires books { AreBooks first.now second.now day }
-    requires numbers { numbers.now ≡ numbers_of first.now.codes second.now.codes }
-    ensures { OnOk result (AddsPlaces first.now second.now day (added_ids first.now second.now)
+fn put_added(alloc: Global, places: &mut Vec<Place>, comparing: &Comparing) -> Result<(), Memory>
+    requires { IsComparing comparing.now }
+    ensures { let c = comparing.now in
+        OnOk result (AddsPlaces c.first.now c.second.now c.day (added_ids c.first.now c.second.now)
         places.old.items places.new.items) }
 {
-    for (place, position) in second.positions().iter().enumerate() {
-        let id = &position.id;
-        let found = place_if_added(alloc, numbers, first, second, day, id, place)?;
+    for (place, position) in comparing.second.positions().iter().enumerate() {
+        let found = place_if_added(alloc, comparing, &position.id, place)?;
         put(places, found)?;
     }
     Ok(())
@@ -148,18 +148,15 @@ fn put_added(
 // The position of an id, if it has to be searched. The guess is where it stands in one of the books.
 fn place_of(
     alloc: Global,
-    numbers: &[u32],
-    first: &Book,
-    second: &Book,
-    day: Day,
+    comparing: &Comparing,
     id: &Id,
     guess: usize,
 ) -> Result<Option<Place>, Memory>
-    requires books { AreBooks first.now second.now day }
-    requires numbers { numbers.now ≡ numbers_of first.now.codes second.now.codes }
-    ensures { IfOk result (λ place. IsPut first.now second.now day id.now (option_to_list place)) }
+    requires { IsComparing comparing.now }
+    ensures { let c = comparing.now in
+        IfOk result (λ place. IsPut c.first.now c.second.now c.day id.now (option_to_list place)) }
 {
-    if same_at(alloc, numbers, first, second, day, id, guess)? {
+    if same_at(alloc, comparing, id, guess)? {
         return Ok(None);
     }
     Ok(Some(Place { id: *id, guess }))
@@ -168,24 +165,21 @@ fn place_of(
 // The same of a position of the second book, if the first lacks it.
 fn place_if_added(
     alloc: Global,
-    numbers: &[u32],
-    first: &Book,
-    second: &Book,
-    day: Day,
+    comparing: &Comparing,
     id: &Id,
     guess: usize,
 ) -> Result<Option<Place>, Memory>
-    requires books { AreBooks first.now second.now day }
-    requires numbers { numbers.now ≡ numbers_of first.now.codes second.now.codes }
-    ensures added { position_place first.now id.now ≡ None
-        → IfOk result (λ place. IsPut first.now second.now day id.now (option_to_list place)) }
-    ensures shared { (at : ℕ) → position_place first.now id.now ≡ Some at
+    requires { IsComparing comparing.now }
+    ensures added { let c = comparing.now in
+        position_place c.first.now id.now ≡ None
+        → IfOk result (λ place. IsPut c.first.now c.second.now c.day id.now (option_to_list place)) }
+    ensures shared { (at : ℕ) → position_place comparing.now.first.now id.now ≡ Some at
         → IfOk result (λ place. place ≡ None) }
 {
-    if place_of_position(first, id, guess).is_some() {
+    if place_of_position(comparing.first, id, guess).is_some() {
         return Ok(None);
     }
-    place_of(alloc, numbers, first, second, day, id, guess)
+    place_of(alloc, comparing, id, guess)
 }
 
 // Puts a position behind the others, if there is one.

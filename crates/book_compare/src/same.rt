@@ -4,10 +4,10 @@ ghost use Rattle.std.specs.Option.{option_map_or};
 ghost use Rattle.book_model.specs.Parts.{is_active_position};
 ghost use Rattle.clausify.specs.Choices.{active_variants};
 ghost use Rattle.book_compare.specs.Common.{AreAlike};
-ghost use Rattle.book_compare.specs.Numbering.{numbers_of};
+ghost use Rattle.book_compare.specs.Comparing.{IsComparing};
 ghost use Rattle.book_compare.specs.Same.{variants_on, variants_at, IsSameVariant, IsSameUsage, AreSameUsages};
-ghost use Rattle.book_compare.specs.Searched.{AreBooks};
 
+use crate::comparing::Comparing;
 use crate::renaming::push_active;
 use book_model::{Book, Variant, active};
 use chosen_parts::{place_of_position, same_use};
@@ -18,20 +18,24 @@ use std::alloc::Global;
 /// of them.
 pub(crate) fn same_at(
     alloc: Global,
-    numbers: &[u32],
-    first: &Book,
-    second: &Book,
-    day: Day,
+    comparing: &Comparing,
     id: &Id,
     guess: usize,
 ) -> Result<bool, Memory>
-    requires books { AreBooks first.now second.now day }
-    requires numbers { numbers.now ≡ numbers_of first.now.codes second.now.codes }
-    ensures { IfOk result (λ same. same ≡ true → AreAlike first.now second.now day id.now) }
+    requires { IsComparing comparing.now }
+    ensures { let c = comparing.now in
+        IfOk result (λ same. same ≡ true → AreAlike c.first.now c.second.now c.day id.now) }
 {
-    let own = variants_at(alloc, first, day, id, guess)?;
-    let other = variants_at(alloc, second, day, id, guess)?;
-    let same = same_usages(alloc, numbers, first, &own, second, &other)?;
+    let own = variants_at(alloc, comparing.first, comparing.day, id, guess)?;
+    let other = variants_at(alloc, comparing.second, comparing.day, id, guess)?;
+    let same = same_usages(
+        alloc,
+        &comparing.joint.numbers,
+        comparing.first,
+        &own,
+        comparing.second,
+        &other,
+    )?;
     Ok(same)
 }
 

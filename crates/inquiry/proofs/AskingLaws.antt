@@ -1,5 +1,5 @@
 -- What the solver's answers say of questions, by what a source owes.
-use Rattle.std.proofs.Common.{◌≡◌, ℕ, ◌*◌, ◌^◌, ◌≤◌, ◌<◌, Bool, not, List, Some, length, get_or, sym, ap, subst, ◌∙◌, arith, All}
+use Rattle.std.proofs.Common.{◌≡◌, ℕ, ◌*◌, ◌^◌, ◌≤◌, ◌<◌, Bool, not, List, [], ◌∷◌, Some, length, get_or, sym, ap, subst, ◌∙◌, arith, All}
 use Rattle.std.specs.List.{slice_get, sum_by}
 use Rattle.std.proofs.lemmas.Bool.{false_from_ne_true, true≢false}
 use Rattle.std.proofs.lemmas.List.Elements.{recursion_from_All}
@@ -11,7 +11,8 @@ use Rattle.clause_pool.specs.Clause.{AreBelow, Follows}
 use Rattle.clause_pool.specs.Derivation.{Derivation, AllFollow, kernel_of}
 use Rattle.clause_pool.proofs.ClauseLaws.{TrueLiteral, true_literal, all_found}
 use Rattle.clause_pool.proofs.LiteralLaws.{is_true-complement}
-use Rattle.solver.specs.Answer.{Begins, IsSpent}
+use Rattle.solver.specs.Answer.{Begins, IsCore, IsSpent}
+use Rattle.solver.proofs.OneLaws.{in_one, closed_by_core}
 use Rattle.solver.specs.Solver.{Solving, Onwards}
 use Rattle.inquiry.specs.Asking.{IsAsking}
 use Rattle.inquiry.specs.Form.{Form, IsLawful, MeetsGoal, goal_at}
@@ -34,18 +35,19 @@ module _ {Q : Type 0} (f : Form Q) (IsPosed : Q → Type 0) (MayShow : List Bool
 
   -- a set that a solver answers by shows what the question asks for
   pub set_shows : (place : ℕ) (q : Q) (asking : Asking) (x : List Bool) → slice_get qs place ≡ Some q → IsAsking f qs asking
-      → Begins (given_of asking.solver.kernel) (goal_at f qs place) asking.solver.codes x → ShownBy f q x
+      → Begins (given_of asking.solver.kernel) (goal_at f qs place ∷ []) asking.solver.codes x → ShownBy f q x
   set_shows place q asking x there is begins =
       let g : ℕ = goal_at f qs place in
-      let h : Begins (f.clauses qs) g f.codes x =
-      subst (λ (n : ℕ). Begins (f.clauses qs) g n x) is.codes (subst (λ (cs : List (List ℕ)). Begins cs g asking.solver.codes x) is.clauses begins) in
-      (h.counted, law.reads qs (recursion_from_All IsPosed qs posed) place q there x h.assignment h.counted h.begins h.satisfied h.assumed)
+      let h : Begins (f.clauses qs) (g ∷ []) f.codes x =
+      subst (λ (n : ℕ). Begins (f.clauses qs) (g ∷ []) n x) is.codes (subst (λ (cs : List (List ℕ)). Begins cs (g ∷ []) asking.solver.codes x) is.clauses begins) in
+      (h.counted, law.reads qs (recursion_from_All IsPosed qs posed) place q there x h.assignment h.counted h.begins h.satisfied (h.assumed g (in_one g)))
 
   -- where a clause refutes the goal no set does
   pub closed_shows_none : (place at : ℕ) (q : Q) (asking : Asking) → slice_get qs place ≡ Some q → IsAsking f qs asking → AllFollow asking.solver.kernel
-      → ClosedBy asking.solver.kernel (goal_at f qs place) at → ShownByNone f q
-  closed_shows_none place at q asking there is follow closed x len = false_from_ne_true _ (λ met.
+      → IsCore asking.solver.kernel (goal_at f qs place ∷ []) at → ShownByNone f q
+  closed_shows_none place at q asking there is follow core x len = false_from_ne_true _ (λ met.
       let g : ℕ = goal_at f qs place in
+      let closed : ClosedBy asking.solver.kernel g at = closed_by_core asking.solver.kernel g at core in
       let m : MeetsGoal (f.clauses qs) g = law.lifts qs (recursion_from_All IsPosed qs posed) place q there x len met in
       let follows : Follows (f.clauses qs) closed.clause =
       subst (λ (cs : List (List ℕ)). Follows cs closed.clause) is.clauses
@@ -56,8 +58,8 @@ module _ {Q : Type 0} (f : Form Q) (IsPosed : Q → Type 0) (MayShow : List Bool
 
 module _ {Q : Type 0} (f : Form Q) (qs : List Q) where
   pub left_over : (place budget : ℕ) (asking : Asking) (learnt : List (List ℕ)) → IsAsking f qs asking
-      → IsSpent asking.solver.vars (given_of asking.solver.kernel) (goal_at f qs place) budget learnt → IsLeft f qs place budget learnt
+      → IsSpent asking.solver.vars (given_of asking.solver.kernel) (goal_at f qs place ∷ []) budget learnt → IsLeft f qs place budget learnt
   left_over place budget asking learnt is h =
       let g : ℕ = goal_at f qs place in
-      subst (λ (n : ℕ). IsSpent n (f.clauses qs) g budget learnt) is.variables
-      (subst (λ (cs : List (List ℕ)). IsSpent asking.solver.vars cs g budget learnt) is.clauses h)
+      subst (λ (n : ℕ). IsSpent n (f.clauses qs) (g ∷ []) budget learnt) is.variables
+      (subst (λ (cs : List (List ℕ)). IsSpent asking.solver.vars cs (g ∷ []) budget learnt) is.clauses h)

@@ -17,7 +17,7 @@ abbrev pub ShownByNone : {Q : Type 0} → Form Q → Q → Type 0
 ShownByNone f q = (x : List Bool) → length x ≡ f.codes → f.shows q x ≡ false
 
 abbrev pub IsLeft : {Q : Type 0} → Form Q → List Q → ℕ → ℕ → List (List ℕ) → Type 0
-IsLeft f qs place budget learnt = IsSpent (f.variables qs) (f.clauses qs) (goal_at f qs place) budget learnt
+IsLeft f qs place budget learnt = IsSpent (f.variables qs) (f.clauses qs) (goal_at f qs place ∷ []) budget learnt
 
 -- what is left was left over the question's own clauses
 abbrev pub IsNote : {Q : Type 0} → Form Q → ℕ → Q → Told Q → Type 0

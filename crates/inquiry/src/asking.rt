@@ -139,7 +139,7 @@ fn ask<S: Inquiry>(
 {
     source.lawful();
     let goal = asking.goals[place];
-    let answer = asking.solver.solve(goal, budget)?;
+    let answer = asking.solver.solve(&[goal], budget)?;
     Ok(read_answer(source, questions, place, question, asking, budget, answer))
 }
 
@@ -158,7 +158,7 @@ fn read_answer<S: Inquiry>(
     requires there { slice_get questions.now place ≡ Some question }
     requires asking { IsAsking (S.form source.now) questions.now asking.now }
     requires right { let goal = goal_at (S.form source.now) questions.now place in
-        IsRight asking.now.solver goal budget answer }
+        IsRight asking.now.solver (goal ∷ []) budget answer }
     ensures { IsOutcome (S.form source.now) questions.now place question budget result }
 {
     source.lawful();

@@ -4,13 +4,13 @@ use Rattle.book_compare.proofs.PlaceLaws.{adds_none, added_step}
 use Rattle.book_compare.proofs.positions.put_added.Goals as goal
 
 pub loop-place-init : goal.loop-place-init
-loop-place-init c = adds_none c.args.first.now c.args.second.now c.args.day c.args.places.now.items
+loop-place-init c = adds_none c.args.comparing.now.first.now c.args.comparing.now.second.now c.args.comparing.now.day c.args.places.now.items
 
 pub loop-place-preserved : goal.loop-place-preserved
 loop-place-preserved c =
     let i = c.loop-place.place in
     let p = c.position-item.result in
-    added_step c.args.first.now c.args.second.now c.args.day c.args.second.now.positions i p c.args.places.now.items c.loop-place.places.items c.put.new.places.items c.in_ok-found.found
+    added_step c.args.comparing.now.first.now c.args.comparing.now.second.now c.args.comparing.now.day c.args.comparing.now.second.now.positions i p c.args.places.now.items c.loop-place.places.items c.put.new.places.items c.in_ok-found.found
     (omega (arith, ap length c.positions-position-items.ensures.value))
     (c.position-item.is ∙ ap (λ (ps : List Position). get_or ps i p) c.positions-position-items.ensures.value)
     c.loop-place.invariant c.in_ok-found.ensures.added c.in_ok-found.ensures.shared c.in_ok-put.ensures

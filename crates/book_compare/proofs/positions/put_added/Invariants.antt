@@ -7,4 +7,4 @@ use Rattle.book_compare.proofs.positions.put_added.Given as goal
 
 abbrev pub invariant-loop-place : goal.invariant-loop-place
 invariant-loop-place l =
-    AddsPlaces l.first l.second l.day (filter (λ id. is_none (position_place l.first id)) (map (λ p. p.id) (take l.place l.second.positions))) l.initial.places.items l.places.items
+    AddsPlaces l.comparing.first.now l.comparing.second.now l.comparing.day (filter (λ id. is_none (position_place l.comparing.first.now id)) (map (λ p. p.id) (take l.place l.comparing.second.now.positions))) l.initial.places.items l.places.items

@@ -1,7 +1,7 @@
 use Rattle.std.proofs.Common.{◌<◌, length, arith}
 use Rattle.book_compare.specs.Picked.{picked}
 use Rattle.book_compare.proofs.PickRuns.{picked_step}
-use Rattle.book_compare.proofs.answer.picked.Goals as goal
+use Rattle.book_compare.proofs.notes.picked.Goals as goal
 
 pub loop-place-preserved : goal.loop-place-preserved
 loop-place-preserved c =

@@ -1,6 +1,6 @@
 use Rattle.std.proofs.Common.{◌≡◌, ◌++◌, drop}
 use Rattle.book_compare.specs.Picked.{picked_from, picked}
-use Rattle.book_compare.proofs.answer.picked.Given as goal
+use Rattle.book_compare.proofs.notes.picked.Given as goal
 
 abbrev pub invariant-loop-place : goal.invariant-loop-place
 invariant-loop-place l = l.names.items ++ picked_from l.place l.set (drop l.place l.codes) ≡ picked l.codes l.set
