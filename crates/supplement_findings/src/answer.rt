@@ -61,7 +61,6 @@ pub(crate) fn begin(
 }
 
 /// What comes of one of the questions, which stands at this place.
-#[tactic(auto, using(solver::proofs::OneLaws::one_below, solver::proofs::OneLaws::one_consistent))]
 pub(crate) fn ask(
     book: &Book,
     day: Day,
