@@ -45,7 +45,6 @@ fn goal_of(questions: &[Asked], one: u32, other: u32) -> Option<Lit> {
 }
 
 // A kernel over these clauses that has refuted a goal.
-#[tactic(auto, using(solver::proofs::OneLaws::one_below, solver::proofs::OneLaws::one_consistent))]
 fn refuted(alloc: Global, clauses: Pool, vars: u32, codes: u32, goal: Lit) -> Result<Kernel, Memory>
     requires below { AreBelow (2 * vars) clauses.clauses }
     requires codes { codes ≤ vars }

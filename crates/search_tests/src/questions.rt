@@ -224,7 +224,6 @@ const PIGEONS: &[u8] =
     b"+c;+0+1+2;+3+4+5;+6+7+8;+9+a+b;-0-3;-0-6;-0-9;-3-6;-3-9;-6-9;-1-4;-1-7;-1-a;-4-7;-4-a;-7-a;-2-5;-2-8;-2-b;-5-8;-5-b;-8-b;";
 
 // Whether it is refuted within so many clauses that the variable `c` is true.
-#[tactic(auto, using(solver::proofs::OneLaws::one_below, solver::proofs::OneLaws::one_consistent))]
 fn is_refuted_within(solver: &mut Solver, budget: u32) -> Result<bool, Memory>
     requires vars { solver.old.vars ≡ 36 }
     requires some { 0 < budget }
