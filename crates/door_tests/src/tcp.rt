@@ -89,7 +89,10 @@ fn send_all<R: Net<Listener = TcpListener, Stream = TcpStream>>(
 }
 
 // Refuses the next link when it has read a few bytes of it.
-fn refuse_early<C: Clock + Copy + Drop + Send>(alloc: Global, port: &mut TcpPort<C>) -> Result<(), OutError>
+fn refuse_early<C: Clock + Copy + Drop + Send>(
+    alloc: Global,
+    port: &mut TcpPort<C>,
+) -> Result<(), OutError>
     requires { port.old.out ≡ false }
 {
     match port.next()? {
