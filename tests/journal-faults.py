@@ -179,7 +179,7 @@ def try_moved(program):
     said = []
     with tempfile.TemporaryDirectory() as folder:
         for how in ("moved", "removed", "replaced"):
-            store, old = os.path.join(folder, f"{how}.journal"), os.path.join(folder, f"{how}.old")
+            store, old = os.path.join(folder, f"{how}.journal"), os.path.join(folder, f"{how}-old.journal")
             desk = Desk(program, store)
             must("the first is answered", desk.ask(put("D1")) == 201)
             if how == "removed":
