@@ -1,8 +1,7 @@
 //! A desk whose journal is on a disk in memory that fails or stops.
 
 use answering::Alone;
-use disk::MemoryDisk;
-use journal_keeper::JournalKeeper;
+use journal_keeper::{JournalKeeper, MemoryDisk};
 use order_desk::{Desk, DeskCounts, NotStarted};
 use pb_gate::NoGate;
 use pb_outside::{MemoryLink, MemorySink, MemorySource};

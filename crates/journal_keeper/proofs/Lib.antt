@@ -1,3 +1,5 @@
+mod Moments
+mod Torn
 mod Records
 mod Fronts
 mod Stages
@@ -11,3 +13,6 @@ mod Written
 mod Sets
 mod Doubts
 mod Answered
+mod Tapes
+mod Replays
+mod Disks

@@ -1,3 +1,4 @@
+pub mod Disk
 pub mod Record
 pub mod Journal
 pub mod Reading
@@ -6,3 +7,6 @@ pub mod Sound
 pub mod Counts
 pub mod Tables
 pub mod Keeping
+pub mod Tape
+pub mod Calls
+pub mod MemoryDisk

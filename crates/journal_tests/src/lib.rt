@@ -1,8 +1,6 @@
-//! Tests of the journal: what its bytes are, what is there after a stop at each call, and which calls a file is asked.
+//! Tests of the journal: what its bytes are, and what is there after a stop at each call.
 #![tactic(auto)]
 
-#[cfg(test)]
-mod calls;
 #[cfg(test)]
 mod files;
 #[cfg(test)]

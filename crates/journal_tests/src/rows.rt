@@ -1,7 +1,6 @@
 //! Rows for the tests, and a text that shows those that are loaded.
 
-use disk::MemoryDisk;
-use journal_keeper::JournalKeeper;
+use journal_keeper::{JournalKeeper, MemoryDisk};
 use keeper::{BookRow, DraftRow, Keeper, OrderRow, Rows};
 use pb_base::{Body, Text};
 use pb_outside::OutError;

@@ -8,10 +8,10 @@ use Rattle.keeper_sql.below.sqlite_store.proofs.store.FileStore.TheSendSync as f
 use Rattle.keeper_sql.proofs.sql_keeper.SqlKeeper.TheSendSync as sql
 use Rattle.keeper_sql.specs.contracts.file_keeper.FileKeeper as FileKeeper
 use Rattle.journal_keeper.specs.contracts.keeping.JournalKeeper as JournalKeeper
-use Rattle.disk.specs.contracts.file_disk.FileDisk as FileDisk
-use Rattle.disk.specs.contracts.file_disk.FileDiskDisk as FileDiskDisk
+use Rattle.journal_keeper.specs.contracts.file_disk.FileDisk as FileDisk
+use Rattle.journal_keeper.specs.contracts.file_disk.FileDiskDisk as FileDiskDisk
 use Rattle.journal_keeper.proofs.keeping.JournalKeeper.TheSendSync as journal
-use Rattle.disk.proofs.file_disk.FileDisk.TheSendSync as disk
+use Rattle.journal_keeper.proofs.file_disk.FileDisk.TheSendSync as disk
 use Rattle.partsbook.specs.contracts.store.Store as Store
 use Rattle.partsbook.proofs.store.Store.TheSendSync as either
 

@@ -1,6 +1,5 @@
 -- Which word of a command line names a store.
-use Rattle.std.specs.Prelude.{◌≡◌, ℕ, Bool, ◌||◌, List, [], ◌∷◌, Option, None, Some, String, string_bytes, codes, if◌then◌else◌, ⊤}
-use Rattle.std.specs.declared.alloc.Global.{Global}
+use Rattle.std.specs.Prelude.{ℕ, Bool, ◌||◌, List, [], ◌∷◌, Option, None, Some, codes, if◌then◌else◌}
 use Rattle.pb_base.specs.Names.{same_name}
 use Rattle.command_words.specs.Parts.{Words}
 
@@ -21,12 +20,3 @@ first_behind_mark (word ∷ words) = if same_name word (codes "--") then first_w
 abbrev pub store_word : Words → Option (List ℕ)
 store_word [] = None
 store_word (command ∷ words) = if takes_store command then first_behind_mark words else None
-
--- where there is a path, it is this name
-abbrev pub IsPathOf : Option (String Global) → List ℕ → Type 0
-IsPathOf None name = ⊤
-IsPathOf (Some path) name = string_bytes path ≡ name
-
--- where the words name a store and there is a path, the path is the store's name
-abbrev pub IsOfWords : Option (String Global) → Words → Type 0
-IsOfWords path words = (name : List ℕ) → store_word words ≡ Some name → IsPathOf path name

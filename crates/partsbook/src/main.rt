@@ -9,13 +9,11 @@ ghost use Rattle.std.specs.Process.{exit_status};
 ghost use Rattle.book_commands.specs.Numbers.{status_number};
 ghost use Rattle.command_words.specs.Prepared.{texts_of};
 ghost use Rattle.commands.specs.Words.{NamesStore};
-ghost use Rattle.partsbook.specs.StoreName.{IsPathOf, IsOfWords};
 
 use crate::store::Store;
 use crate::store_name::store_of;
 use commands::{RunEnd, RunLog, RunStatus, run_given};
-use disk::{FileDisk, SystemFile};
-use journal_keeper::JournalKeeper;
+use journal_keeper::{FileDisk, JournalKeeper};
 use keeper::Keeper;
 use keeper_sql::FileKeeper;
 use pb_gate::NoGate;
@@ -30,11 +28,11 @@ use std::{env, io};
 use tcp_door::TcpDoor;
 
 // A file of SQLite, or a journal in a file.
-type FileStore = Store<FileKeeper, JournalKeeper<FileDisk<SystemFile>>>;
+type FileStore = Store<FileKeeper, JournalKeeper<FileDisk>>;
 
 fn main(rt: HostRuntime) -> ExitCode {
     let Given { words, journal } = read_given(&rt);
-    closed(rt, run_with(&rt, rt.alloc(), words, keeper_of(rt, journal)))
+    closed(run_with(&rt, rt.alloc(), words, keeper_of(rt, journal)))
 }
 
 // The words after the program's name, and the name of the journal where they name one.
@@ -44,9 +42,7 @@ struct Given {
 }
 
 // Where the name finds no memory, the words are refused for it.
-fn read_given(rt: &HostRuntime) -> Given
-    ensures { IfOk result.words (λ words. IsOfWords result.journal (texts_of words.items)) }
-{
+fn read_given(rt: &HostRuntime) -> Given {
     let words = given_words(rt);
     match journal_path(rt, &words) {
         Ok(journal) => Given { words, journal },
@@ -72,9 +68,7 @@ fn given_words(rt: &HostRuntime) -> io::Result<Vec<String>> {
 }
 
 // A copy of the store's name, where the store is a journal.
-fn journal_path(rt: &HostRuntime, given: &io::Result<Vec<String>>) -> io::Result<Option<String>>
-    ensures { IfOk given.now (λ words. IfOk result (λ journal. IsOfWords journal (texts_of words.items))) }
-{
+fn journal_path(rt: &HostRuntime, given: &io::Result<Vec<String>>) -> io::Result<Option<String>> {
     let Ok(words) = given else {
         return Ok(None);
     };
@@ -86,37 +80,29 @@ fn journal_path(rt: &HostRuntime, given: &io::Result<Vec<String>>) -> io::Result
     }
 }
 
-// The status of a run, whose store is closed. What a store that can't be closed has in its log is there for the next run, so
-// the status stays what it is, and standard error says what is left.
-fn closed(rt: HostRuntime, end: RunEnd<FileStore>) -> ExitCode
-    ensures { exit_status result ≡ status_number end.status }
-{
-    if !close(end.keeper) {
-        let _told = rt.eprintln(
-            "the store's log stays beside it: keep both, the next run takes both",
-        );
-    }
+// The status of a run, whose store is closed.
+fn closed(end: RunEnd<FileStore>) -> ExitCode {
+    close(end.keeper);
     exit_code(end.status)
 }
 
 // The keeper of the journal of this path, or of a file of SQLite where there is none.
 fn keeper_of(rt: HostRuntime, journal: Option<String>) -> FileStore
-    ensures { (name : List ℕ) → IsPathOf journal name → ⟦<FileStore as Keeper>⟧.may_begin result name }
+    ensures { (name : List ℕ) → ⟦<FileStore as Keeper>⟧.may_begin result name }
 {
     match journal {
-        Some(path) => Store::Journal(JournalKeeper::new(
-            rt.alloc(),
-            FileDisk::new(SystemFile::new(rt, path)),
-        )),
+        Some(path) => Store::Journal(JournalKeeper::new(rt.alloc(), FileDisk::new(rt, path))),
         None => Store::Sql(FileKeeper::new(rt)),
     }
 }
 
-// Whether the store is in its file alone. A journal always is.
-fn close(store: FileStore) -> bool {
+// What a store that can't be closed has in its log is there for the next run, so the status stays what it is.
+fn close(store: FileStore) {
     match store {
-        Store::Sql(keeper) => keeper.close(),
-        Store::Journal(_keeper) => true,
+        Store::Sql(keeper) => {
+            let _closed = keeper.close();
+        }
+        Store::Journal(_keeper) => {}
     }
 }
 

@@ -1,5 +1,0 @@
-pub mod Moments
-pub mod Torn
-mod Tapes
-mod Replays
-mod Disks
