@@ -3,5 +3,6 @@ mod TableLaws
 pub mod LaterHands
 pub mod Seats
 mod NewOrders
+mod EventNames
 pub mod BookNames
 pub mod CheckedLaws

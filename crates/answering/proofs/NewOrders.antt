@@ -1,5 +1,5 @@
 -- A new order is accepted exactly where it can be built.
-use Rattle.std.proofs.Common.{◌≡◌, ◌≢◌, ◌∙◌, ◌⊎◌, ℕ, ◌≤◌, ◌-◌, zero, suc, Bool, true, false, List, [], ◌∷◌, None, Some, Ok, Err, Result, refl, sym, ap, subst, arith, inl, inr}
+use Rattle.std.proofs.Common.{◌≡◌, ◌≢◌, ◌∙◌, ◌⊎◌, ℕ, ◌≤◌, ◌-◌, zero, suc, Bool, true, false, List, [], ◌∷◌, Option, None, Some, Ok, Err, Result, refl, sym, ap, subst, arith, inl, inr}
 use Rattle.std.specs.Prelude.{length, nat_lt, ok_or, slice_get, if◌then◌else◌}
 use Rattle.std.specs.List.{AllByRecursion}
 use Rattle.std.proofs.lemmas.Bool.{lt-ltb}
@@ -21,7 +21,8 @@ use Rattle.desk_words.specs.declared.reply.Reply.{Reply}
 use Rattle.desk_words.specs.declared.reply.Reply.TheVariants as reply
 use Rattle.order_desk.specs.declared.answer.Answer.{Answer}
 use Rattle.order_desk.specs.declared.answer.Answer.TheVariants as answer
-use Rattle.order_desk.specs.declared.event.Event.TheVariants.{Look, Place}
+use Rattle.order_desk.specs.declared.event.Event.TheVariants.{Place, Read}
+use Rattle.order_desk.specs.declared.event.Reading.TheVariants.{Look}
 use Rattle.order_desk.specs.declared.kept_book.KeptBook.{KeptBook}
 use Rattle.order_desk.specs.declared.limits.TheConstants.{MOST_ORDERS}
 use Rattle.order_desk.specs.Effect.{shows, keeps, go_on, book_of, look, place, to_place, unless_kept}
@@ -30,17 +31,19 @@ use Rattle.order_desk.specs.History.{IsLaterBook, Stays}
 use Rattle.order_desk.specs.Step.{Follows, IsKept, IsNotKept, IsOrMemory, IsStoreFault}
 use Rattle.order_desk.specs.Tables.{Tables, State, book_at, key_of, with_order}
 use Rattle.order_desk.specs.Valid.{IsValid}
-use Rattle.order_desk.proofs.EffectWrites.{effect_writes, unchanged}
+use Rattle.order_desk.proofs.EffectWrites.{reads_nothing}
 use Rattle.order_desk.proofs.Growth.{place_of_number, reaches_grows}
 use Rattle.order_desk.proofs.StepValid.{reaches_valid}
 use Rattle.answering.specs.Answers.{after_looking, after_placing, by_accepted, by_outcome, ordering, placing}
-use Rattle.answering.specs.Course.{ends_with, or_memory, plain, unless_said}
+use Rattle.answering.specs.Course.{ends_with, or_memory}
 use Rattle.answering.specs.Hand.{Begins, Hand, Stepped}
 use Rattle.answering.specs.Headline.{AcceptsExactly, IsAccepted, IsNewOrder, IsUnwritten, PlacesOrder, WantsMemory, list_text}
-use Rattle.answering.specs.Told.{IsBookThere}
-use Rattle.answering.specs.declared.said.Said.{Said}
+use Rattle.answering.specs.Told.{IsBookThere, as_looked, as_placed}
+use Rattle.answering.specs.declared.asked.KeptOrder.{KeptOrder}
+use Rattle.answering.specs.declared.asked.Looked.{Looked}
+use Rattle.answering.specs.declared.asked.Looked.TheVariants.{Free, Kept}
 use Rattle.answering.proofs.LaterHands.{begins_reached, hand_same, hand_stepped}
-use Rattle.answering.proofs.ToldLaws.{told_book}
+use Rattle.answering.proofs.ToldLaws.{tells_taken}
 
 -- ---- books in valid tables
 
@@ -98,7 +101,7 @@ module _ (t : Tables) (caller : List ℕ) (number : ℕ) (order : OrderWords) (b
 
 -- ---- where a call ends
 
-again_ends : (o : Result Outcome OrderFault) (b : Contents) (kind : List ℕ → Reply) (h : Hand) (said : Said) (new : Hand)
+again_ends : (o : Result Outcome OrderFault) (b : Contents) (kind : List ℕ → Reply) (h : Hand) (said : Reply) (new : Hand)
     → or_memory (by_accepted o b (λ text. ends_with (kind text))) h said new → new ≡ h
 again_ends o b kind h said new (inl memory) = memory.1
 again_ends (Ok (outcome.Accepted set list)) b kind h said new (inr is) = is.1
@@ -106,21 +109,29 @@ again_ends (Ok (outcome.Refused rule)) b kind h said new (inr is) = absurd is
 again_ends (Ok (outcome.Unfit position count)) b kind h said new (inr is) = absurd is
 again_ends (Err fault) b kind h said new (inr is) = absurd is
 
-placing_ends : (text : List ℕ) (a : Answer) (h : Hand) (said : Said) (new : Hand) → unless_said a (after_placing text) h said new → new ≡ h
-placing_ends text (answer.Say r) h said new is = is.1
-placing_ends text answer.Placed h said new is = is.1
-placing_ends text (answer.Kept kept r) h said new is =
-    again_ends (outcome_of r.book kept.day kept.codes) r.book (reply.Placed false) h said new is
-placing_ends text (answer.Draft draft revision) h said new is = absurd is
-placing_ends text (answer.Book r) h said new is = absurd is
+placing_ends : (text : List ℕ) (o : Option KeptOrder) (h : Hand) (said : Reply) (new : Hand) → after_placing text o h said new → new ≡ h
+placing_ends text None h said new is = is.1
+placing_ends text (Some k) h said new is =
+    again_ends (outcome_of k.book.book k.order.day k.order.codes) k.book.book (reply.Placed false) h said new is
+
+-- what is replied behind the last event, where that was the first order of its number
+abbrev Replied : List ℕ → Answer → Reply → Type 0
+Replied text (answer.Say r) said = said ≡ r
+Replied text answer.Placed said = said ≡ reply.Placed true text
+Replied text _ said = Unit {0}
+
+replied : (text : List ℕ) (o : Option KeptOrder) (h : Hand) (said : Reply) (new : Hand) → after_placing text o h said new
+    → Replied text (as_placed o) said
+replied text None h said new is = is.0
+replied text (Some k) h said new is = tt
 
 -- ---- the call of an order
 
 module _ (caller : List ℕ) (number : ℕ) (order : OrderWords) where
-  abbrev Comes : State → Contents → Said → State → Type 0
+  abbrev Comes : State → Contents → Reply → State → Type 0
   Comes old b said new = AcceptsExactly old caller number order b said new
 
-  wanting : (old : State) (b : KeptBook) (said : Said) (new : State) → IsRelease b.released
+  wanting : (old : State) (b : KeptBook) (said : Reply) (new : State) → IsRelease b.released
       → IsWellFormed b.released.book order.day order.codes → WantsMemory old said new → Comes old b.released.book said new
   wanting old b said new release formed wants = record {
     built = λ can. inr (inl wants);
@@ -144,10 +155,9 @@ module _ (caller : List ℕ) (number : ℕ) (order : OrderWords) where
 
   -- ---- the look is the last event
 
-  module _ (h : Hand) (a : Answer) (mid : Hand) (s : Stepped h (Look caller number order) a mid) where
+  module _ (h : Hand) (a : Answer) (mid : Hand) (s : Stepped h (Read (Look caller number order)) a mid) where
     same_state : mid.state ≡ s.first
-    same_state =
-        unchanged (look s.first.tables caller number order) s.first a mid.state (effect_writes (λ t. ⊥) s.first.tables (Look caller number order) tt) s.step
+    same_state = reads_nothing s.first mid.state (Look caller number order) a s.step
 
     begun : h.book ≡ None → s.first ≡ h.state
     begun alone = subst (λ b. Begins b h.state s.first) alone s.begins
@@ -155,12 +165,12 @@ module _ (caller : List ℕ) (number : ℕ) (order : OrderWords) where
     valid_first : IsValid h.state.tables → IsValid s.first.tables
     valid_first valid = reaches_valid h.state s.first (begins_reached h.book h.state s.first s.begins) valid
 
-    ended : (said : Said) → ((b : KeptBook) → IsNewOrder s.first.tables caller number order b → Comes s.first b.released.book said mid.state)
+    ended : (said : Reply) → ((b : KeptBook) → IsNewOrder s.first.tables caller number order b → Comes s.first b.released.book said mid.state)
         → PlacesOrder h caller number order said mid
     ended said so = inr (
       record {
         between = h;
-        event = Look caller number order;
+        event = Read (Look caller number order);
         answer = a;
         its_event = inl refl;
         before = hand_same h;
@@ -170,13 +180,13 @@ module _ (caller : List ℕ) (number : ℕ) (order : OrderWords) where
       so,
     )
 
-    no_memory : (said : Said) → IsValid h.state.tables → said ≡ plain reply.Memory → PlacesOrder h caller number order said mid
+    no_memory : (said : Reply) → IsValid h.state.tables → said ≡ reply.Memory → PlacesOrder h caller number order said mid
     no_memory said valid is = ended said (λ b fresh.
         wanting s.first b said mid.state (is_release s.first.tables order.book b (valid_first valid) fresh.there) fresh.formed
         (record { told = is; unchanged = ap (λ k. k.tables) same_state }))
 
     -- the look of a new order answers nothing else
-    not_new : (said : Said) → (a ≢ answer.Say reply.Memory) → ((b : KeptBook) → a ≢ answer.Book b.released) → PlacesOrder h caller number order said mid
+    not_new : (said : Reply) → (a ≢ answer.Say reply.Memory) → ((b : KeptBook) → a ≢ answer.Book b.released) → PlacesOrder h caller number order said mid
     not_new said not_memory not_book = ended said (λ b fresh.
         elim ((look_tells s.first.tables caller number order b fresh s.first refl a mid.state s.step).0) [
           | inl is ↦ absurd (not_book b is)
@@ -188,7 +198,7 @@ module _ (caller : List ℕ) (number : ℕ) (order : OrderWords) where
   same_release r b (inr is) = absurd (cc)
 
   -- a refusal, and a fault that a well-formed order doesn't have
-  module _ (h : Hand) (r : Release) (mid : Hand) (s : Stepped h (Look caller number order) (answer.Book r) mid) (valid : IsValid h.state.tables) where
+  module _ (h : Hand) (r : Release) (mid : Hand) (s : Stepped h (Read (Look caller number order)) (answer.Book r) mid) (valid : IsValid h.state.tables) where
     its_release : (b : KeptBook) → IsNewOrder s.first.tables caller number order b → r ≡ b.released
     its_release b fresh = same_release r b (look_tells s.first.tables caller number order b fresh s.first refl (answer.Book r) mid.state s.step).0
 
@@ -199,8 +209,8 @@ module _ (caller : List ℕ) (number : ℕ) (order : OrderWords) where
         → outcome_of r.book order.day order.codes ≡ is → outcome_of b.released.book order.day order.codes ≡ is
     comes_to b fresh is same = subst (λ (q : Release). outcome_of q.book order.day order.codes ≡ is) (its_release b fresh) same
 
-    refuses : (said : Said) (rule : ℕ) → outcome_of r.book order.day order.codes ≡ Ok (outcome.Refused rule)
-        → said ≡ plain (reply.Refused (construct_id r.book rule)) → PlacesOrder h caller number order said mid
+    refuses : (said : Reply) (rule : ℕ) → outcome_of r.book order.day order.codes ≡ Ok (outcome.Refused rule)
+        → said ≡ (reply.Refused (construct_id r.book rule)) → PlacesOrder h caller number order said mid
     refuses said rule is told = ended h (answer.Book r) mid s said (λ b fresh. record {
       built = λ can. let no_ = other_outcome b.released (Ok (outcome.Refused rule)) (released b fresh) fresh.formed (comes_to b fresh _ is) can in absurd (cc);
       unbuilt = λ cannot.
@@ -210,8 +220,8 @@ module _ (caller : List ℕ) (number : ℕ) (order : OrderWords) where
           inl (record {
             rule = turned.rule;
             first = turned.first;
-            told = told ∙ ap (λ (q : Release). plain (reply.Refused (construct_id q.book rule))) (its_release b fresh)
-                ∙ ap (λ k. plain (reply.Refused (construct_id b.released.book k))) same_rule;
+            told = told ∙ ap (λ (q : Release). (reply.Refused (construct_id q.book rule))) (its_release b fresh)
+                ∙ ap (λ k. (reply.Refused (construct_id b.released.book k))) same_rule;
             unchanged = same_state h (answer.Book r) mid s;
           });
       one_list = λ can. (built b.released order.day order.codes (released b fresh) fresh.formed can).one_list;
@@ -220,7 +230,7 @@ module _ (caller : List ℕ) (number : ℕ) (order : OrderWords) where
         refused_same : (k n : ℕ) → Came (outcome.Refused k) ≡ Came (outcome.Refused n) → k ≡ n
         refused_same k n is = cc
 
-    faulty : (said : Said) (fault : OrderFault) → outcome_of r.book order.day order.codes ≡ Err fault → PlacesOrder h caller number order said mid
+    faulty : (said : Reply) (fault : OrderFault) → outcome_of r.book order.day order.codes ≡ Err fault → PlacesOrder h caller number order said mid
     faulty said fault is = ended h (answer.Book r) mid s said (λ b fresh. record {
       built = λ can. let no_ = other_outcome b.released (Err fault) (released b fresh) fresh.formed (comes_to b fresh _ is) can in absurd (cc);
       unbuilt = λ cannot. let no_ = refused_outcome b.released (Err fault) (released b fresh) fresh.formed (comes_to b fresh _ is) cannot in absurd (cc);
@@ -232,13 +242,13 @@ module _ (caller : List ℕ) (number : ℕ) (order : OrderWords) where
     module _ (set : List Bool) (list : List PartsLine) (is : outcome_of r.book order.day order.codes ≡ Ok (outcome.Accepted set list))
         (a : Answer) (late : Hand) (p : Stepped mid (Place caller number order) a late) where
       valid_mid : IsValid mid.state.tables
-      valid_mid = reaches_valid h.state mid.state (hand_stepped h (Look caller number order) (answer.Book r) mid s).reaches valid
+      valid_mid = reaches_valid h.state mid.state (hand_stepped h (Read (Look caller number order)) (answer.Book r) mid s).reaches valid
 
       valid_placed : IsValid p.first.tables
       valid_placed = reaches_valid mid.state p.first (begins_reached mid.book mid.state p.first p.begins) valid_mid
 
       shown : IsBookThere mid.state.tables order.book r
-      shown = told_book caller number order h (answer.Book r) mid (inr s)
+      shown = tells_taken h (Read (Look caller number order)) (answer.Book r) mid (inr s)
 
       -- the book by which it was judged is the one that it is placed under
       same_book : (b : KeptBook) → IsNewOrder p.first.tables caller number order b → r ≡ b.released
@@ -265,16 +275,16 @@ module _ (caller : List ℕ) (number : ℕ) (order : OrderWords) where
           ∙ ap (λ y. accepted_text b.released.book y list) same_set
           ∙ ap (λ l. accepted_text b.released.book x l) same_list
 
-      ends_so : (b : KeptBook) → IsNewOrder p.first.tables caller number order b → (said : Said) → can_be_built b.released.book order.day order.codes ≡ true
-          → unless_said a (after_placing (accepted_text r.book set list)) late said late
+      ends_so : (b : KeptBook) → IsNewOrder p.first.tables caller number order b → (said : Reply) → can_be_built b.released.book order.day order.codes ≡ true
+          → Replied (accepted_text r.book set list) a said
           → IsAccepted p.first caller number order b.released.book said late.state
           ⊎ (WantsMemory p.first said late.state ⊎ IsUnwritten p.first said late.state)
       ends_so b fresh said can rest =
           elim (place_tells p.first.tables caller number order b fresh p.first refl a late.state p.step) [
             | inl kept ↦ inl (record {
               printed =
-                  (subst (λ given. unless_said given (after_placing (accepted_text r.book set list)) late said late) kept.said rest).0
-                  ∙ ap (λ text. plain (reply.Placed true text)) (printed b fresh can);
+                  subst (λ given. Replied (accepted_text r.book set list) given said) kept.said rest
+                  ∙ ap (λ text. (reply.Placed true text)) (printed b fresh can);
               kept = kept.changed;
               count = kept.count;
             })
@@ -287,23 +297,23 @@ module _ (caller : List ℕ) (number : ℕ) (order : OrderWords) where
               by : (a ≡ answer.Say reply.Memory) ⊎ IsStoreFault p.first a late.state
                   → WantsMemory p.first said late.state ⊎ IsUnwritten p.first said late.state
               by (inl memory) = inl (record {
-                told = (subst (λ given. unless_said given (after_placing (accepted_text r.book set list)) late said late) memory rest).0;
+                told = subst (λ given. Replied (accepted_text r.book set list) given said) memory rest;
                 unchanged = unkept.unchanged;
               })
               by (inr fault) = inr (record {
-                told = (subst (λ given. unless_said given (after_placing (accepted_text r.book set list)) late said late) fault.said rest).0;
+                told = subst (λ given. Replied (accepted_text r.book set list) given said) fault.said rest;
                 fails = fault.fails;
                 unchanged = unkept.unchanged;
               })
 
-      placed : (said : Said) → unless_said a (after_placing (accepted_text r.book set list)) late said late → PlacesOrder h caller number order said late
+      placed : (said : Reply) → Replied (accepted_text r.book set list) a said → PlacesOrder h caller number order said late
       placed said rest = inr (
         record {
           between = mid;
           event = Place caller number order;
           answer = a;
           its_event = inr refl;
-          before = hand_stepped h (Look caller number order) (answer.Book r) mid s;
+          before = hand_stepped h (Read (Look caller number order)) (answer.Book r) mid s;
           step = p;
           at_once = λ alone.
               subst (λ b. Begins b mid.state p.first) (s.book ∙ alone) p.begins
@@ -317,49 +327,54 @@ module _ (caller : List ℕ) (number : ℕ) (order : OrderWords) where
         },
       )
 
-    judged : 2 ≤ h.left → (o : Result Outcome OrderFault) → outcome_of r.book order.day order.codes ≡ o → (said : Said) (new : Hand)
+    judged : 2 ≤ h.left → (o : Result Outcome OrderFault) → outcome_of r.book order.day order.codes ≡ o → (said : Reply) (new : Hand)
         → by_outcome o r.book (placing caller number order) mid said new → PlacesOrder h caller number order said new
     judged left (Ok (outcome.Refused rule)) is said new ends =
         subst (λ (k : Hand). PlacesOrder h caller number order said k) (sym ends.1) (refuses said rule is ends.0)
     judged left (Ok (outcome.Unfit position count)) is said new ends = absurd ends
     judged left (Err fault) is said new ends = subst (λ (k : Hand). PlacesOrder h caller number order said k) (sym ends.1) (faulty said fault is)
-    judged left (Ok (outcome.Accepted set list)) is said new (a, late, inl over, rest) = absurd (omega (arith, s.left, over.none_left, left))
-    judged left (Ok (outcome.Accepted set list)) is said new (a, late, inr p, rest) =
-        let same = placing_ends (accepted_text r.book set list) a late said new rest in
-        subst (λ (k : Hand). PlacesOrder h caller number order said k) (sym same)
-        (placed set list is a late p said (subst (λ (k : Hand). unless_said a (after_placing (accepted_text r.book set list)) late said k) same rest))
+    judged left (Ok (outcome.Accepted set list)) is said new (inl (inl over)) = absurd (omega (arith, s.left, over.none_left, left))
+    judged left (Ok (outcome.Accepted set list)) is said new (inl (inr p)) = placed set list is (answer.Say said) new p said refl
+    judged left (Ok (outcome.Accepted set list)) is said new (inr (o, late, inl over, rest)) = absurd (omega (arith, s.left, over.none_left, left))
+    judged left (Ok (outcome.Accepted set list)) is said new (inr (o, late, inr p, rest)) =
+        subst (λ (k : Hand). PlacesOrder h caller number order said k) (sym (placing_ends (accepted_text r.book set list) o late said new rest))
+        (placed set list is (as_placed o) late p said (replied (accepted_text r.book set list) o late said new rest))
 
-  after_look : (h : Hand) → IsValid h.state.tables → 2 ≤ h.left → (a : Answer) (mid : Hand) → Stepped h (Look caller number order) a mid
-      → (said : Said) (new : Hand) → unless_said a (after_looking caller number order) mid said new → PlacesOrder h caller number order said new
-  after_look h valid left (answer.Say r) mid s said new ends =
-      subst (λ (k : Hand). PlacesOrder h caller number order said k) (sym ends.1)
-      (ended h (answer.Say r) mid s said (λ b fresh.
-      elim ((look_tells s.first.tables caller number order b fresh s.first refl (answer.Say r) mid.state s.step).0) [
+  -- the look says a reply: it found no memory, or the order isn't new
+  look_said : (h : Hand) → IsValid h.state.tables → (said : Reply) (new : Hand) → Stepped h (Read (Look caller number order)) (answer.Say said) new
+      → PlacesOrder h caller number order said new
+  look_said h valid said new s =
+      ended h (answer.Say said) new s said (λ b fresh.
+      elim ((look_tells s.first.tables caller number order b fresh s.first refl (answer.Say said) new.state s.step).0) [
         | inl is ↦ absurd (cc)
         | inr is ↦
-            let memory : r ≡ reply.Memory = cc in
-            wanting s.first b said mid.state (is_release s.first.tables order.book b (valid_first h (answer.Say r) mid s valid) fresh.there) fresh.formed
-            (record { told = ends.0 ∙ ap plain memory; unchanged = ap (λ k. k.tables) (same_state h (answer.Say r) mid s) })
-      ]))
-  after_look h valid left (answer.Draft text revision) mid s said new ends = absurd ends
-  after_look h valid left answer.Placed mid s said new ends = absurd ends
-  after_look h valid left (answer.Kept kept r) mid s said new ends =
-      subst (λ (k : Hand). PlacesOrder h caller number order said k)
-      (sym (again_ends (outcome_of r.book kept.day kept.codes) r.book (reply.Placed false) mid said new ends))
-      (not_new h (answer.Kept kept r) mid s said (λ is. cc) (λ b is. cc))
-  after_look h valid left (answer.Book r) mid s said new (inl memory) =
+            let memory : said ≡ reply.Memory = cc in
+            wanting s.first b said new.state (is_release s.first.tables order.book b (valid_first h (answer.Say said) new s valid) fresh.there) fresh.formed
+            (record { told = memory; unchanged = ap (λ k. k.tables) (same_state h (answer.Say said) new s) })
+      ])
+
+  after_look : (h : Hand) → IsValid h.state.tables → 2 ≤ h.left → (l : Looked) (mid : Hand)
+      → Stepped h (Read (Look caller number order)) (as_looked l) mid → (said : Reply) (new : Hand)
+      → after_looking caller number order l mid said new → PlacesOrder h caller number order said new
+  after_look h valid left (Kept k) mid s said new ends =
+      subst (λ (n : Hand). PlacesOrder h caller number order said n)
+      (sym (again_ends (outcome_of k.book.book k.order.day k.order.codes) k.book.book (reply.Placed false) mid said new ends))
+      (not_new h (answer.Kept k.order k.book) mid s said (λ is. cc) (λ b is. cc))
+  after_look h valid left (Free r) mid s said new (inl memory) =
       subst (λ (k : Hand). PlacesOrder h caller number order said k) (sym memory.1) (no_memory h (answer.Book r) mid s said valid memory.0)
-  after_look h valid left (answer.Book r) mid s said new (inr goes) =
+  after_look h valid left (Free r) mid s said new (inr goes) =
       judged h r mid s valid left (outcome_of r.book order.day order.codes) refl said new goes
 
-  pub places_order : (h : Hand) (said : Said) (new : Hand) → IsValid h.state.tables → 2 ≤ h.left → ordering caller number order h said new
+  pub places_order : (h : Hand) (said : Reply) (new : Hand) → IsValid h.state.tables → 2 ≤ h.left → ordering caller number order h said new
       → PlacesOrder h caller number order said new
   places_order h said new valid left (inl memory) = inl memory
-  places_order h said new valid left (inr (a, mid, inl over, rest)) = absurd (omega (arith, over.none_left, left))
-  places_order h said new valid left (inr (a, mid, inr s, rest)) = after_look h valid left a mid s said new rest
+  places_order h said new valid left (inr (inl (inl over))) = absurd (omega (arith, over.none_left, left))
+  places_order h said new valid left (inr (inl (inr s))) = look_said h valid said new s
+  places_order h said new valid left (inr (inr (l, mid, inl over, rest))) = absurd (omega (arith, over.none_left, left))
+  places_order h said new valid left (inr (inr (l, mid, inr s, rest))) = after_look h valid left l mid s said new rest
 
   -- who is alone finds the desk as it was when the call began
-  pub places_alone : (h : Hand) (said : Said) (new : Hand) → h.book ≡ None → IsValid h.state.tables → 2 ≤ h.left
+  pub places_alone : (h : Hand) (said : Reply) (new : Hand) → h.book ≡ None → IsValid h.state.tables → 2 ≤ h.left
       → ordering caller number order h said new → (b : KeptBook) → IsNewOrder h.state.tables caller number order b
       → AcceptsExactly h.state caller number order b.released.book said new.state
   places_alone h said new alone valid left ends b fresh = by (places_order h said new valid left ends)

@@ -1,5 +1,5 @@
 -- What the tables tell of a draft that was taken, of a kept order, and of an order that is to be placed.
-use Rattle.std.proofs.Common.{◌≡◌, ℕ, ◌≤◌, Bool, true, false, cond, List, ◌∷◌, [], Option, Some, Result, Ok, Err, sym, ap, subst, ◌∙◌}
+use Rattle.std.proofs.Common.{◌≡◌, ℕ, ◌≤◌, Bool, true, false, cond, List, ◌∷◌, [], Some, Result, Ok, Err, sym, ap, subst, ◌∙◌}
 use Rattle.std.specs.Prelude.{IfOk, All}
 use Rattle.std.specs.List.{AllByRecursion}
 use Rattle.std.specs.Map.{lookup}
@@ -19,30 +19,20 @@ use Rattle.release.specs.declared.judging.Judged.TheVariants as judged
 use Rattle.order_desk.specs.declared.limits.TheConstants.{MOST_ORDER_NUMBER}
 use Rattle.release.specs.Release.{Release}
 use Rattle.desk_words.specs.declared.order_words.OrderWords.{OrderWords}
-use Rattle.order_desk.specs.declared.answer.Answer.{Answer}
-use Rattle.order_desk.specs.declared.answer.Answer.TheVariants as answer
 use Rattle.order_desk.specs.declared.kept_book.KeptBook.{KeptBook}
 use Rattle.order_desk.specs.declared.order_key.OrderKey.{OrderKey}
 use Rattle.order_desk.specs.Fits.{IsOrderUnder, IsPlaced}
 use Rattle.order_desk.specs.Judging.{accepts, is_accepted}
 use Rattle.order_desk.specs.Tables.{Tables, book_at, by_key}
 use Rattle.order_desk.specs.Valid.{IsValid}
-use Rattle.answering.specs.Told.{IsDraftOrReply, IsDraftThere, IsBookThere, IsOrderThere, TellsDraft}
+use Rattle.answering.specs.Told.{IsDraftThere, IsBookThere, IsOrderThere, TellsDraft, as_taken}
+use Rattle.answering.specs.declared.asked.Taken.{Taken}
 use Rattle.answering.specs.Answers.{TextBy}
 
-pub draft_or_reply : (name : List ℕ) (named : Option ℕ) (a : Answer) (t : Tables) → TellsDraft name named a t → IsDraftOrReply a
-draft_or_reply name named (answer.Say r) t tells = tt
-draft_or_reply name named (answer.Draft text revision) t tells = tt
-draft_or_reply name named (answer.Book r) t tells = tells
-draft_or_reply name named (answer.Kept order r) t tells = tells
-draft_or_reply name named answer.Placed t tells = tells
-
 -- the draft that was taken to be released
-pub draft_there : (name : List ℕ) (revision : ℕ) (a : Answer) (t : Tables) (text : List ℕ) (current : ℕ)
-    → TellsDraft name (Some revision) a t → a ≡ answer.Draft text current → IsDraftThere t name text revision
-draft_there name revision a t text current tells is =
-    let told = subst (λ (b : Answer). TellsDraft name (Some revision) b t) is tells in
-    subst (λ k. IsDraftThere t name text k) (sym told.1) told.0
+pub draft_there : (name : List ℕ) (revision : ℕ) (d : Taken) (t : Tables) → TellsDraft name (Some revision) (as_taken d) t
+    → IsDraftThere t name d.text revision
+draft_there name revision d t told = subst (λ k. IsDraftThere t name d.text k) (sym told.1) told.0
 
 -- what is found at a key is one of the entries
 found_among : {K X : Type 0} (P : K × X → Type 0) (test : K → Bool) (es : List (K × X)) (x : X)

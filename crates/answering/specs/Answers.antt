@@ -1,7 +1,7 @@
 -- How each call goes.
 --     IsCall what           a call that may be made: texts, budgets and numbers of orders are in their ranges
---     course_of call        the events of the call, and what is said
-use Rattle.std.specs.Prelude.{◌≡◌, ◌⊎◌, ℕ, ◌<◌, ◌≤◌, true, false, List, None, Some, Result, Ok, Err, length}
+--     course_of call        the events of the call, and what is replied
+use Rattle.std.specs.Prelude.{◌≡◌, ◌⊎◌, ℕ, ◌<◌, ◌≤◌, true, false, List, Option, None, Some, Result, Ok, Err, length}
 use Rattle.pb_base.specs.declared.limits.TheConstants.{MOST_TEXT_BYTES, MOST_BUDGET}
 use Rattle.book_model.specs.Contents.{Contents}
 use Rattle.book_model.specs.declared.record.Slice.{Slice}
@@ -30,13 +30,16 @@ use Rattle.desk_words.specs.declared.call.What.TheVariants as what
 use Rattle.desk_words.specs.declared.order_words.OrderWords.{OrderWords}
 use Rattle.desk_words.specs.declared.reply.Reply.{Reply}
 use Rattle.desk_words.specs.declared.reply.Reply.TheVariants as reply
-use Rattle.order_desk.specs.declared.answer.Answer.{Answer}
 use Rattle.order_desk.specs.declared.answer.Answer.TheVariants as answer
-use Rattle.order_desk.specs.declared.event.Event.TheVariants as event
+use Rattle.order_desk.specs.declared.event.Event.TheVariants.{PutDraft, GiveDraft, Commit, Withdraw, Place, Read}
+use Rattle.order_desk.specs.declared.event.Reading.TheVariants as reading
 use Rattle.order_desk.specs.declared.limits.TheConstants.{MOST_ORDER_NUMBER}
-use Rattle.answering.specs.Course.{Course, plain, ends, ends_with, never, or_memory, asks}
+use Rattle.answering.specs.Course.{Course, ends, ends_with, never, or_memory, says, asks}
 use Rattle.answering.specs.Hand.{Hand}
-use Rattle.answering.specs.declared.said.Said.{Said}
+use Rattle.answering.specs.Told.{as_kept, as_looked, as_placed, as_taken}
+use Rattle.answering.specs.declared.asked.KeptOrder.{KeptOrder}
+use Rattle.answering.specs.declared.asked.Looked.{Looked}
+use Rattle.answering.specs.declared.asked.Looked.TheVariants.{Free, Kept}
 
 -- a number of learnt clauses for each question
 abbrev pub IsBudget : ℕ → Type 0
@@ -49,23 +52,19 @@ IsCall (what.Release draft revision budget) = IsBudget budget
 IsCall (what.Order number order) = (1 ≤ number) × (number ≤ MOST_ORDER_NUMBER)
 IsCall _ = Unit {0}
 
--- an event whose answer always says a reply
-abbrev pub no_more : Answer → Course
-no_more answer = never
-
 -- ---- checks and releases
 
--- a report is told by its text and its notes, unless there is no memory for the text
-abbrev pub IsTold : (List ℕ → Reply) → Contents → List Note → Said → Type 0
-IsTold kind b notes said = (said ≡ record { reply = kind (report_text b notes); notes = notes }) ⊎ (said ≡ plain reply.Memory)
+-- a report is told by its text, unless there is no memory for that
+abbrev pub IsTold : (List ℕ → Reply) → Contents → List Note → Reply → Type 0
+IsTold kind b notes said = (said ≡ kind (report_text b notes)) ⊎ (said ≡ reply.Memory)
 
-abbrev pub by_limits : Result (List Slice) LimitFault → Contents → ℕ → Said → Type 0
-by_limits (Err fault) b budget said = said ≡ plain (reply.Limit fault)
+abbrev pub by_limits : Result (List Slice) LimitFault → Contents → ℕ → Reply → Type 0
+by_limits (Err fault) b budget said = said ≡ reply.Limit fault
 by_limits (Ok slices) b budget said =
     (notes : List Note) × IsReport (record { book = b; ask = ask.All; budget = budget }) notes × IsTold reply.Report b notes said
 
-abbrev pub by_reading : Result Contents BookFault → ℕ → Said → Type 0
-by_reading (Err fault) budget said = said ≡ plain (reply.TextRefused fault)
+abbrev pub by_reading : Result Contents BookFault → ℕ → Reply → Type 0
+by_reading (Err fault) budget said = said ≡ reply.TextRefused fault
 by_reading (Ok b) budget said = by_limits (slices_within b) b budget said
 
 -- why a text isn't checked, as it is told
@@ -74,41 +73,49 @@ unchecked (not_checked.Text fault) = reply.TextRefused fault
 unchecked (not_checked.Limit fault) = reply.Limit fault
 
 -- what the check of a text comes to
-abbrev pub IsChecked : List ℕ → ℕ → Said → Type 0
-IsChecked text budget said = (said ≡ plain reply.Memory) ⊎ by_reading (book_of text) budget said
-
-abbrev pub after_taking : ℕ → Answer → Course
-after_taking budget (answer.Draft text revision) = ends (IsChecked text budget)
-after_taking budget other = never
+abbrev pub IsChecked : List ℕ → ℕ → Reply → Type 0
+IsChecked text budget said = (said ≡ reply.Memory) ⊎ by_reading (book_of text) budget said
 
 abbrev pub checking : List ℕ → List ℕ → ℕ → Course
-checking caller draft budget = asks (event.TakeDraft caller draft None) (after_taking budget)
+checking caller draft budget = asks (Read (reading.Take caller draft None)) as_taken (λ d. ends (IsChecked d.text budget))
 
 -- why a text isn't released, as it is told
-abbrev pub IsToldAs : NotReleased → Said → Type 0
-IsToldAs (kept_back.Text fault) said = said ≡ plain (reply.TextRefused fault)
+abbrev pub IsToldAs : NotReleased → Reply → Type 0
+IsToldAs (kept_back.Text fault) said = said ≡ reply.TextRefused fault
 IsToldAs (kept_back.Found b report) said = IsTold reply.Found b report said
 IsToldAs (kept_back.Undecided b report) said = IsTold reply.Undecided b report said
-IsToldAs (kept_back.Limit fault) said = said ≡ plain (reply.Limit fault)
+IsToldAs (kept_back.Limit fault) said = said ≡ reply.Limit fault
 
-abbrev pub IsKeptBack : List ℕ → ℕ → Said → Type 0
+abbrev pub IsKeptBack : List ℕ → ℕ → Reply → Type 0
 IsKeptBack text budget said = (why : NotReleased) × IsRefusal text budget why × IsToldAs why said
 
 -- some release of this text is handed to the desk
 abbrev pub commits : List ℕ → List ℕ → ℕ → List ℕ → Course
 commits caller draft revision text h said new =
-    (r : Release) × (r.text ≡ text) × IsRelease r × asks (event.Commit caller draft revision r) no_more h said new
+    (r : Release) × (r.text ≡ text) × IsRelease r × says (Commit caller draft revision r) h said new
 
 abbrev pub either : Course → Course → Course
 either c d h said new = c h said new ⊎ d h said new
 
-abbrev pub to_release : List ℕ → List ℕ → ℕ → ℕ → Answer → Course
-to_release caller draft revision budget (answer.Draft text current) =
+abbrev pub to_release : List ℕ → List ℕ → ℕ → ℕ → List ℕ → Course
+to_release caller draft revision budget text =
     or_memory (either (ends (IsKeptBack text budget)) (commits caller draft revision text))
-to_release caller draft revision budget other = never
 
 abbrev pub releasing : List ℕ → List ℕ → ℕ → ℕ → Course
-releasing caller draft revision budget = asks (event.TakeDraft caller draft (Some revision)) (to_release caller draft revision budget)
+releasing caller draft revision budget =
+    asks (Read (reading.Take caller draft (Some revision))) as_taken (λ d. to_release caller draft revision budget d.text)
+
+-- ---- books
+
+abbrev pub text_shown : Release → Reply
+text_shown r = reply.Raw r.text
+
+abbrev pub cert_shown : Release → Reply
+cert_shown r = reply.Cert r.cert
+
+-- something of a book is copied outside the turn
+abbrev pub showing : ℕ → (Release → Reply) → Course
+showing book kind = asks (Read (reading.Book book)) answer.Book (λ r. or_memory (ends_with (kind r)))
 
 -- ---- orders
 
@@ -134,42 +141,40 @@ by_outcome (Ok (outcome.Unfit position count)) b next = never
 by_outcome (Err fault) b next = ends_with (reply.OrderFault fault)
 
 -- behind the last event of an order; the text was made before it
-abbrev pub after_placing : List ℕ → Answer → Course
-after_placing text answer.Placed = ends_with (reply.Placed true text)
-after_placing text (answer.Kept kept r) = told_again r kept (reply.Placed false)
-after_placing text other = never
+abbrev pub after_placing : List ℕ → Option KeptOrder → Course
+after_placing text None = ends_with (reply.Placed true text)
+after_placing text (Some k) = told_again k.book k.order (reply.Placed false)
 
 abbrev pub placing : List ℕ → ℕ → OrderWords → List ℕ → Course
-placing caller number order text = asks (event.Place caller number order) (after_placing text)
+placing caller number order text = asks (Place caller number order) as_placed (after_placing text)
 
-abbrev pub after_looking : List ℕ → ℕ → OrderWords → Answer → Course
-after_looking caller number order (answer.Book r) =
+abbrev pub after_looking : List ℕ → ℕ → OrderWords → Looked → Course
+after_looking caller number order (Free r) =
     or_memory (by_outcome (outcome_of r.book order.day order.codes) r.book (placing caller number order))
-after_looking caller number order (answer.Kept kept r) = told_again r kept (reply.Placed false)
-after_looking caller number order other = never
+after_looking caller number order (Kept k) = told_again k.book k.order (reply.Placed false)
 
 abbrev pub ordering : List ℕ → ℕ → OrderWords → Course
-ordering caller number order = or_memory (asks (event.Look caller number order) (after_looking caller number order))
+ordering caller number order =
+    or_memory (asks (Read (reading.Look caller number order)) as_looked (after_looking caller number order))
 
-abbrev pub after_reading : Answer → Course
-after_reading (answer.Kept kept r) = told_again r kept (reply.OrderIs kept.book kept.day)
-after_reading other = never
+abbrev pub after_reading : KeptOrder → Course
+after_reading k = told_again k.book k.order (reply.OrderIs k.order.book k.order.day)
 
 -- ---- all calls
 
 abbrev pub course_of : List ℕ → What → Course
-course_of caller (what.PutDraft draft text) = asks (event.PutDraft caller draft text) no_more
-course_of caller (what.GiveDraft draft to) = asks (event.GiveDraft caller draft to) no_more
-course_of caller (what.ReadDraft draft) = asks (event.ReadDraft draft) no_more
-course_of caller (what.ReadOwner draft) = asks (event.ReadOwner draft) no_more
+course_of caller (what.PutDraft draft text) = says (PutDraft caller draft text)
+course_of caller (what.GiveDraft draft to) = says (GiveDraft caller draft to)
+course_of caller (what.ReadDraft draft) = says (Read (reading.Draft draft))
+course_of caller (what.ReadOwner draft) = says (Read (reading.Owner draft))
 course_of caller (what.Check draft budget) = checking caller draft budget
 course_of caller (what.Release draft revision budget) = releasing caller draft revision budget
-course_of caller (what.ReadBook book) = asks (event.ReadBook book) no_more
-course_of caller (what.ReadCert book) = asks (event.ReadCert book) no_more
-course_of caller (what.Withdraw book) = asks (event.Withdraw caller book) no_more
+course_of caller (what.ReadBook book) = showing book text_shown
+course_of caller (what.ReadCert book) = showing book cert_shown
+course_of caller (what.Withdraw book) = says (Withdraw caller book)
 course_of caller (what.Order number order) = ordering caller number order
-course_of caller (what.ReadOrder number) = asks (event.ReadOrder caller number) after_reading
+course_of caller (what.ReadOrder number) = asks (Read (reading.Order caller number)) as_kept after_reading
 
--- the call is answered with a reply and notes
-abbrev pub Answers : Call → Hand → Said → Hand → Type 0
+-- the call is answered with this reply
+abbrev pub Answers : Call → Hand → Reply → Hand → Type 0
 Answers call h said new = course_of call.caller call.what h said new

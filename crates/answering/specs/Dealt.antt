@@ -15,7 +15,6 @@ use Rattle.order_desk.specs.Tables.{Tables, book_at}
 use Rattle.order_desk.specs.Valid.{IsValid}
 use Rattle.answering.specs.Hand.{Hand}
 use Rattle.answering.specs.Headline.{PlacesOrder}
-use Rattle.answering.specs.declared.said.Said.{Said}
 
 pub record IsReleasedAt (t : Tables) (number : ℕ) : Type 0 where
   pub book : KeptBook
@@ -27,8 +26,8 @@ abbrev pub NamesReleased : Reply → Tables → Type 0
 NamesReleased (BookIs number fresh) t = IsReleasedAt t number
 NamesReleased _ t = Unit {0}
 
-pub record IsDealt (call : Call) (h : Hand) (said : Said) (new : Hand) : Type 0 where
+pub record IsDealt (call : Call) (h : Hand) (said : Reply) (new : Hand) : Type 0 where
   pub valid : IsValid new.state.tables
   pub order : (number : ℕ) (order : OrderWords) → call.what ≡ Order number order → 2 ≤ h.left
       → PlacesOrder h call.caller number order said new
-  pub book : NamesReleased said.reply new.state.tables
+  pub book : NamesReleased said new.state.tables

@@ -15,17 +15,17 @@ use Rattle.parts_usage.specs.Broken.{first_broken_of}
 use Rattle.order_text.specs.OutcomeText.{accepted_text, construct_id}
 use Rattle.release.specs.Orders.{HasOneList, IsWellFormed, can_be_built, supplemented}
 use Rattle.desk_words.specs.declared.order_words.OrderWords.{OrderWords}
+use Rattle.desk_words.specs.declared.reply.Reply.{Reply}
 use Rattle.desk_words.specs.declared.reply.Reply.TheVariants as reply
 use Rattle.order_desk.specs.declared.answer.Answer.{Answer}
 use Rattle.order_desk.specs.declared.event.Event.{Event}
-use Rattle.order_desk.specs.declared.event.Event.TheVariants.{Look, Place}
+use Rattle.order_desk.specs.declared.event.Event.TheVariants.{Place, Read}
+use Rattle.order_desk.specs.declared.event.Reading.TheVariants.{Look}
 use Rattle.order_desk.specs.declared.kept_book.KeptBook.{KeptBook}
 use Rattle.order_desk.specs.declared.limits.TheConstants.{MOST_ORDERS}
 use Rattle.order_desk.specs.Tables.{Tables, State, book_at, key_of, order_at, with_order}
-use Rattle.answering.specs.Course.{plain}
 use Rattle.answering.specs.Hand.{Hand, Stepped}
 use Rattle.answering.specs.LaterHand.{IsLaterHand}
-use Rattle.answering.specs.declared.said.Said.{Said}
 
 pub record IsNewOrder (t : Tables) (caller : List ℕ) (number : ℕ) (order : OrderWords) (b : KeptBook) : Type 0 where
   pub there : book_at t.books order.book ≡ Some b
@@ -37,25 +37,25 @@ pub record IsNewOrder (t : Tables) (caller : List ℕ) (number : ℕ) (order : O
 abbrev pub list_text : Contents → ℕ → List (List ℕ) → List ℕ
 list_text b day names = let x = supplemented b day names in accepted_text b x (parts b day x)
 
-pub record WantsMemory (old : State) (said : Said) (new : State) : Type 0 where
-  pub told : said ≡ plain reply.Memory
+pub record WantsMemory (old : State) (said : Reply) (new : State) : Type 0 where
+  pub told : said ≡ reply.Memory
   pub unchanged : new.tables ≡ old.tables
 
-pub record IsUnwritten (old : State) (said : Said) (new : State) : Type 0 where
-  pub told : said ≡ plain (reply.StoreFault old.faults.count new.faults.count)
+pub record IsUnwritten (old : State) (said : Reply) (new : State) : Type 0 where
+  pub told : said ≡ reply.StoreFault old.faults.count new.faults.count
   pub fails : Fails old.faults new.faults
   pub unchanged : new.tables ≡ old.tables
 
-module _ (old : State) (caller : List ℕ) (number : ℕ) (order : OrderWords) (b : Contents) (said : Said) (new : State) where
+module _ (old : State) (caller : List ℕ) (number : ℕ) (order : OrderWords) (b : Contents) (said : Reply) (new : State) where
   pub record IsAccepted : Type 0 where
-    pub printed : said ≡ plain (reply.Placed true (list_text b order.day order.codes))
+    pub printed : said ≡ reply.Placed true (list_text b order.day order.codes)
     pub kept : new.tables ≡ with_order old.tables (key_of caller number) order
     pub count : new.faults.count ≡ old.faults.count
 
   pub record IsRefused : Type 0 where
     pub rule : ℕ
     pub first : first_broken_of b order.day (supplemented b order.day order.codes) ≡ Some rule
-    pub told : said ≡ plain (reply.Refused (construct_id b rule))
+    pub told : said ≡ reply.Refused (construct_id b rule)
     pub unchanged : new ≡ old
 
   pub record AcceptsExactly : Type 0 where
@@ -69,14 +69,14 @@ pub record LastStep (h : Hand) (caller : List ℕ) (number : ℕ) (order : Order
   pub between : Hand
   pub event : Event
   pub answer : Answer
-  pub its_event : (event ≡ Look caller number order) ⊎ (event ≡ Place caller number order)
+  pub its_event : (event ≡ Read (Look caller number order)) ⊎ (event ≡ Place caller number order)
   pub before : IsLaterHand h between
   pub step : Stepped between event answer new
   pub at_once : h.book ≡ None → step.first ≡ h.state
 
-abbrev pub PlacesOrder : Hand → List ℕ → ℕ → OrderWords → Said → Hand → Type 0
+abbrev pub PlacesOrder : Hand → List ℕ → ℕ → OrderWords → Reply → Hand → Type 0
 PlacesOrder h caller number order said new =
-    ((said ≡ plain reply.Memory) × (new ≡ h))
+    ((said ≡ reply.Memory) × (new ≡ h))
     ⊎ ((last : LastStep h caller number order new)
     × ((b : KeptBook) → IsNewOrder last.step.first.tables caller number order b
     → AcceptsExactly last.step.first caller number order b.released.book said new.state))

@@ -46,13 +46,14 @@ impl<P: Keeper> Turns for Alone<P> {
     ghost hand = { λ a. hand_alone a };
 
     fn left(&self) -> u64 {
-        let _counts = self.desk.counts();
+        self.desk.valid_law();
         self.left
     }
 
+    #[tactic(auto, using(crate::proofs::ToldLaws::tells_taken))]
     fn step(&mut self, event: Event) -> Answer {
         if self.left == 0 {
-            let _counts = self.desk.counts();
+            self.desk.valid_law();
             return Answer::Say(Reply::Full(FullOf::Calls));
         }
         self.left -= 1;

@@ -1,23 +1,21 @@
 //! Calls that check a draft or release it.
-ghost use Rattle.std.specs.Prelude.{◌≡◌, ℕ, ◌<◌, ◌≤◌, IfErr, IfOk, OnErr};
+ghost use Rattle.std.specs.Prelude.{◌≡◌, ◌<◌, ◌≤◌, IfOk, OnErr};
 ghost use Rattle.desk_words.specs.declared.reply.Reply.TheVariants as Reply;
-ghost use Rattle.order_desk.specs.declared.answer.Answer.TheVariants as Answer;
 ghost use Rattle.order_desk.specs.declared.event.Event.TheVariants as Event;
 ghost use Rattle.order_desk.specs.Fits.{IsReleaseOf};
-ghost use Rattle.answering.specs.Answers.{IsChecked, IsKeptBack, IsTold, IsToldAs, checking, commits, either, no_more, releasing, unchecked};
-ghost use Rattle.answering.specs.Course.{asks, ends, or_memory, plain};
-ghost use Rattle.answering.specs.Told.{IsDraftOrReply, IsDraftThere};
+ghost use Rattle.answering.specs.Answers.{IsChecked, IsTold, IsToldAs, checking, releasing, to_release, unchecked};
+ghost use Rattle.answering.specs.Course.{or_memory, says};
+ghost use Rattle.answering.specs.Told.{IsDraftThere};
 ghost use Rattle.pb_base.specs.declared.limits.TheConstants.{MOST_BUDGET};
 
-use crate::one_event::one_event;
-use crate::said::Said;
+use crate::asked::{Taken, ask, ask_draft};
+use crate::gate::Gate;
 use crate::turns::Turns;
 use book_model::Book;
 use desk_words::Reply;
 use findings::Report;
-use order_desk::{Answer, Event, SharedBook};
+use order_desk::{Event, SharedBook};
 use pb_base::{Body, Fail, Id, Memory};
-use pb_gate::Gate;
 use pb_reports::report_text;
 use release::Released;
 use release_check::{NotChecked, NotReleased, ReportedBook, check_text, try_release};
@@ -31,78 +29,57 @@ pub(crate) fn check_draft<T: Turns, G: Gate>(
     caller: Id,
     draft: Id,
     budget: u32,
-) -> Said
+) -> Reply
     requires some { 0 < budget }
     requires most { budget ≤ MOST_BUDGET }
     ensures { checking caller draft budget (T.hand turns.old) result (T.hand turns.new) }
 {
-    let answer = turns.step(Event::TakeDraft {
-        caller,
-        draft,
-        revision: None,
-    });
-    match text_of(answer) {
-        Ok(text) => {
+    match ask_draft(turns, caller, draft, None) {
+        Ok(taken) => {
             gate.judging(&caller);
-            judge_text(alloc, text.as_slice(), budget)
+            judge_text(alloc, taken.text.as_slice(), budget)
         }
-        Err(reply) => Said::plain(alloc, reply),
-    }
-}
-
-// The text of a draft, or the reply that there is in its place.
-fn text_of(answer: Answer) -> Result<Body, Reply>
-    requires { IsDraftOrReply answer }
-    ensures text { IfOk result (λ text. (revision : ℕ) × (answer ≡ Answer.Draft text revision)) }
-    ensures reply { IfErr result (λ reply. answer ≡ Answer.Say reply) }
-{
-    match answer {
-        Answer::Say(reply) => Err(reply),
-        Answer::Draft { text, revision: _ } => Ok(text),
-        Answer::Book(_) => unreachable!(),
-        Answer::Kept { .. } => unreachable!(),
-        Answer::Placed => unreachable!(),
+        Err(reply) => reply,
     }
 }
 
 // The report of all questions about a text, or why there is none.
-fn judge_text(alloc: Global, text: &[u8], budget: u32) -> Said
+fn judge_text(alloc: Global, text: &[u8], budget: u32) -> Reply
     requires some { 0 < budget }
     requires most { budget ≤ MOST_BUDGET }
     ensures { IsChecked text.now budget result }
 {
     match check_text(alloc, text, budget) {
-        Ok(ReportedBook { book, report }) => reported(alloc, &book, report),
-        Err(Fail::Refused(why)) => not_checked(alloc, why),
-        Err(Fail::Memory) => Said::plain(alloc, Reply::Memory),
+        Ok(ReportedBook { book, report }) => reported(alloc, &book, &report),
+        Err(Fail::Refused(why)) => not_checked(why),
+        Err(Fail::Memory) => Reply::Memory,
     }
 }
 
-fn reported(alloc: Global, book: &Book, report: Report) -> Said
-    ensures { IsTold Reply.Report book.now report result }
+fn reported(alloc: Global, book: &Book, report: &Report) -> Reply
+    ensures { IsTold Reply.Report book.now report.now result }
 {
-    let reply = report_text(alloc, book, &report).map(Reply::Report);
-    told(alloc, reply, report)
+    told(report_text(alloc, book, report).map(Reply::Report))
 }
 
 // Why a text isn't checked, as it is told.
-fn not_checked(alloc: Global, why: NotChecked) -> Said
-    ensures { result ≡ plain (unchecked why) }
+fn not_checked(why: NotChecked) -> Reply
+    ensures { result ≡ unchecked why }
 {
     match why {
-        NotChecked::Text(fault) => Said::plain(alloc, Reply::TextRefused(fault)),
-        NotChecked::Limit(fault) => Said::plain(alloc, Reply::Limit(fault)),
+        NotChecked::Text(fault) => Reply::TextRefused(fault),
+        NotChecked::Limit(fault) => Reply::Limit(fault),
     }
 }
 
-// A reply that gives a report, with the report's notes, unless there is no memory for its text.
-fn told(alloc: Global, reply: Result<Reply, Memory>, notes: Report) -> Said
-    ensures told { IfOk reply (λ reply. result ≡ record { reply = reply; notes = notes }) }
-    ensures memory { OnErr reply (result ≡ plain Reply.Memory) }
+// A reply that gives a report, unless there is no memory for its text.
+fn told(reply: Result<Reply, Memory>) -> Reply
+    ensures told { IfOk reply (λ reply. result ≡ reply) }
+    ensures memory { OnErr reply (result ≡ Reply.Memory) }
 {
     match reply {
-        Ok(reply) => Said { reply, notes },
-        Err(Memory) => Said::plain(alloc, Reply::Memory),
+        Ok(reply) => reply,
+        Err(Memory) => Reply::Memory,
     }
 }
 
@@ -121,57 +98,52 @@ pub(crate) fn release_draft<T: Turns, G: Gate>(
     gate: &G,
     asked: &Asked,
     budget: u32,
-) -> Said
+) -> Reply
     requires some { 0 < budget }
     requires most { budget ≤ MOST_BUDGET }
     ensures { releasing asked.now.caller asked.now.draft asked.now.revision budget
         (T.hand turns.old) result (T.hand turns.new) }
 {
-    let answer = turns.step(Event::TakeDraft {
-        caller: asked.caller,
-        draft: asked.draft,
-        revision: Some(asked.revision),
-    });
-    match text_of(answer) {
-        Ok(text) => {
+    match ask_draft(turns, asked.caller, asked.draft, Some(asked.revision)) {
+        Ok(taken) => {
             gate.judging(&asked.caller);
-            release_text(alloc, turns, asked, text, budget)
+            release_taken(alloc, turns, asked, taken, budget)
         }
-        Err(reply) => Said::plain(alloc, reply),
+        Err(reply) => reply,
     }
 }
 
-fn release_text<T: Turns>(
+fn release_taken<T: Turns>(
     alloc: Global,
     turns: &mut T,
     asked: &Asked,
-    text: Body,
+    taken: Taken,
     budget: u32,
-) -> Said
+) -> Reply
     requires some { 0 < budget }
     requires most { budget ≤ MOST_BUDGET }
-    requires there { IsDraftThere (T.hand turns.old).state.tables asked.now.draft text asked.now.revision }
-    ensures { or_memory (either (ends (IsKeptBack text budget))
-        (commits asked.now.caller asked.now.draft asked.now.revision text))
+    requires there { IsDraftThere (T.hand turns.old).state.tables asked.now.draft taken.text
+        asked.now.revision }
+    ensures { to_release asked.now.caller asked.now.draft asked.now.revision budget taken.text
         (T.hand turns.old) result (T.hand turns.new) }
 {
+    let Taken { text, revision: _ } = taken;
     match try_release(alloc, text, budget) {
         Ok(released) => commit(alloc, turns, asked, released),
         Err(Fail::Refused(why)) => kept_back(alloc, why),
-        Err(Fail::Memory) => Said::plain(alloc, Reply::Memory),
+        Err(Fail::Memory) => Reply::Memory,
     }
 }
 
-fn commit<T: Turns>(alloc: Global, turns: &mut T, asked: &Asked, released: Released) -> Said
+fn commit<T: Turns>(alloc: Global, turns: &mut T, asked: &Asked, released: Released) -> Reply
     requires { let drafts = (T.hand turns.old).state.tables.drafts in
         IsReleaseOf drafts asked.now.draft asked.now.revision released }
     ensures { or_memory
-        (asks (Event.Commit asked.now.caller asked.now.draft asked.now.revision released) no_more)
+        (says (Event.Commit asked.now.caller asked.now.draft asked.now.revision released))
         (T.hand turns.old) result (T.hand turns.new) }
 {
     match SharedBook::new(alloc, released) {
-        Ok(released) => one_event(
-            alloc,
+        Ok(released) => ask(
             turns,
             Event::Commit {
                 caller: asked.caller,
@@ -180,24 +152,22 @@ fn commit<T: Turns>(alloc: Global, turns: &mut T, asked: &Asked, released: Relea
                 released,
             },
         ),
-        Err(Memory) => Said::plain(alloc, Reply::Memory),
+        Err(Memory) => Reply::Memory,
     }
 }
 
 // Why a text isn't released, as it is told.
-fn kept_back(alloc: Global, why: NotReleased) -> Said
+fn kept_back(alloc: Global, why: NotReleased) -> Reply
     ensures { IsToldAs why result }
 {
     match why {
-        NotReleased::Text(fault) => Said::plain(alloc, Reply::TextRefused(fault)),
-        NotReleased::Limit(fault) => Said::plain(alloc, Reply::Limit(fault)),
+        NotReleased::Text(fault) => Reply::TextRefused(fault),
+        NotReleased::Limit(fault) => Reply::Limit(fault),
         NotReleased::Found { book, report } => {
-            let reply = report_text(alloc, &book, &report).map(Reply::Found);
-            told(alloc, reply, report)
+            told(report_text(alloc, &book, &report).map(Reply::Found))
         }
         NotReleased::Undecided { book, report } => {
-            let reply = report_text(alloc, &book, &report).map(Reply::Undecided);
-            told(alloc, reply, report)
+            told(report_text(alloc, &book, &report).map(Reply::Undecided))
         }
     }
 }

@@ -3,6 +3,7 @@ ghost use Rattle.std.specs.Prelude.{◌≡◌, ℕ, ◌≤◌, None, Some};
 ghost use Rattle.desk_words.specs.declared.call.Call.{Call};
 ghost use Rattle.desk_words.specs.declared.call.What.TheVariants as What;
 ghost use Rattle.desk_words.specs.declared.order_words.OrderWords.{OrderWords};
+ghost use Rattle.desk_words.specs.declared.reply.Reply.{Reply};
 ghost use Rattle.order_desk.specs.declared.kept_book.KeptBook.{KeptBook};
 ghost use Rattle.order_desk.specs.Tables.{Tables, book_at};
 ghost use Rattle.order_desk.specs.Valid.{IsValid};
@@ -10,7 +11,6 @@ ghost use Rattle.answering.specs.Answers.{Answers};
 ghost use Rattle.answering.specs.Dealt.{IsDealt, IsReleasedAt};
 ghost use Rattle.answering.specs.Hand.{Hand};
 ghost use Rattle.answering.specs.Headline.{AcceptsExactly, IsNewOrder, PlacesOrder};
-ghost use Rattle.answering.specs.declared.said.Said.{Said};
 
 /// What the call of an order comes to, whoever else makes steps of the desk meanwhile. Where the order is new when the call's last
 /// event begins, it is accepted exactly where its supplemented codes break no constructibility rule, memory and store allowing,
@@ -18,15 +18,15 @@ ghost use Rattle.answering.specs.declared.said.Said.{Said};
 /// call began. The holder must have seen valid tables, and have the two steps left that such a call may take. Each book of valid
 /// tables can be released, and so can one that a reply tells as a draft's. The call does nothing.
 pub fn headline_laws()
-    ensures orders { (call : Call) (number : ℕ) (order : OrderWords) (h : Hand) (said : Said) (new : Hand)
+    ensures orders { (call : Call) (number : ℕ) (order : OrderWords) (h : Hand) (said : Reply) (new : Hand)
         → call.what ≡ What.Order number order → IsValid h.state.tables → 2 ≤ h.left
         → Answers call h said new → PlacesOrder h call.caller number order said new }
-    ensures alone { (call : Call) (number : ℕ) (order : OrderWords) (h : Hand) (said : Said) (new : Hand)
+    ensures alone { (call : Call) (number : ℕ) (order : OrderWords) (h : Hand) (said : Reply) (new : Hand)
         (b : KeptBook) → call.what ≡ What.Order number order → IsValid h.state.tables → 2 ≤ h.left
         → Answers call h said new → h.book ≡ None → IsNewOrder h.state.tables call.caller number order b
         → AcceptsExactly h.state call.caller number order b.released.book said new.state }
     ensures books { (t : Tables) (number : ℕ) (b : KeptBook) → IsValid t → book_at t.books number ≡ Some b
         → IsReleasedAt t number }
-    ensures calls { (call : Call) (h : Hand) (said : Said) (new : Hand) → IsValid h.state.tables
+    ensures calls { (call : Call) (h : Hand) (said : Reply) (new : Hand) → IsValid h.state.tables
         → Answers call h said new → IsDealt call h said new }
 {}

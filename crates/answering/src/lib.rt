@@ -2,18 +2,20 @@
 #![tactic(auto)]
 
 mod alone;
+mod asked;
+mod books;
 mod calls;
 mod drafts;
+mod gate;
 mod headline;
-mod one_event;
+mod names;
 mod orders;
-mod said;
 mod seat;
 mod turns;
 
 pub use alone::Alone;
 pub use calls::answer_call;
+pub use gate::{Gate, NoGate};
 pub use headline::headline_laws;
-pub use said::Said;
 pub use seat::Seat;
-pub use turns::Turns;
+pub use turns::{Turns, valid_law};

@@ -7,22 +7,23 @@ ghost use Rattle.parts_usage.specs.Outcome.{outcome_of};
 ghost use Rattle.order_text.specs.OutcomeText.{construct_id, outcome_text};
 ghost use Rattle.desk_words.specs.declared.reply.Reply.TheVariants as Reply;
 ghost use Rattle.order_desk.specs.declared.event.Event.TheVariants as Event;
+ghost use Rattle.order_desk.specs.declared.event.Reading.TheVariants as Reading;
 ghost use Rattle.order_desk.specs.declared.limits.TheConstants.{MOST_ORDER_NUMBER};
 ghost use Rattle.order_desk.specs.Fits.{IsOrderUnder};
-ghost use Rattle.order_desk.specs.Judging.{accepts};
 ghost use Rattle.answering.specs.Answers.{TextBy, after_looking, after_reading, by_outcome, ordering, placing, told_again};
 ghost use Rattle.answering.specs.Course.{asks, or_memory};
 ghost use Rattle.answering.specs.Hand.{Hand};
-ghost use Rattle.answering.specs.Told.{IsBookThere};
+ghost use Rattle.answering.specs.Told.{BookAccepts, IsBookThere, as_kept, as_looked};
 
-use crate::said::Said;
+use crate::asked::{KeptOrder, Looked, ask_number, ask_order, ask_place};
+use crate::gate::Gate;
+use crate::names::{code_names_law, name_law};
 use crate::turns::Turns;
 use book_model::Book;
 use desk_words::{OrderWords, Reply};
-use order_desk::{Answer, Event, SharedBook};
+use order_desk::SharedBook;
 use parts_usage::OrderFault;
-use pb_base::{Body, CodeList, Fail, Id, Memory};
-use pb_gate::Gate;
+use pb_base::{Body, Fail, Id, Memory};
 use release::{Judged, judge, judged_text};
 use std::alloc::Global;
 
@@ -34,33 +35,44 @@ pub(crate) fn place_order<T: Turns, G: Gate>(
     caller: Id,
     number: u32,
     order: OrderWords,
-) -> Said
+) -> Reply
     requires least { 1 ≤ number }
     requires most { number ≤ MOST_ORDER_NUMBER }
     ensures { ordering caller number order (T.hand turns.old) result (T.hand turns.new) }
 {
     match order.copy(alloc) {
-        Ok(copy) => {
-            let answer = turns.step(Event::Look {
-                caller,
-                number,
-                order: copy,
-            });
-            match answer {
-                Answer::Say(reply) => Said::plain(alloc, reply),
-                Answer::Book(book) => {
-                    gate.judging(&caller);
-                    judge_and_place(alloc, turns, caller, number, order, &book)
-                }
-                Answer::Kept { order: kept, book } => {
-                    gate.judging(&caller);
-                    tell_placed(alloc, &kept, &book)
-                }
-                Answer::Draft { .. } => unreachable!(),
-                Answer::Placed => unreachable!(),
-            }
+        Ok(copy) => look_and_place(alloc, turns, gate, caller, number, order, copy),
+        Err(Memory) => Reply::Memory,
+    }
+}
+
+// The look takes the order, and it is needed again.
+fn look_and_place<T: Turns, G: Gate>(
+    alloc: Global,
+    turns: &mut T,
+    gate: &G,
+    caller: Id,
+    number: u32,
+    order: OrderWords,
+    copy: OrderWords,
+) -> Reply
+    requires least { 1 ≤ number }
+    requires most { number ≤ MOST_ORDER_NUMBER }
+    requires same { copy ≡ order }
+    ensures { let event = Event.Read (Reading.Look caller number order) in
+        asks event as_looked (after_looking caller number order)
+        (T.hand turns.old) result (T.hand turns.new) }
+{
+    match ask_number(turns, caller, number, copy) {
+        Ok(Looked::Free(book)) => {
+            gate.judging(&caller);
+            judge_and_place(alloc, turns, caller, number, order, &book)
         }
-        Err(Memory) => Said::plain(alloc, Reply::Memory),
+        Ok(Looked::Kept(kept)) => {
+            gate.judging(&caller);
+            tell_placed(alloc, &kept)
+        }
+        Err(reply) => reply,
     }
 }
 
@@ -72,7 +84,7 @@ fn judge_and_place<T: Turns>(
     number: u32,
     order: OrderWords,
     book: &SharedBook,
-) -> Said
+) -> Reply
     requires least { 1 ≤ number }
     requires most { number ≤ MOST_ORDER_NUMBER }
     requires there { IsBookThere (T.hand turns.old).state.tables order.book book.now }
@@ -81,18 +93,16 @@ fn judge_and_place<T: Turns>(
         (T.hand turns.old) result (T.hand turns.new) }
 {
     match judge_by(alloc, book, &order) {
-        Ok(Judged::Refused(rule)) => {
-            Said::plain(alloc, Reply::Refused(rule_id(book.released().book(), rule)))
-        }
+        Ok(Judged::Refused(rule)) => Reply::Refused(rule_id(book.released().book(), rule)),
         Ok(Judged::Accepted { set, list }) => {
             let judged = Judged::Accepted { set, list };
             match text_by(alloc, book, &judged) {
                 Ok(text) => place(alloc, turns, caller, number, order, text),
-                Err(Memory) => Said::plain(alloc, Reply::Memory),
+                Err(Memory) => Reply::Memory,
             }
         }
-        Err(Fail::Refused(fault)) => Said::plain(alloc, Reply::OrderFault(fault)),
-        Err(Fail::Memory) => Said::plain(alloc, Reply::Memory),
+        Err(Fail::Refused(fault)) => Reply::OrderFault(fault),
+        Err(Fail::Memory) => Reply::Memory,
     }
 }
 
@@ -130,89 +140,65 @@ fn place<T: Turns>(
     number: u32,
     order: OrderWords,
     text: Body,
-) -> Said
+) -> Reply
     requires { (All (λ code. is_code_name code ≡ true) order.codes)
         → IsOrderUnder (T.hand turns.old).state.tables.books number order }
     ensures { placing caller number order text (T.hand turns.old) result (T.hand turns.new) }
 {
-    let _caller = caller.bytes();
-    names_law(&order.codes);
-    let answer = turns.step(Event::Place {
-        caller,
-        number,
-        order,
-    });
-    match answer {
-        Answer::Say(reply) => Said::plain(alloc, reply),
-        Answer::Placed => Said::plain(alloc, Reply::Placed { fresh: true, text }),
-        Answer::Kept { order: kept, book } => tell_placed(alloc, &kept, &book),
-        Answer::Draft { .. } => unreachable!(),
-        Answer::Book(_) => unreachable!(),
-    }
-}
-
-// The codes of an order are code names. It does nothing.
-fn names_law(codes: &CodeList)
-    ensures { All (λ code. is_code_name code ≡ true) codes.now }
-{
-    for code in codes.as_slice() {
-        let _code = code.bytes();
+    name_law(&caller);
+    code_names_law(&order.codes);
+    match ask_place(turns, caller, number, order) {
+        Ok(None) => Reply::Placed { fresh: true, text },
+        Ok(Some(kept)) => tell_placed(alloc, &kept),
+        Err(reply) => reply,
     }
 }
 
 // Tells that an order is kept already.
-fn tell_placed(alloc: Global, order: &OrderWords, book: &SharedBook) -> Said
-    requires { accepts book.now.book order.now.day order.now.codes ≡ true }
-    ensures { (h : Hand) → told_again book.now order.now (Reply.Placed false) h result h }
+fn tell_placed(alloc: Global, kept: &KeptOrder) -> Reply
+    requires { BookAccepts kept.now }
+    ensures { (h : Hand) → told_again kept.now.book kept.now.order (Reply.Placed false) h result h }
 {
-    match text_of_kept(alloc, order, book) {
-        Ok(text) => Said::plain(alloc, Reply::Placed { fresh: false, text }),
-        Err(Memory) => Said::plain(alloc, Reply::Memory),
+    match text_of_kept(alloc, kept) {
+        Ok(text) => Reply::Placed { fresh: false, text },
+        Err(Memory) => Reply::Memory,
     }
 }
 
 // The text of what a kept order comes to.
-fn text_of_kept(alloc: Global, order: &OrderWords, book: &SharedBook) -> Result<Body, Memory>
-    requires { accepts book.now.book order.now.day order.now.codes ≡ true }
-    ensures { let outcome = outcome_of book.now.book order.now.day order.now.codes in
-        IfOk result (TextBy outcome book.now.book) }
+fn text_of_kept(alloc: Global, kept: &KeptOrder) -> Result<Body, Memory>
+    requires { BookAccepts kept.now }
+    ensures { let outcome = outcome_of kept.now.book.book kept.now.order.day kept.now.order.codes in
+        IfOk result (TextBy outcome kept.now.book.book) }
 {
-    match judge_by(alloc, book, order) {
-        Ok(judged) => text_by(alloc, book, &judged),
+    match judge_by(alloc, &kept.book, &kept.order) {
+        Ok(judged) => text_by(alloc, &kept.book, &judged),
         Err(Fail::Refused(_)) => unreachable!(),
         Err(Fail::Memory) => Err(Memory),
     }
 }
 
 /// Reads a kept order of the caller, which is judged again for its text.
-pub(crate) fn read_order<T: Turns>(alloc: Global, turns: &mut T, caller: Id, number: u32) -> Said
-    ensures { let event = Event.ReadOrder caller number in
-        asks event after_reading (T.hand turns.old) result (T.hand turns.new) }
+pub(crate) fn read_order<T: Turns>(alloc: Global, turns: &mut T, caller: Id, number: u32) -> Reply
+    ensures { let event = Event.Read (Reading.Order caller number) in
+        asks event as_kept after_reading (T.hand turns.old) result (T.hand turns.new) }
 {
-    let answer = turns.step(Event::ReadOrder { caller, number });
-    match answer {
-        Answer::Say(reply) => Said::plain(alloc, reply),
-        Answer::Kept { order, book } => tell_order(alloc, &order, &book),
-        Answer::Draft { .. } => unreachable!(),
-        Answer::Book(_) => unreachable!(),
-        Answer::Placed => unreachable!(),
+    match ask_order(turns, caller, number) {
+        Ok(kept) => tell_order(alloc, &kept),
+        Err(reply) => reply,
     }
 }
 
-fn tell_order(alloc: Global, order: &OrderWords, book: &SharedBook) -> Said
-    requires { accepts book.now.book order.now.day order.now.codes ≡ true }
-    ensures { let kind = Reply.OrderIs order.now.book order.now.day in
-        (h : Hand) → told_again book.now order.now kind h result h }
+fn tell_order(alloc: Global, kept: &KeptOrder) -> Reply
+    requires { BookAccepts kept.now }
+    ensures { (h : Hand) → after_reading kept.now h result h }
 {
-    match text_of_kept(alloc, order, book) {
-        Ok(text) => Said::plain(
-            alloc,
-            Reply::OrderIs {
-                book: order.book,
-                day: order.day,
-                text,
-            },
-        ),
-        Err(Memory) => Said::plain(alloc, Reply::Memory),
+    match text_of_kept(alloc, kept) {
+        Ok(text) => Reply::OrderIs {
+            book: kept.order.book,
+            day: kept.order.day,
+            text,
+        },
+        Err(Memory) => Reply::Memory,
     }
 }

@@ -3,6 +3,7 @@ ghost use Rattle.std.specs.Prelude.{◌≡◌, None, Some};
 ghost use Rattle.order_desk.specs.Fits.{Fits};
 ghost use Rattle.answering.specs.Hand.{Takes};
 ghost use Rattle.answering.specs.Seat.{IsSeated, hand_of, sitting};
+ghost use Rattle.answering.specs.Told.{Tells};
 
 use crate::turns::Turns;
 use desk_words::{FullOf, Reply};
@@ -92,6 +93,7 @@ impl<'b, R: Wait, P: Keeper> Turns for Seat<'b, R, P> {
 }
 
 // One call of a pass, where it has one left.
+#[tactic(auto, using(crate::proofs::ToldLaws::tells_taken))]
 fn called<R: Wait, P: Keeper>(
     rt: &R,
     book: &TurnBook<Desk<P>>,
@@ -102,6 +104,7 @@ fn called<R: Wait, P: Keeper>(
     requires fits { Fits (hand_of (sitting book.now pass)).state.tables event }
     ensures takes { Takes (hand_of (sitting book.now pass)) event result.0
         (hand_of (sitting book.now result.1)) }
+    ensures tells { Tells event result.0 (hand_of (sitting book.now result.1)).state.tables }
     ensures seated { IsSeated (sitting book.now result.1) }
 {
     if pass.left() == 0 {

@@ -3,6 +3,7 @@ ghost use Rattle.std.specs.Prelude.{◌≡◌};
 ghost use Rattle.order_desk.specs.Fits.{Fits};
 ghost use Rattle.order_desk.specs.Valid.{IsValid};
 ghost use Rattle.answering.specs.Hand.{Takes};
+ghost use Rattle.answering.specs.Told.{Tells};
 
 use order_desk::{Answer, Event};
 
@@ -22,5 +23,13 @@ pub trait Turns {
     fn step(&mut self, event: Event) -> Answer
         requires { Fits (hand self.old).state.tables event }
         ensures takes { Takes (hand self.old) event result (hand self.new) }
+        ensures tells { Tells event result (hand self.new).state.tables }
         ensures valid { IsValid (hand self.new).state.tables };
+}
+
+/// What was seen of the desk is valid. The call does nothing.
+pub fn valid_law<T: Turns>(turns: &T)
+    ensures { IsValid (T.hand turns.now).state.tables }
+{
+    let _left = turns.left();
 }

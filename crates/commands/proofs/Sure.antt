@@ -8,7 +8,7 @@ use Rattle.pb_outside.specs.Sink.{SinkTold}
 use Rattle.pb_outside.specs.declared.error.OutError.TheVariants as out
 use Rattle.order_desk.specs.Tables.{State, Tables}
 use Rattle.order_desk.specs.declared.start.StartFault.TheVariants.{BadRow, Store}
-use Rattle.serve_work.specs.declared.end.WorkEnd.TheVariants.{Over, Fault, Memory as WantsMemory}
+use Rattle.serve_run.specs.declared.work_end.WorkEnd.TheVariants.{Over, Fault, Memory as WantsMemory}
 use Rattle.serve_run.specs.ServeRun.{IsOverOrMemory}
 use Rattle.serve_run.specs.declared.end.ServeEnd.TheVariants.{Closed, NoWorkers, Worked}
 use Rattle.session.specs.declared.end.SessionEnd.TheVariants.{Done, WriteFault, Memory}

@@ -12,7 +12,7 @@ use Rattle.answering.specs.Hand.{Hand}
 use Rattle.session.specs.Session.{told}
 use Rattle.session.specs.declared.end.SessionEnd.{SessionEnd}
 use Rattle.commands.proofs.Dealt.{has_dealt}
-use Rattle.serve_work.specs.Work.{ServesLinks}
+use Rattle.serve_run.specs.Work.{ServesLinks}
 use Rattle.serve_run.specs.ServeRun.{ArePortRuns, Log}
 use Rattle.serve_run.specs.declared.end.ServeEnd.TheVariants.{Closed, NoWorkers, Worked}
 use Rattle.desk_run.specs.DeskRun.{IsStarted}

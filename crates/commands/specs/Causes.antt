@@ -22,7 +22,7 @@ use Rattle.commands.specs.Rejudged.{RejudgeEnd, unjudged, judged, RunsRejudge}
 use Rattle.commands.specs.Rejudging.{Rejudging}
 use Rattle.commands.specs.Service.{Service}
 use Rattle.commands.specs.Serves.{ServiceEnd, unstarted, served, RunsService}
-use Rattle.serve_work.specs.declared.end.WorkEnd.TheVariants.{Over}
+use Rattle.serve_run.specs.declared.work_end.WorkEnd.TheVariants.{Over}
 use Rattle.serve_run.specs.declared.end.ServeEnd.TheVariants.{Worked}
 use Rattle.commands.specs.Words.{Asks, AsksNothing}
 use Rattle.commands.specs.declared.task.Task.TheVariants.{Book, Desk, Serve, Rejudge, Sample}

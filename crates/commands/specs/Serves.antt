@@ -16,7 +16,7 @@ use Rattle.order_desk.specs.Valid.{IsValid}
 use Rattle.order_desk.specs.declared.start.StartFault.{StartFault}
 use Rattle.session.specs.declared.end.SessionEnd.{SessionEnd}
 use Rattle.session.specs.declared.end.SessionEnd.TheVariants.{Done, Broken, ReadFault, WriteFault, Memory}
-use Rattle.serve_work.specs.declared.end.WorkEnd.TheVariants.{Over, Fault, Memory as NoMemory}
+use Rattle.serve_run.specs.declared.work_end.WorkEnd.TheVariants.{Over, Fault, Memory as NoMemory}
 use Rattle.serve_run.specs.ServeRun.{IsOverOrMemory, IsServeRun}
 use Rattle.serve_run.specs.declared.end.ServeEnd.{ServeEnd}
 use Rattle.serve_run.specs.declared.end.ServeEnd.TheVariants.{Closed, NoWorkers, Worked}

@@ -15,13 +15,13 @@ use crate::judging::run_rejudge;
 use crate::run_end::RunEnd;
 use crate::task::Task;
 use crate::words::task_in;
+use answering::Gate;
 use book_commands::{
     BookCommand, RunLog, RunStatus, SampleSize, due_reply, sample_reply, tell_made, tell_usage,
     tell_want_of_memory,
 };
 use keeper::Keeper;
 use pb_base::Memory;
-use pb_gate::Gate;
 use pb_outside::{Files, Sink, Source};
 use std::alloc::Global;
 use std::thread::Threads;

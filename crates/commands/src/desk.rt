@@ -6,6 +6,7 @@ ghost use Rattle.commands.specs.DeskEnds.{EndsDesk, EndsSession, EndsStart, Runs
 ghost use Rattle.commands.specs.Outside.{DoorSaid, keeps, outside};
 
 use crate::run_end::RunEnd;
+use answering::Gate;
 use book_commands::{
     Object, RunLog, RunReply, RunStatus, note_write_fault, tell_made, tell_want_of_memory,
 };
@@ -14,7 +15,6 @@ use desk_run::{DeskEnd, run_desk};
 use keeper::Keeper;
 use order_desk::StartFault;
 use pb_base::{Fail, Memory};
-use pb_gate::Gate;
 use pb_outside::{Sink, Source};
 use session::SessionEnd;
 use std::alloc::Global;

@@ -11,10 +11,10 @@ ghost use Rattle.commands.specs.Words.{NamesPort, NamesStore};
 
 use crate::run_end::RunEnd;
 use crate::top_call::run;
+use answering::Gate;
 use book_commands::{RunLog, RunStatus, tell_usage, tell_want_of_memory};
 use keeper::Keeper;
 use pb_door::Door;
-use pb_gate::Gate;
 use pb_outside::{Files, Sink, Source};
 use std::alloc::Global;
 use std::io;

@@ -8,10 +8,9 @@ ghost use Rattle.desk_run.specs.Sure.{IsDoneOrMemory, IsOrderly, IsSure, IsUnfai
 
 use crate::end::{DeskEnd, DeskRun};
 use crate::halves::Halves;
-use answering::{Alone, Turns};
+use answering::{Alone, Gate, Turns};
 use keeper::Keeper;
 use order_desk::{Desk, NotStarted};
-use pb_gate::Gate;
 use pb_outside::{Sink, Source};
 use session::{SessionEnd, session};
 use std::alloc::Global;

@@ -66,22 +66,16 @@ event_puts t (event.PutDraft caller name text) =
 event_puts t (event.GiveDraft caller name to) =
     effect_writes (IsOneRow t (event.GiveDraft caller name to)) t (event.GiveDraft caller name to)
     (λ d is. (Draft (draft_row (name, record d { owner = to })), ap (λ r. row_if_ok name r (λ old. record old { owner = to })) is, rows-with_draft t name (record d { owner = to })))
-event_puts t (event.ReadDraft draft) = effect_writes (IsOneRow t (event.ReadDraft draft)) t (event.ReadDraft draft) tt
-event_puts t (event.ReadOwner draft) = effect_writes (IsOneRow t (event.ReadOwner draft)) t (event.ReadOwner draft) tt
-event_puts t (event.TakeDraft caller draft revision) = effect_writes (IsOneRow t (event.TakeDraft caller draft revision)) t (event.TakeDraft caller draft revision) tt
 event_puts t (event.Commit caller name revision released) =
     effect_writes (IsOneRow t (event.Commit caller name revision released)) t (event.Commit caller name revision released)
     (λ d is.
     let book : KeptBook = record { draft = name; revision = revision; released = released; withdrawn = false } in
     (Book (book_row (length t.books + 1) book), refl, rows-with_book t book refl))
-event_puts t (event.ReadBook book) = effect_writes (IsOneRow t (event.ReadBook book)) t (event.ReadBook book) tt
-event_puts t (event.ReadCert book) = effect_writes (IsOneRow t (event.ReadCert book)) t (event.ReadCert book) tt
 event_puts t (event.Withdraw caller number) = withdraw_puts t caller number
-event_puts t (event.Look caller number order) = effect_writes (IsOneRow t (event.Look caller number order)) t (event.Look caller number order) tt
 event_puts t (event.Place caller number order) =
     effect_writes (IsOneRow t (event.Place caller number order)) t (event.Place caller number order)
     (λ b none is. (Order (order_row (key_of caller number, order)), refl, rows-with_order t (key_of caller number) order))
-event_puts t (event.ReadOrder caller number) = effect_writes (IsOneRow t (event.ReadOrder caller number)) t (event.ReadOrder caller number) tt
+event_puts t (event.Read asked) = effect_writes (IsOneRow t (event.Read asked)) t (event.Read asked) tt
 
 pub one_put : (t : Tables) (e : Event) (due : Answer) (after : Tables) → effect t e ≡ keeps due after → IsOnePut t e after
 one_put t e due after is =
@@ -118,17 +112,11 @@ still_there (Some a) (Some b) order so is = ap Some so ∙ is
 order_changes : (t : Tables) (e : Event) → Changes (HasOrders t) t e
 order_changes t (event.PutDraft caller name text) = λ d is key order there. there
 order_changes t (event.GiveDraft caller name to) = λ d is key order there. there
-order_changes t (event.ReadDraft draft) = tt
-order_changes t (event.ReadOwner draft) = tt
-order_changes t (event.TakeDraft caller draft revision) = tt
 order_changes t (event.Commit caller name revision released) = λ d is key order there. there
-order_changes t (event.ReadBook book) = tt
-order_changes t (event.ReadCert book) = tt
 order_changes t (event.Withdraw caller number) = λ b is key order there. there
-order_changes t (event.Look caller number order) = tt
 order_changes t (event.Place caller number order) = λ b none is key other there.
     still_there (order_at t.orders key) (order_at (with_order t (key_of caller number) order).orders key) other ((grows-with_order t (key_of caller number) order none).orders key) there
-order_changes t (event.ReadOrder caller number) = tt
+order_changes t (event.Read asked) = tt
 
 pub orders_stay : (t : Tables) (e : Event) (due : Answer) (after : Tables) → effect t e ≡ keeps due after → HasOrders t after
 orders_stay t e due after is = subst (Writes (HasOrders t)) is (effect_writes (HasOrders t) t e (order_changes t e))

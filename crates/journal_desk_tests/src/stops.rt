@@ -1,9 +1,8 @@
 //! A desk whose journal is on a disk in memory that fails or stops.
 
-use answering::Alone;
+use answering::{Alone, NoGate};
 use journal_keeper::{JournalKeeper, MemoryDisk};
 use order_desk::{Desk, DeskCounts, NotStarted};
-use pb_gate::NoGate;
 use pb_outside::{MemoryLink, MemorySink, MemorySource};
 use session::session;
 use std::alloc::Global;

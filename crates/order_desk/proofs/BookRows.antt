@@ -21,7 +21,7 @@ use Rattle.order_desk.specs.RightRows.{first_wrong, has_reached, have_one_revisi
 use Rattle.order_desk.specs.Rows.{book_row, book_rows, draft_row, withdrawn_rows}
 use Rattle.order_desk.specs.Tables.{by_name, draft_at, is_of}
 use Rattle.order_desk.proofs.Conjunction.{left_of, right_of, not_left, not_right}
-use Rattle.order_desk.proofs.Reading.{IsRead, read_more, read_none, read_wrong}
+use Rattle.order_desk.proofs.FirstWrong.{IsRead, read_more, read_none, read_wrong}
 use Rattle.order_desk.proofs.RowsAfter.{withdrawn_rows-push}
 use Rattle.order_desk.proofs.Validity.{all-push}
 

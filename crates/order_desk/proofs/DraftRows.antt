@@ -18,7 +18,7 @@ use Rattle.order_desk.specs.Rows.{draft_row}
 use Rattle.order_desk.specs.Tables.{by_name}
 use Rattle.order_desk.proofs.Conjunction.{each_of, one_fails}
 use Rattle.order_desk.proofs.Keys.{by_name_total}
-use Rattle.order_desk.proofs.Reading.{IsRead, read_more}
+use Rattle.order_desk.proofs.FirstWrong.{IsRead, read_more}
 use Rattle.order_desk.proofs.RisingKeys.{insert-last, rising_rows}
 
 -- what the tests of a row say

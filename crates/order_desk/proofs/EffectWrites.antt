@@ -10,9 +10,11 @@ use Rattle.order_desk.specs.declared.answer.Answer.TheVariants as answer
 use Rattle.order_desk.specs.declared.draft.Draft.{Draft}
 use Rattle.order_desk.specs.declared.event.Event.{Event}
 use Rattle.order_desk.specs.declared.event.Event.TheVariants as event
+use Rattle.order_desk.specs.declared.event.Reading.{Reading}
+use Rattle.order_desk.specs.declared.event.Reading.TheVariants as reading
 use Rattle.order_desk.specs.declared.kept_book.KeptBook.{KeptBook}
-use Rattle.order_desk.specs.Effect.{Effect, says, shows, keeps, go_on, effect, draft_of, owned, next_draft, put_draft, give_draft, read_draft, read_owner, to_release, to_take, take_draft, commit, book_of, read_book, read_cert, withdraw, shows_kept, same_order, unless_kept, to_place, look, place, read_order}
-use Rattle.order_desk.specs.Step.{Follows, IsKept, IsNotKept}
+use Rattle.order_desk.specs.Effect.{Effect, says, shows, keeps, go_on, read, effect, draft_of, owned, next_draft, put_draft, give_draft, read_draft, read_owner, to_release, to_take, take_draft, commit, book_of, show_book, withdraw, shows_kept, same_order, unless_kept, to_place, look, place, read_order}
+use Rattle.order_desk.specs.Step.{Follows, IsKept, IsNotKept, Step}
 use Rattle.order_desk.specs.Tables.{Tables, State, key_of, order_at, with_draft, with_book, with_order, with_withdrawn}
 
 -- the tables that the effect keeps, where it keeps any, are such
@@ -69,41 +71,43 @@ module _ (P : Tables → Type 0) where
       (λ d at. writes-if b.withdrawn (says (answer.Say (reply.Withdrawn number)))
       (keeps (answer.Say (reply.Withdrawn number)) (with_withdrawn t number b)) tt (so b is)))
 
+  -- what only reads writes nothing
+  read_writes : (t : Tables) (asked : Reading) → Writes P (read t asked)
+  unfolding read_draft read_owner take_draft show_book look read_order
+  read_writes t (reading.Draft draft) =
+      writes-go_on (draft_of t draft) (λ d. shows (answer.Say (reply.Raw d.text))) (λ d is. tt)
+  read_writes t (reading.Owner draft) =
+      writes-go_on (draft_of t draft) (λ d. says (answer.Say (reply.OwnerIs d.owner d.revision))) (λ d is. tt)
+  read_writes t (reading.Take caller draft revision) =
+      writes-go_on (to_take revision t caller draft) (λ d. shows (answer.Draft d.text d.revision)) (λ d is. tt)
+  read_writes t (reading.Book book) = writes-go_on (book_of t book) (λ b. shows (answer.Book b.released)) (λ b is. tt)
+  read_writes t (reading.Look caller number order) =
+      unless_kept_writes t (order_at t.orders (key_of caller number)) order
+      (go_on (to_place t order) (λ b. shows (answer.Book b.released)))
+      (λ none. writes-go_on (to_place t order) (λ b. shows (answer.Book b.released)) (λ b is. tt))
+  read_writes t (reading.Order caller number) =
+      writes-go_on (ok_or (order_at t.orders (key_of caller number)) (reply.NoSuch missing.Order)) (λ kept. shows_kept t kept)
+      (λ kept is. kept_writes t kept)
+
   pub effect_writes : (t : Tables) (e : Event) → Changes P t e → Writes P (effect t e)
-  unfolding put_draft give_draft read_draft read_owner take_draft commit read_book read_cert look place read_order
+  unfolding put_draft give_draft commit place
   effect_writes t (event.PutDraft caller draft text) so =
       writes-go_on (next_draft t caller draft text)
       (λ d. keeps (answer.Say (reply.Kept draft d.revision)) (with_draft t draft d)) so
   effect_writes t (event.GiveDraft caller draft to) so =
       writes-go_on (owned t caller draft)
       (λ d. keeps (answer.Say (reply.Given draft to)) (with_draft t draft (record d { owner = to }))) so
-  effect_writes t (event.ReadDraft draft) so =
-      writes-go_on (draft_of t draft) (λ d. shows (answer.Say (reply.Raw d.text))) (λ d is. tt)
-  effect_writes t (event.ReadOwner draft) so =
-      writes-go_on (draft_of t draft) (λ d. says (answer.Say (reply.OwnerIs d.owner d.revision))) (λ d is. tt)
-  effect_writes t (event.TakeDraft caller draft revision) so =
-      writes-go_on (to_take revision t caller draft) (λ d. shows (answer.Draft d.text d.revision)) (λ d is. tt)
   effect_writes t (event.Commit caller draft revision released) so =
       writes-go_on (to_release t caller draft revision)
       (λ d. keeps (answer.Say (reply.BookIs (length t.books + 1) true))
       (with_book t (record { draft = draft; revision = revision; released = released; withdrawn = false }))) so
-  effect_writes t (event.ReadBook book) so =
-      writes-go_on (book_of t book) (λ b. shows (answer.Say (reply.Raw b.released.text))) (λ b is. tt)
-  effect_writes t (event.ReadCert book) so =
-      writes-go_on (book_of t book) (λ b. shows (answer.Say (reply.Cert b.released.cert))) (λ b is. tt)
   effect_writes t (event.Withdraw caller book) so = withdraw_writes t caller book so
-  effect_writes t (event.Look caller number order) so =
-      unless_kept_writes t (order_at t.orders (key_of caller number)) order
-      (go_on (to_place t order) (λ b. shows (answer.Book b.released)))
-      (λ none. writes-go_on (to_place t order) (λ b. shows (answer.Book b.released)) (λ b is. tt))
   effect_writes t (event.Place caller number order) so =
       unless_kept_writes t (order_at t.orders (key_of caller number)) order
       (go_on (to_place t order) (λ b. keeps answer.Placed (with_order t (key_of caller number) order)))
       (λ none. writes-go_on (to_place t order) (λ b. keeps answer.Placed (with_order t (key_of caller number) order))
       (λ b is. so b none is))
-  effect_writes t (event.ReadOrder caller number) so =
-      writes-go_on (ok_or (order_at t.orders (key_of caller number)) (reply.NoSuch missing.Order)) (λ kept. shows_kept t kept)
-      (λ kept is. kept_writes t kept)
+  effect_writes t (event.Read asked) so = read_writes t asked
 
   -- a step leads to such tables, where it begins at such
   pub followed : (u : Effect) (old : State) (given : Answer) (new : State) → P old.tables → Writes P u → Follows u old given new
@@ -116,8 +120,12 @@ module _ (P : Tables → Type 0) where
       by (inl kept) = subst P (sym kept.changed) writes
       by (inr not_kept) = subst P (sym not_kept.unchanged) so
 
--- an event that writes nothing changes nothing
-pub unchanged : (u : Effect) (old : State) (given : Answer) (new : State) → Writes (λ t. ⊥) u → Follows u old given new → new ≡ old
+unchanged : (u : Effect) (old : State) (given : Answer) (new : State) → Writes (λ t. ⊥) u → Follows u old given new → new ≡ old
 unchanged (says due) old given new writes f = f.1
 unchanged (shows due) old given new writes f = f.1
 unchanged (keeps due tables) old given new writes f = absurd writes
+
+-- what only reads changes nothing
+pub reads_nothing : (old new : State) (asked : Reading) (given : Answer) → Step old (event.Read asked) given new → new ≡ old
+reads_nothing old new asked given step =
+    unchanged (read old.tables asked) old given new (read_writes (λ t. ⊥) old.tables asked) step

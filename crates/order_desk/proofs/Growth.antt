@@ -176,17 +176,11 @@ unfolding next_draft
 event_grows t (event.PutDraft caller draft text) = λ d is. grows-with_draft t draft d (next_later t caller text (draft_at t.drafts draft) d is)
 event_grows t (event.GiveDraft caller draft to) =
     λ d is. grows-over t draft d (record d { owner = to }) (draft_there t caller draft d is) (handed_over d to)
-event_grows t (event.ReadDraft draft) = tt
-event_grows t (event.ReadOwner draft) = tt
-event_grows t (event.TakeDraft caller draft revision) = tt
 event_grows t (event.Commit caller draft revision released) =
     λ d is. grows-with_book t (record { draft = draft; revision = revision; released = released; withdrawn = false })
-event_grows t (event.ReadBook book) = tt
-event_grows t (event.ReadCert book) = tt
 event_grows t (event.Withdraw caller number) = λ b is. grows-with_withdrawn t number b (book_there t number b is)
-event_grows t (event.Look caller number order) = tt
 event_grows t (event.Place caller number order) = λ b none is. grows-with_order t (key_of caller number) order none
-event_grows t (event.ReadOrder caller number) = tt
+event_grows t (event.Read asked) = tt
 
 -- ---- each step, and each history
 

@@ -11,7 +11,7 @@ pub mod Kept
 pub mod Requests
 pub mod StepValid
 pub mod Conjunction
-pub mod Reading
+pub mod FirstWrong
 pub mod RisingKeys
 pub mod DraftRows
 pub mod BookRows

@@ -31,7 +31,7 @@ use Rattle.order_desk.proofs.Conjunction.{each_of, none_after, one_fails}
 use Rattle.order_desk.proofs.Entries.{all-insert}
 use Rattle.order_desk.proofs.Growth.{place_of_number}
 use Rattle.order_desk.proofs.Keys.{by_key_total, by_key_exact}
-use Rattle.order_desk.proofs.Reading.{IsRead, read_more}
+use Rattle.order_desk.proofs.FirstWrong.{IsRead, read_more}
 use Rattle.order_desk.proofs.RisingKeys.{insert-last, rising_rows}
 
 -- ---- the tests of a row

@@ -23,19 +23,13 @@ event_valid t (event.PutDraft caller draft text) valid fits = λ d is.
 event_valid t (event.GiveDraft caller draft to) valid fits = λ d is.
     valid-with_draft t draft (record d { owner = to }) valid (given_form t caller draft to d valid fits is)
     (given_room t caller draft d is) (given_is_later t caller draft to d is)
-event_valid t (event.ReadDraft draft) valid fits = tt
-event_valid t (event.ReadOwner draft) valid fits = tt
-event_valid t (event.TakeDraft caller draft revision) valid fits = tt
 event_valid t (event.Commit caller draft revision released) valid fits = λ d is.
     let room = release_room t caller draft revision d is in
     valid-with_book t (record { draft = draft; revision = revision; released = released; withdrawn = false }) valid fits room.0 room.1
-event_valid t (event.ReadBook book) valid fits = tt
-event_valid t (event.ReadCert book) valid fits = tt
 event_valid t (event.Withdraw caller number) valid fits = λ b is. valid-with_withdrawn t number b valid (book_there t number b is)
-event_valid t (event.Look caller number order) valid fits = tt
 event_valid t (event.Place caller number order) valid fits = λ b none is.
     valid-with_order t (key_of caller number) order valid fits (place_room t order b is) none
-event_valid t (event.ReadOrder caller number) valid fits = tt
+event_valid t (event.Read asked) valid fits = tt
 
 pub step_valid : (old : State) (e : Event) (given : Answer) (new : State) → IsValid old.tables → Fits old.tables e
     → Step old e given new → IsValid new.tables

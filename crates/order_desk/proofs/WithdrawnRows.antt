@@ -15,7 +15,7 @@ use Rattle.order_desk.specs.declared.limits.TheConstants.{MOST_BOOKS}
 use Rattle.order_desk.specs.RightRows.{comes_last, first_wrong, is_withdrawn_row}
 use Rattle.order_desk.specs.Rows.{book_rows, withdrawn_rows}
 use Rattle.order_desk.proofs.Conjunction.{left_of, right_of}
-use Rattle.order_desk.proofs.Reading.{IsRead, read_none, read_more, read_wrong, read_right, read_all}
+use Rattle.order_desk.proofs.FirstWrong.{IsRead, read_none, read_more, read_wrong, read_right, read_all}
 use Rattle.order_desk.proofs.RowsAfter.{book_rows-set, withdrawn_rows-set}
 use Rattle.order_desk.proofs.Validity.{all-set}
 

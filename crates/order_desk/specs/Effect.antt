@@ -3,6 +3,7 @@
 --     Effect        says: an answer alone, which takes no memory
 --                   shows: an answer that copies something of the tables, and changes nothing
 --                   keeps: one write of the keeper, and where it succeeds this answer and these tables
+--     read t r      what the reading r is answered; it never keeps
 --     effect t e    what the event e does
 use Rattle.std.specs.Prelude.{Result, Ok, Err, not, ok_or, ℕ, ◌+◌, ◌==◌, Bool, true, false, ◌&&◌, List, Option, None, Some, length, nat_lt, if◌then◌else◌}
 use Rattle.std.specs.Cmp.Lexicographic.{pointwise}
@@ -19,6 +20,8 @@ use Rattle.order_desk.specs.declared.answer.Answer.TheVariants as answer
 use Rattle.order_desk.specs.declared.draft.Draft.{Draft}
 use Rattle.order_desk.specs.declared.event.Event.{Event}
 use Rattle.order_desk.specs.declared.event.Event.TheVariants as event
+use Rattle.order_desk.specs.declared.event.Reading.{Reading}
+use Rattle.order_desk.specs.declared.event.Reading.TheVariants as reading
 use Rattle.order_desk.specs.declared.kept_book.KeptBook.{KeptBook}
 use Rattle.order_desk.specs.declared.limits.TheConstants.{MOST_BOOKS, MOST_DRAFTS, MOST_ORDERS, MOST_REVISION}
 use Rattle.order_desk.specs.Tables.{Tables, draft_at, book_at, order_at, key_of, released_as, with_draft, with_book, with_withdrawn, with_order}
@@ -103,11 +106,8 @@ commit t caller name revision released = go_on (to_release t caller name revisio
 unfoldable pub book_of : Tables → ℕ → Result KeptBook Reply
 book_of t number = ok_or (book_at t.books number) (reply.NoSuch missing.Book)
 
-unfoldable pub read_book : Tables → ℕ → Effect
-read_book t number = go_on (book_of t number) (λ book. shows (answer.Say (reply.Raw book.released.text)))
-
-unfoldable pub read_cert : Tables → ℕ → Effect
-read_cert t number = go_on (book_of t number) (λ book. shows (answer.Say (reply.Cert book.released.cert)))
+unfoldable pub show_book : Tables → ℕ → Effect
+show_book t number = go_on (book_of t number) (λ book. shows (answer.Book book.released))
 
 -- the owner is that of the book's draft now
 unfoldable pub withdraw : Tables → List ℕ → ℕ → Effect
@@ -152,16 +152,19 @@ read_order t caller number = go_on
 
 -- ---- all events
 
+-- what only reads
+abbrev pub read : Tables → Reading → Effect
+read t (reading.Draft draft) = read_draft t draft
+read t (reading.Owner draft) = read_owner t draft
+read t (reading.Take caller draft revision) = take_draft t caller draft revision
+read t (reading.Book book) = show_book t book
+read t (reading.Look caller number order) = look t caller number order
+read t (reading.Order caller number) = read_order t caller number
+
 abbrev pub effect : Tables → Event → Effect
 effect t (event.PutDraft caller draft text) = put_draft t caller draft text
 effect t (event.GiveDraft caller draft to) = give_draft t caller draft to
-effect t (event.ReadDraft draft) = read_draft t draft
-effect t (event.ReadOwner draft) = read_owner t draft
-effect t (event.TakeDraft caller draft revision) = take_draft t caller draft revision
 effect t (event.Commit caller draft revision released) = commit t caller draft revision released
-effect t (event.ReadBook book) = read_book t book
-effect t (event.ReadCert book) = read_cert t book
 effect t (event.Withdraw caller book) = withdraw t caller book
-effect t (event.Look caller number order) = look t caller number order
 effect t (event.Place caller number order) = place t caller number order
-effect t (event.ReadOrder caller number) = read_order t caller number
+effect t (event.Read asked) = read t asked

@@ -58,14 +58,8 @@ placed_stays books later caller number order so placed = record {
 pub fits_last : (t u : Tables) (e : Event) → Grows t u → Fits t e → Fits u e
 fits_last t u (event.PutDraft caller draft text) grows fits = fits
 fits_last t u (event.GiveDraft caller draft to) grows fits = fits
-fits_last t u (event.ReadDraft draft) grows fits = fits
-fits_last t u (event.ReadOwner draft) grows fits = fits
-fits_last t u (event.TakeDraft caller draft revision) grows fits = fits
 fits_last t u (event.Commit caller draft revision released) grows fits =
     release_stays t.drafts u.drafts draft revision released (grows.drafts draft) fits
-fits_last t u (event.ReadBook book) grows fits = fits
-fits_last t u (event.ReadCert book) grows fits = fits
 fits_last t u (event.Withdraw caller book) grows fits = fits
-fits_last t u (event.Look caller number order) grows fits = fits
 fits_last t u (event.Place caller number order) grows fits = placed_stays t.books u.books caller number order grows.books fits
-fits_last t u (event.ReadOrder caller number) grows fits = fits
+fits_last t u (event.Read asked) grows fits = fits

@@ -11,7 +11,7 @@ pub enum Answer {
     Say(Reply),
     /// A draft's text and its revision.
     Draft { text: Body, revision: u32 },
-    /// The book that an order is to be judged by.
+    /// A book that was asked for, or the one that an order is to be judged by.
     Book(SharedBook),
     /// A kept order, and the book that it was judged by.
     Kept { order: OrderWords, book: SharedBook },

@@ -1,6 +1,8 @@
 //! The desk.
 ghost use Rattle.std.specs.Prelude.{◌≡◌, IfSome, None, length};
 ghost use Rattle.order_desk.specs.declared.event.Event.{Event};
+ghost use Rattle.order_desk.specs.declared.event.Event.TheVariants.{Read};
+ghost use Rattle.order_desk.specs.declared.event.Reading.{Reading};
 ghost use Rattle.order_desk.specs.Fits.{Fits};
 ghost use Rattle.order_desk.specs.History.{Grows, Reaches};
 ghost use Rattle.order_desk.specs.RightRows.{first_bad};
@@ -93,6 +95,13 @@ impl<P: Keeper> Desk<P> {
         }
     }
 
+    /// What the desk keeps is valid. The call does nothing.
+    pub fn valid_law(&self)
+        ensures { IsValid self.now.tables }
+    {
+        let _books = &self.books;
+    }
+
     /// Ends the desk and gives its keeper back.
     pub fn finish(self) -> P
         ensures rows { IfSome (P.told result) (λ rows. rows ≡ rows_of self.tables) }
@@ -118,7 +127,7 @@ impl<P: Keeper> Desk<P> {
         ensures grows { Grows self.old.tables self.new.tables }
     {
         let answer = self.take(event);
-        let _counts = self.counts();
+        self.valid_law();
         answer
     }
 
@@ -134,39 +143,26 @@ impl<P: Keeper> Desk<P> {
                 text,
             } => self.put_draft(caller, draft, text),
             Event::GiveDraft { caller, draft, to } => self.give_draft(caller, draft, to),
-            Event::ReadDraft { draft } => self.read_draft(draft),
-            Event::ReadOwner { draft } => self.read_owner(draft),
-            Event::TakeDraft {
-                caller,
-                draft,
-                revision,
-            } => self.take_draft(caller, draft, revision),
             Event::Commit {
                 caller,
                 draft,
                 revision,
                 released,
             } => self.commit(caller, draft, revision, released),
-            Event::ReadBook { book } => self.read_book(book),
-            Event::ReadCert { book } => self.read_cert(book),
             Event::Withdraw { caller, book } => self.withdraw(caller, book),
-            Event::Look {
-                caller,
-                number,
-                order,
-            } => self.look(caller, number, order),
             Event::Place {
                 caller,
                 number,
                 order,
             } => self.place(caller, number, order),
-            Event::ReadOrder { caller, number } => self.read_order(caller, number),
+            Event::Read(asked) => self.read(asked),
         }
     }
 }
 
 /// What holds of every history of steps: books, kept orders and withdrawals stay, no revision falls, equal revisions of a draft
-/// have equal texts, what fits once fits later, and what is valid stays valid. The call does nothing.
+/// have equal texts, what fits once fits later, and what is valid stays valid. What only reads changes nothing. The call does
+/// nothing.
 pub fn history_laws()
     ensures grows { (old new : State) → Reaches old new → Grows old.tables new.tables }
     ensures fits { (old new : State) (event : Event) → Reaches old new
@@ -174,4 +170,6 @@ pub fn history_laws()
     ensures step { (old new : State) (event : Event) (answer : Answer) → IsValid old.tables
         → Fits old.tables event → Step old event answer new → IsValid new.tables }
     ensures valid { (old new : State) → Reaches old new → IsValid old.tables → IsValid new.tables }
+    ensures reads { (old new : State) (asked : Reading) (answer : Answer) → Step old (Read asked) answer new
+        → new ≡ old }
 {}

@@ -20,19 +20,6 @@ pub enum Event {
         draft: Id,
         to: Id,
     },
-    ReadDraft {
-        draft: Id,
-    },
-    ReadOwner {
-        draft: Id,
-    },
-    /// Asks for the caller's draft, to check or to release it. Where a revision is named, it is to be released: the draft must
-    /// have just this one, which was not released before, and there must be room for a book.
-    TakeDraft {
-        caller: Id,
-        draft: Id,
-        revision: Option<u32>,
-    },
     /// Keeps the book of the caller's draft at this revision, which was released meanwhile.
     Commit {
         caller: Id,
@@ -40,22 +27,10 @@ pub enum Event {
         revision: u32,
         released: SharedBook,
     },
-    ReadBook {
-        book: u32,
-    },
-    ReadCert {
-        book: u32,
-    },
     /// Takes a book out of force for new orders. The caller owns the book's draft.
     Withdraw {
         caller: Id,
         book: u32,
-    },
-    /// Asks whether an order is kept under this number, and else for the book that it is to be judged by.
-    Look {
-        caller: Id,
-        number: u32,
-        order: OrderWords,
     },
     /// Keeps an order that its book accepts.
     Place {
@@ -63,7 +38,40 @@ pub enum Event {
         number: u32,
         order: OrderWords,
     },
-    ReadOrder {
+    /// Asks for something that is kept. It changes nothing.
+    Read(Reading),
+}
+
+/// What is asked of the desk that changes nothing.
+#[derive(Drop)]
+pub enum Reading {
+    /// The text of a draft.
+    Draft {
+        draft: Id,
+    },
+    /// Whose a draft is, and its revision.
+    Owner {
+        draft: Id,
+    },
+    /// The caller's draft, to check or to release it. Where a revision is named, it is to be released: the draft must have just
+    /// this one, which was not released before, and there must be room for a book.
+    Take {
+        caller: Id,
+        draft: Id,
+        revision: Option<u32>,
+    },
+    /// A book, in force or not. Its text and its certificate are not copied.
+    Book {
+        book: u32,
+    },
+    /// Whether an order is kept under this number, and else the book that it is to be judged by.
+    Look {
+        caller: Id,
+        number: u32,
+        order: OrderWords,
+    },
+    /// The caller's order of this number, with its book.
+    Order {
         caller: Id,
         number: u32,
     },

@@ -22,7 +22,7 @@ mod writing;
 pub use answer::Answer;
 pub use desk::{Desk, DeskCounts, history_laws};
 pub use draft::Draft;
-pub use event::Event;
+pub use event::{Event, Reading};
 pub use kept_book::KeptBook;
 pub use limits::{MOST_BOOKS, MOST_DRAFTS, MOST_ORDER_NUMBER, MOST_ORDERS, MOST_REVISION};
 pub use order_key::OrderKey;

@@ -12,11 +12,11 @@ ghost use Rattle.commands.specs.Words.{NamesStore};
 
 use crate::store::Store;
 use crate::store_name::store_of;
+use answering::NoGate;
 use commands::{RunEnd, RunLog, RunStatus, run_given};
 use journal_keeper::{FileDisk, JournalKeeper};
 use keeper::Keeper;
 use keeper_sql::FileKeeper;
-use pb_gate::NoGate;
 use pb_outside::{StreamSink, StreamSource, SystemFiles};
 use std::alloc::Global;
 use std::net::{Net, TcpListener, TcpStream};

@@ -15,9 +15,9 @@ use Rattle.answering.specs.Hand.{Hand, Made}
 use Rattle.answering.specs.LaterHand.{IsLaterHand}
 use Rattle.answering.specs.Seat.{IsSeated, Sitting, hand_of, made_of, sitting}
 use Rattle.session.specs.declared.end.SessionEnd.{SessionEnd}
-use Rattle.serve_work.specs.Work.{EndsWork, Notes, ServesLinks, Works}
-use Rattle.serve_work.specs.declared.end.WorkEnd.{WorkEnd}
-use Rattle.serve_work.specs.declared.end.WorkEnd.TheVariants.{Over, Fault, Memory}
+use Rattle.serve_run.specs.Work.{EndsWork, Notes, ServesLinks, Works}
+use Rattle.serve_run.specs.declared.work_end.WorkEnd.{WorkEnd}
+use Rattle.serve_run.specs.declared.work_end.WorkEnd.TheVariants.{Over, Fault, Memory}
 use Rattle.serve_run.specs.ServeRun.{IsEnded, IsPortRun, hand_at}
 use Rattle.serve_run.specs.Workers.{IsDone, IsFresh, IsReady, IsUnused, Passed, WorkerTold}
 

@@ -7,8 +7,8 @@ use Rattle.turn_book.specs.Standing.{Opened}
 use Rattle.order_desk.specs.History.{IsLegal}
 use Rattle.order_desk.specs.Tables.{State}
 use Rattle.session.specs.declared.end.SessionEnd.{SessionEnd}
-use Rattle.serve_work.specs.declared.end.WorkEnd.{WorkEnd}
-use Rattle.serve_work.specs.declared.end.WorkEnd.TheVariants.{Over, Fault, Memory}
+use Rattle.serve_run.specs.declared.work_end.WorkEnd.{WorkEnd}
+use Rattle.serve_run.specs.declared.work_end.WorkEnd.TheVariants.{Over, Fault, Memory}
 use Rattle.serve_run.specs.ServeRun.{IsServed}
 use Rattle.serve_run.specs.Workers.{IsFresh, IsJoined, IsUnfailing, Passed, worse}
 

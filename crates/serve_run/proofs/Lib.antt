@@ -1,3 +1,4 @@
+mod Working
 pub mod Shares
 pub mod Runs
 pub mod Done

@@ -12,8 +12,8 @@ use Rattle.turn_book.specs.Standing.{Opened}
 use Rattle.order_desk.specs.Tables.{State}
 use Rattle.answering.specs.Seat.{made_of}
 use Rattle.session.specs.declared.end.SessionEnd.{SessionEnd}
-use Rattle.serve_work.specs.declared.end.WorkEnd.{WorkEnd}
-use Rattle.serve_work.specs.declared.end.WorkEnd.TheVariants.{Over, Fault, Memory}
+use Rattle.serve_run.specs.declared.work_end.WorkEnd.{WorkEnd}
+use Rattle.serve_run.specs.declared.work_end.WorkEnd.TheVariants.{Over, Fault, Memory}
 use Rattle.serve_run.specs.ServeRun.{AreEnded, ArePortRuns, IsEnded, IsPortRun, Log, all_of}
 use Rattle.serve_run.specs.Workers.{IsDone, IsJoined, Passed, WorkerTold, worse}
 use Rattle.serve_run.proofs.Done.{same_some}

@@ -22,9 +22,9 @@ use Rattle.order_desk.specs.Tables.{State}
 use Rattle.answering.specs.Hand.{Hand}
 use Rattle.answering.specs.Seat.{made_of}
 use Rattle.session.specs.declared.end.SessionEnd.{SessionEnd}
-use Rattle.serve_work.specs.Work.{Notes, ServesLinks}
-use Rattle.serve_work.specs.declared.end.WorkEnd.{WorkEnd}
-use Rattle.serve_work.specs.declared.end.WorkEnd.TheVariants.{Over, Fault, Memory}
+use Rattle.serve_run.specs.Work.{Notes, ServesLinks}
+use Rattle.serve_run.specs.declared.work_end.WorkEnd.{WorkEnd}
+use Rattle.serve_run.specs.declared.work_end.WorkEnd.TheVariants.{Over, Fault, Memory}
 use Rattle.serve_run.specs.declared.end.ServeEnd.{ServeEnd}
 use Rattle.serve_run.specs.declared.end.ServeEnd.TheVariants.{Closed, NoWorkers, Worked}
 

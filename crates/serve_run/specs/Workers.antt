@@ -8,8 +8,8 @@ use Rattle.order_desk.specs.declared.answer.Answer.{Answer}
 use Rattle.order_desk.specs.declared.event.Event.{Event}
 use Rattle.order_desk.specs.Tables.{State}
 use Rattle.session.specs.declared.end.SessionEnd.{SessionEnd}
-use Rattle.serve_work.specs.declared.end.WorkEnd.{WorkEnd}
-use Rattle.serve_work.specs.declared.end.WorkEnd.TheVariants.{Over, Fault, Memory}
+use Rattle.serve_run.specs.declared.work_end.WorkEnd.{WorkEnd}
+use Rattle.serve_run.specs.declared.work_end.WorkEnd.TheVariants.{Over, Fault, Memory}
 use Rattle.serve_run.specs.declared.end.ServeEnd.{ServeEnd}
 use Rattle.serve_run.specs.declared.end.ServeEnd.TheVariants.{Closed, NoWorkers, Worked}
 use Rattle.serve_run.specs.ServeRun.{ArePortRuns, AreEnded, IsEnded, IsPortRun, IsServed, all_of}

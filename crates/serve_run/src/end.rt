@@ -1,9 +1,9 @@
 //! How a run of many workers ends.
 
+use crate::work_end::WorkEnd;
 use keeper::Keeper;
 use order_desk::Desk;
 use pb_outside::OutError;
-use serve_work::WorkEnd;
 use session::SessionEnd;
 
 /// How a run of many workers ended.

@@ -3,11 +3,11 @@ ghost use Rattle.std.specs.Prelude.{◌≡◌, ℕ, ◌+◌, ◌*◌, ◌≤◌,
 ghost use Rattle.serve_run.specs.Workers.{IsDone, IsFresh, IsJoined, IsUnfailing, worse};
 
 use crate::rooms::put;
+use crate::work_end::WorkEnd;
 use crate::worker::{Parts, Worker};
 use keeper::Keeper;
 use order_desk::Desk;
 use pb_door::DoorPort;
-use serve_work::WorkEnd;
 use session::SessionEnd;
 use std::collections::VecDeque;
 use turn_book::{Pass, TurnBook};

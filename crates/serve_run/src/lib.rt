@@ -3,10 +3,14 @@
 
 mod end;
 mod joining;
+mod links;
 mod rooms;
 mod seating;
 mod serving;
+mod work_end;
 mod worker;
 
 pub use end::{ServeEnd, Served};
+pub use links::work;
 pub use serving::serve;
+pub use work_end::WorkEnd;

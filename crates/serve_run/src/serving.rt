@@ -9,12 +9,12 @@ use crate::end::{ServeEnd, Served};
 use crate::joining::{Joined, join_workers};
 use crate::rooms::Rooms;
 use crate::seating::seat_workers;
+use crate::work_end::WorkEnd;
 use crate::worker::Worker;
+use answering::Gate;
 use keeper::Keeper;
 use order_desk::Desk;
 use pb_door::{Door, DoorPort};
-use pb_gate::Gate;
-use serve_work::WorkEnd;
 use session::SessionEnd;
 use std::alloc::{AllocError, Global};
 use std::sync::Wait;
@@ -57,7 +57,7 @@ pub fn serve<R: Threads + Wait + Sync, D: Door, P: Keeper + Send, G: Gate + Sync
             Served { how, desk, faults }
         }
         Err(why) => {
-            let _counts = desk.counts();
+            desk.valid_law();
             Served {
                 how: ServeEnd::Closed(why),
                 desk,
@@ -116,7 +116,7 @@ fn not_run<Q: DoorPort, P: Keeper>(alloc: Global, desk: Desk<P>, ports: Vec<Q>) 
     ensures faults { result.faults.items ≡ [] }
     ensures valid { IsValid result.desk.tables }
 {
-    let _counts = desk.counts();
+    desk.valid_law();
     Run {
         how: ServeEnd::NoWorkers,
         desk,
@@ -149,7 +149,7 @@ fn run_in<R: Threads + Wait + Sync, Q: DoorPort + Send, P: Keeper + Send, G: Gat
     ensures valid { IsValid result.desk.tables }
     ensures quiet { All (λ p. Q.faultless p ≡ true) ports.items → IsQuiet result.how }
 {
-    let _counts = desk.counts();
+    desk.valid_law();
     match TurnBook::new(alloc, desk, steps) {
         Ok((book, pass)) => run_workers(rt, alloc, book, pass, share, ports, rooms, gate),
         Err(desk) => {

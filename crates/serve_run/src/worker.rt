@@ -3,12 +3,12 @@ ghost use Rattle.std.specs.Prelude.{◌≡◌, [], IsSome, None, Some};
 ghost use Rattle.order_desk.specs.Valid.{IsValid};
 ghost use Rattle.serve_run.specs.Workers.{IsDone, IsReady, IsSameWorker};
 
-use answering::Seat;
+use crate::links::work;
+use crate::work_end::WorkEnd;
+use answering::{Gate, Seat};
 use keeper::Keeper;
 use order_desk::Desk;
 use pb_door::DoorPort;
-use pb_gate::Gate;
-use serve_work::{WorkEnd, work};
 use session::SessionEnd;
 use std::alloc::Global;
 use std::marker::Model;

@@ -8,7 +8,7 @@ use Rattle.pb_door.specs.MemoryPort.{told_by as port_told_by}
 use Rattle.pb_door.specs.PortTold.{PortTold}
 use Rattle.order_desk.specs.Tables.{State}
 use Rattle.session.specs.declared.end.SessionEnd.{SessionEnd}
-use Rattle.serve_work.specs.declared.end.WorkEnd.{WorkEnd}
+use Rattle.serve_run.specs.declared.work_end.WorkEnd.{WorkEnd}
 use Rattle.serve_run.specs.ServeRun.{IsServeRun}
 use Rattle.serve_run.specs.declared.end.ServeEnd.{ServeEnd}
 use Rattle.serve_run.specs.declared.end.ServeEnd.TheVariants.{Worked}

@@ -1,7 +1,7 @@
 //! Gates at which a judging waits for another. No wait is longer than so many turns of other threads, so that each test ends.
 
+use answering::Gate;
 use pb_base::Id;
-use pb_gate::Gate;
 use std::sync::atomic::{AtomicU64, Ordering};
 use std::thread;
 

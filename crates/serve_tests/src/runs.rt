@@ -5,14 +5,12 @@ ghost use Rattle.pb_door.specs.MemoryPort.{AreUnwritten, exchange_told};
 
 use crate::gates::{Holding, Meeting};
 use crate::messages::{GONE, ORDER_OF_HALL1, ORDER_OF_HALL2, PLACED, RELEASE, WITHDRAWAL};
-use answering::Alone;
+use answering::{Alone, Gate, NoGate};
 use keeper::{MemoryKeeper, Rows};
 use order_desk::{Desk, NotStarted};
 use pb_door::MemoryDoor;
-use pb_gate::{Gate, NoGate};
 use pb_outside::{MemoryLink, MemorySink, MemorySource};
-use serve_run::{ServeEnd, Served, serve};
-use serve_work::WorkEnd;
+use serve_run::{ServeEnd, Served, WorkEnd, serve};
 use session::session;
 use std::alloc::Global;
 use std::process::Abort;

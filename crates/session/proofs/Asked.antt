@@ -10,7 +10,6 @@ use Rattle.http_api.specs.Response.{IsDeniedResponse, response_of}
 use Rattle.http_api.specs.declared.denied.Denied.{Denied}
 use Rattle.answering.specs.Answers.{Answers}
 use Rattle.answering.specs.Hand.{Hand}
-use Rattle.answering.specs.declared.said.Said.{Said}
 use Rattle.session.specs.Responses.{Asks, AnswersAsked, AnswersMessage, IsDenial, IsResponse, is_bare}
 use Rattle.session.specs.Steps.{text_of}
 
@@ -19,9 +18,9 @@ response : (head : Head) (reply : Reply) (made : Result (List ℕ) Memory) → I
 response head reply (Ok text) is = inl is
 response head reply (Err wanting) is = inr refl
 
-pub answers_asked : (call : Call) (head : Head) (h : Hand) (said : Said) (new : Hand) (made : Result (List ℕ) Memory) → Answers call h said new
-    → IfOk made (λ text. text ≡ response_of said.reply head.close (is_bare head)) → AnswersAsked (Ok call) head h (text_of head made) new
-answers_asked call head h said new made answers is = (said, answers, response head said.reply made is)
+pub answers_asked : (call : Call) (head : Head) (h : Hand) (reply : Reply) (new : Hand) (made : Result (List ℕ) Memory) → Answers call h reply new
+    → IfOk made (λ text. text ≡ response_of reply head.close (is_bare head)) → AnswersAsked (Ok call) head h (text_of head made) new
+answers_asked call head h reply new made answers is = (reply, answers, response head reply made is)
 
 denial : (head : Head) (denied : Denied) (made : Result (List ℕ) Memory) → IfOk made (IsDeniedResponse denied head.target head.close (is_bare head))
     → IsDenial head denied (text_of head made)

@@ -16,8 +16,8 @@ use Rattle.session.proofs.Hands.{hand_later, on_message}
 
 deals_with : (asked : Result Call Denied) (m : Message) (h : Hand) (text : List ℕ) (new : Hand) → IsValid h.state.tables
     → AnswersAsked asked m.head h text new → DealsWith asked m.head h text new
-deals_with (Ok call) m h text new valid (said, answers, response) =
-    record { said = said; answers = answers; dealt = is_dealt call h said new valid answers; response = response }
+deals_with (Ok call) m h text new valid (reply, answers, response) =
+    record { said = reply; answers = answers; dealt = is_dealt call h reply new valid answers; response = response }
 deals_with (Err denied) m h text new valid denies = denies
 
 exchange : (m : Message) (h : Hand) (text : List ℕ) (new : Hand) → IsValid h.state.tables → AnswersMessage m h text new

@@ -6,7 +6,8 @@ use Rattle.http_wire.specs.declared.message.Message.{Message}
 use Rattle.http_api.specs.declared.denied.Denied.{Denied}
 use Rattle.answering.specs.Hand.{Hand}
 use Rattle.answering.specs.LaterHand.{IsLaterHand}
-use Rattle.answering.proofs.LaterHands.{hand_same, hand_twice, on_course}
+use Rattle.answering.proofs.BookNames.{on_course}
+use Rattle.answering.proofs.LaterHands.{hand_same, hand_twice}
 use Rattle.session.specs.Responses.{AnswersAll, AnswersAsked, AnswersMessage}
 use Rattle.session.specs.Session.{LinkTold, IsSession}
 use Rattle.session.specs.declared.end.SessionEnd.{SessionEnd}

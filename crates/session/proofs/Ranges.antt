@@ -205,16 +205,10 @@ stable_le a b so = elim (leb_tells a b) [ inl within ↦ within.1 | inr above �
 
 stable : (asked : What) → ¬ (¬ IsCall asked) → IsCall asked
 stable (what.PutDraft draft text) so = stable_le (length text) MOST_TEXT_BYTES so
-stable (what.GiveDraft draft to) so = tt
-stable (what.ReadDraft draft) so = tt
-stable (what.ReadOwner draft) so = tt
 stable (what.Check draft budget) so = (stable_le 1 budget (λ out. so (λ is. out is.0)), stable_le budget MOST_BUDGET (λ out. so (λ is. out is.1)))
 stable (what.Release draft revision budget) so = (stable_le 1 budget (λ out. so (λ is. out is.0)), stable_le budget MOST_BUDGET (λ out. so (λ is. out is.1)))
-stable (what.ReadBook book) so = tt
-stable (what.ReadCert book) so = tt
-stable (what.Withdraw book) so = tt
 stable (what.Order number order) so = (stable_le 1 number (λ out. so (λ is. out is.0)), stable_le number 999999999 (λ out. so (λ is. out is.1)))
-stable (what.ReadOrder number) so = tt
+stable _ so = tt
 
 pub is_call : (m : Message) (call : Call) → Asks m (Ok call) → length m.body ≤ MOST_TEXT_BYTES → IsCall call.what
 is_call m call asks small = stable call.what (λ out.

@@ -5,6 +5,7 @@
 -- Where there is no memory for a response, the call has its effect all the same, and the response says so of want of memory.
 use Rattle.std.specs.Prelude.{◌≡◌, ◌⊎◌, ℕ, List, [], ◌∷◌, ◌++◌, Result, Ok, Err}
 use Rattle.desk_words.specs.declared.call.Call.{Call}
+use Rattle.desk_words.specs.declared.reply.Reply.{Reply}
 use Rattle.http_wire.specs.declared.head.Head.{Head}
 use Rattle.http_wire.specs.declared.message.Message.{Message}
 use Rattle.http_api.specs.declared.denied.Denied.{Denied}
@@ -12,17 +13,16 @@ use Rattle.order_desk.specs.Valid.{IsValid}
 use Rattle.answering.specs.Answers.{Answers}
 use Rattle.answering.specs.Dealt.{IsDealt}
 use Rattle.answering.specs.Hand.{Hand}
-use Rattle.answering.specs.declared.said.Said.{Said}
 use Rattle.session.specs.Responses.{Asks, IsDenial, IsResponse, IsUnasked, interim}
 use Rattle.session.specs.Session.{IsSession, LinkTold}
 use Rattle.session.specs.declared.end.SessionEnd.{SessionEnd}
 
 -- a call that was answered, what that comes to, and its response
 pub record IsDealing (call : Call) (head : Head) (h : Hand) (text : List ℕ) (new : Hand) : Type 0 where
-  pub said : Said
+  pub said : Reply
   pub answers : Answers call h said new
   pub dealt : IsDealt call h said new
-  pub response : IsResponse head said.reply text
+  pub response : IsResponse head said text
 
 abbrev pub DealsWith : Result Call Denied → Head → Hand → List ℕ → Hand → Type 0
 DealsWith (Ok call) head h text new = IsDealing call head h text new

@@ -20,7 +20,6 @@ use Rattle.http_api.specs.declared.denied.Denied.TheVariants.{NoPath}
 use Rattle.http_api.specs.declared.route.Route.{Route}
 use Rattle.answering.specs.Answers.{Answers}
 use Rattle.answering.specs.Hand.{Hand}
-use Rattle.answering.specs.declared.said.Said.{Said}
 use Rattle.session.specs.Reading.{Stop, whole, unread, wanting}
 
 -- ---- one message
@@ -47,7 +46,7 @@ IsDenial head denied text = IsDeniedResponse denied head.target head.close (is_b
 
 -- a call that is answered has its effect, also where there is no memory for the response; what is denied has none
 abbrev pub AnswersAsked : Result Call Denied → Head → Hand → List ℕ → Hand → Type 0
-AnswersAsked (Ok call) head h text new = (said : Said) × Answers call h said new × IsResponse head said.reply text
+AnswersAsked (Ok call) head h text new = (reply : Reply) × Answers call h reply new × IsResponse head reply text
 AnswersAsked (Err denied) head h text new = IsDenial head denied text × (new ≡ h)
 
 -- there was no memory for the call, which has no effect

@@ -7,13 +7,11 @@ ghost use Rattle.answering.specs.Answers.{IsCall};
 ghost use Rattle.session.specs.Responses.{AnswersAsked, AnswersMessage, is_bare};
 ghost use Rattle.session.specs.Steps.{text_of};
 
-use answering::{Turns, answer_call};
+use answering::{Gate, Turns, answer_call};
 use desk_words::Call;
-use findings::Report;
 use http_api::{Denied, Routes, response_of};
 use http_wire::{Head, Message};
 use pb_base::{Body, Fail, Memory};
-use pb_gate::Gate;
 use std::alloc::Global;
 
 /// Answers a message. Its effect stands also where there is no memory for the response.
@@ -46,8 +44,7 @@ fn answer_asked<T: Turns, G: Gate>(
     ensures { let text = text_of head.now result in
         AnswersAsked (Ok call) head.now (T.hand turns.old) text (T.hand turns.new) }
 {
-    let mut notes = Report::new(alloc);
-    let reply = answer_call(alloc, turns, gate, call, &mut notes);
+    let reply = answer_call(alloc, turns, gate, call);
     response_of(alloc, &reply, head.close, is_bare(head))
 }
 

@@ -10,11 +10,10 @@ use crate::end::SessionEnd;
 use crate::receive::next_message;
 use crate::respond::respond;
 use crate::write::give_up;
-use answering::Turns;
+use answering::{Gate, Turns, valid_law};
 use http_api::Routes;
 use http_wire::Wire;
 use pb_base::Memory;
-use pb_gate::Gate;
 use pb_outside::Link;
 use std::alloc::Global;
 
@@ -37,8 +36,7 @@ pub fn session<L: Link, T: Turns, G: Gate>(
     match Routes::new(alloc) {
         Ok(routes) => session_by(alloc, &routes, link, turns, gate),
         Err(Memory) => {
-            // Who asks how many steps are left knows that the tables which were seen are valid.
-            turns.left();
+            valid_law(turns);
             give_up(link)
         }
     }
@@ -58,7 +56,7 @@ pub fn session_by<L: Link, T: Turns, G: Gate>(
     ensures steps { IsLaterHand (T.hand turns.old) (T.hand turns.new) }
     ensures same_names { L.names link.new ≡ L.names link.old }
 {
-    turns.left();
+    valid_law(turns);
     serve(alloc, routes, link, turns, gate)
 }
 

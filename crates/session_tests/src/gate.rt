@@ -1,10 +1,9 @@
 //! How often the gate at the judging is passed.
 
 use crate::setting::{link_of, started};
-use answering::Alone;
+use answering::{Alone, Gate};
 use keeper::MemoryKeeper;
 use pb_base::Id;
-use pb_gate::Gate;
 use session::session;
 use std::alloc::Global;
 use std::process::Abort;

@@ -1,8 +1,7 @@
 //! A holder with too few steps.
 
 use crate::setting::{link_of, started};
-use answering::Alone;
-use pb_gate::NoGate;
+use answering::{Alone, NoGate};
 use session::session;
 use std::test::Fail;
 

@@ -2,8 +2,7 @@
 ghost use Rattle.std.specs.Prelude.{[]};
 
 use crate::setting::started;
-use answering::Alone;
-use pb_gate::NoGate;
+use answering::{Alone, NoGate};
 use pb_outside::{Ends, Link, OutError, Sink, Source};
 use session::{SessionEnd, session};
 use std::alloc::Global;

@@ -3,11 +3,10 @@ ghost use Rattle.std.specs.Prelude.{◌≡◌, ◌≤◌, []};
 ghost use Rattle.answering.specs.Seat.{IsSeated, sitting};
 
 use crate::setting::{link_of, started};
-use answering::{Seat, Turns};
+use answering::{NoGate, Seat, Turns};
 use keeper::{Keeper, MemoryKeeper};
 use order_desk::{Answer, Desk, Event};
 use pb_base::Id;
-use pb_gate::NoGate;
 use pb_outside::MemoryLink;
 use session::session;
 use std::alloc::Global;

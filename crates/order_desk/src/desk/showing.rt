@@ -1,13 +1,13 @@
-//! Events that write nothing.
+//! What only reads.
 ghost use Rattle.std.specs.Prelude.{if◌then◌else◌};
 ghost use Rattle.desk_words.specs.declared.reply.Reply.TheVariants as Reply;
 ghost use Rattle.order_desk.specs.declared.answer.Answer.TheVariants as Answer;
-ghost use Rattle.order_desk.specs.Effect.{says, look, read_book, read_cert, read_draft, read_order, read_owner, take_draft, shows_kept, same_order};
+ghost use Rattle.order_desk.specs.Effect.{says, look, read, read_draft, read_order, read_owner, show_book, shows_kept, same_order, take_draft};
 ghost use Rattle.order_desk.specs.Step.{IsOrMemory, Shows};
 
 use crate::lookup::same_order;
 use crate::writing::body_of;
-use crate::{Answer, Desk, Draft, OrderKey, SharedBook};
+use crate::{Answer, Desk, Draft, OrderKey, Reading, SharedBook};
 use desk_words::{Missing, OrderWords, Reply};
 use keeper::Keeper;
 use pb_base::{Id, Memory};
@@ -24,15 +24,6 @@ fn raw(alloc: Global, text: &[u8]) -> Answer
     }
 }
 
-fn certificate(alloc: Global, cert: &[u8]) -> Answer
-    ensures { IsOrMemory (Answer.Say (Reply.Cert cert.now)) result }
-{
-    match body_of(alloc, cert) {
-        Ok(cert) => Answer::Say(Reply::Cert(cert)),
-        Err(Memory) => Answer::Say(Reply::Memory),
-    }
-}
-
 fn taken(alloc: Global, draft: &Draft) -> Answer
     ensures { IsOrMemory (Answer.Draft draft.now.text draft.now.revision) result }
 {
@@ -45,7 +36,7 @@ fn taken(alloc: Global, draft: &Draft) -> Answer
     }
 }
 
-fn to_judge_by(book: &SharedBook) -> Answer
+fn shared(book: &SharedBook) -> Answer
     ensures { IsOrMemory (Answer.Book book.now) result }
 {
     match book.share() {
@@ -67,8 +58,29 @@ fn kept_under(alloc: Global, kept: &OrderWords, book: &SharedBook) -> Answer
 }
 
 impl<P: Keeper> Desk<P> {
+    pub(super) fn read(&self, asked: Reading) -> Answer
+        ensures { Shows (read self.now.tables asked) result }
+    {
+        match asked {
+            Reading::Draft { draft } => self.read_draft(draft),
+            Reading::Owner { draft } => self.read_owner(draft),
+            Reading::Take {
+                caller,
+                draft,
+                revision,
+            } => self.take_draft(caller, draft, revision),
+            Reading::Book { book } => self.show_book(book),
+            Reading::Look {
+                caller,
+                number,
+                order,
+            } => self.look(caller, number, order),
+            Reading::Order { caller, number } => self.read_order(caller, number),
+        }
+    }
+
     #[tactic(auto, unfolding(crate::specs::Effect::read_draft))]
-    pub(super) fn read_draft(&self, name: Id) -> Answer
+    fn read_draft(&self, name: Id) -> Answer
         ensures { Shows (read_draft self.now.tables name) result }
     {
         match self.draft_of(name) {
@@ -78,7 +90,7 @@ impl<P: Keeper> Desk<P> {
     }
 
     #[tactic(auto, unfolding(crate::specs::Effect::read_owner))]
-    pub(super) fn read_owner(&self, name: Id) -> Answer
+    fn read_owner(&self, name: Id) -> Answer
         ensures { Shows (read_owner self.now.tables name) result }
     {
         match self.draft_of(name) {
@@ -91,7 +103,7 @@ impl<P: Keeper> Desk<P> {
     }
 
     #[tactic(auto, unfolding(crate::specs::Effect::take_draft))]
-    pub(super) fn take_draft(&self, caller: Id, name: Id, revision: Option<u32>) -> Answer
+    fn take_draft(&self, caller: Id, name: Id, revision: Option<u32>) -> Answer
         ensures { Shows (take_draft self.now.tables caller name revision) result }
     {
         match self.to_take(caller, name, revision) {
@@ -100,29 +112,19 @@ impl<P: Keeper> Desk<P> {
         }
     }
 
-    #[tactic(auto, unfolding(crate::specs::Effect::read_book))]
-    pub(super) fn read_book(&self, number: u32) -> Answer
-        ensures { Shows (read_book self.now.tables number) result }
+    #[tactic(auto, unfolding(crate::specs::Effect::show_book))]
+    fn show_book(&self, number: u32) -> Answer
+        ensures { Shows (show_book self.now.tables number) result }
     {
         match self.book_of(number) {
-            Ok(book) => raw(*self.books.allocator(), book.released.released().text()),
-            Err(said) => Answer::Say(said),
-        }
-    }
-
-    #[tactic(auto, unfolding(crate::specs::Effect::read_cert))]
-    pub(super) fn read_cert(&self, number: u32) -> Answer
-        ensures { Shows (read_cert self.now.tables number) result }
-    {
-        match self.book_of(number) {
-            Ok(book) => certificate(*self.books.allocator(), book.released.released().cert()),
+            Ok(book) => shared(&book.released),
             Err(said) => Answer::Say(said),
         }
     }
 
     // A kept order, with its own book.
     #[tactic(auto, unfolding(crate::specs::Effect::shows_kept))]
-    pub(super) fn show_kept(&self, kept: &OrderWords) -> Answer
+    fn show_kept(&self, kept: &OrderWords) -> Answer
         ensures { Shows (shows_kept self.now.tables kept.now) result }
     {
         match self.book_of(kept.book) {
@@ -144,20 +146,20 @@ impl<P: Keeper> Desk<P> {
     }
 
     #[tactic(auto, unfolding(crate::specs::Effect::look))]
-    pub(super) fn look(&self, caller: Id, number: u32, order: OrderWords) -> Answer
+    fn look(&self, caller: Id, number: u32, order: OrderWords) -> Answer
         ensures { Shows (look self.now.tables caller number order) result }
     {
         match self.orders.get(&OrderKey { caller, number }) {
             Some(kept) => self.repeat(kept, &order),
             None => match self.to_place(&order) {
-                Ok(book) => to_judge_by(&book.released),
+                Ok(book) => shared(&book.released),
                 Err(said) => Answer::Say(said),
             },
         }
     }
 
     #[tactic(auto, unfolding(crate::specs::Effect::read_order))]
-    pub(super) fn read_order(&self, caller: Id, number: u32) -> Answer
+    fn read_order(&self, caller: Id, number: u32) -> Answer
         ensures { Shows (read_order self.now.tables caller number) result }
     {
         match self.orders.get(&OrderKey { caller, number }) {

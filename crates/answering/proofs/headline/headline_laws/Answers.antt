@@ -1,7 +1,8 @@
 use Rattle.std.proofs.Common.{subst}
 use Rattle.desk_words.specs.declared.call.What.{What}
 use Rattle.answering.specs.Answers.{course_of}
-use Rattle.answering.proofs.BookNames.{is_dealt, released_book}
+use Rattle.answering.proofs.BookNames.{is_dealt}
+use Rattle.answering.proofs.EventNames.{released_book}
 use Rattle.answering.proofs.NewOrders.{places_alone, places_order}
 use Rattle.answering.proofs.headline.headline_laws.Goals as goal
 

@@ -1,17 +1,12 @@
+use Rattle.std.proofs.Common.{Some, inr}
 use Rattle.answering.proofs.TableLaws.{kept_accepted}
-use Rattle.answering.proofs.ToldLaws.{told_placed}
 use Rattle.answering.proofs.orders.place.Goals as goal
 
 pub tell_placed-requires : goal.tell_placed-requires
 tell_placed-requires g c =
-    kept_accepted _ c.in-Kept.kept c.in-Kept.book c.in-Kept.ensures.valid
-    (told_placed c.args.caller c.args.number c.args.order _ _ _ c.in-Kept.ensures.takes)
+    kept_accepted _ c.in-Ok-Some.kept.order c.in-Ok-Some.kept.book c.in-Ok-Some.ensures.valid
+    (rw c.in-Ok-Some.field-0-is at c.in-Ok-Some.ensures.tells)
 
-pub unreachable-requires : goal.unreachable-requires
-unreachable-requires g c = told_placed c.args.caller c.args.number c.args.order _ _ _ c.in-Draft.ensures.takes
-
-pub unreachable-requires-in-Book : goal.unreachable-requires-in-Book
-unreachable-requires-in-Book g c = told_placed c.args.caller c.args.number c.args.order _ _ _ c.in-Book.ensures.takes
-
-pub returns-in-Kept : goal.returns-in-Kept
-returns-in-Kept g c = (_, _, c.in-Kept.ensures.takes, c.tell_placed.ensures _)
+pub returns-in-Ok-Some : goal.returns-in-Ok-Some
+returns-in-Ok-Some g c =
+    inr (Some c.in-Ok-Some.kept, _, rw c.in-Ok-Some.field-0-is at c.in-Ok-Some.ensures.takes, c.tell_placed.ensures _)

@@ -1,3 +1,4 @@
+use Rattle.order_desk.proofs.EffectWrites.{reads_nothing}
 use Rattle.order_desk.proofs.Growth.{reaches_grows}
 use Rattle.order_desk.proofs.Lasting.{fits_reached}
 use Rattle.order_desk.proofs.StepValid.{step_valid, reaches_valid}
@@ -14,3 +15,6 @@ returns-clause-step c = λ old new event answer. step_valid old event answer new
 
 pub returns-clause-valid : goal.returns-clause-valid
 returns-clause-valid c = reaches_valid
+
+pub returns-clause-reads : goal.returns-clause-reads
+returns-clause-reads c = reads_nothing

@@ -2,7 +2,7 @@ use Rattle.std.proofs.Common.{◌≡◌, ◌∙◌, ℕ, List, [], ◌∷◌, �
 use Rattle.std.specs.Prelude.{map}
 use Rattle.pb_door.specs.PortTold.{PortTold}
 use Rattle.session.specs.declared.end.SessionEnd.{SessionEnd}
-use Rattle.serve_work.specs.declared.end.WorkEnd.{WorkEnd}
+use Rattle.serve_run.specs.declared.work_end.WorkEnd.{WorkEnd}
 use Rattle.serve_run.specs.Workers.{IsJoined, worse}
 use Rattle.serve_run.proofs.Fresh.{map_push}
 use Rattle.serve_run.proofs.Runs.{joined_more}

@@ -12,7 +12,7 @@ returns-in-Err-clause-dealt g c =
     let output = g.L.Ends.output c.args.link.now in
     let after = told (g.L.Ends.input c.give_up.new.link) (g.L.Ends.output c.give_up.new.link) in
     let hand = g.T.Turns.hand c.args.turns.now in
-    has_dealt c.give_up.result hand (told input output) after hand c.left.ensures.valid
+    has_dealt c.give_up.result hand (told input output) after hand c.valid_law.ensures
     (from_start [] input output hand refl c.give_up.result after hand
     (gives_up c.give_up.result [] input (g.L.Ends.input c.give_up.new.link) output (g.L.Ends.output c.give_up.new.link)
     c.give_up.ensures.other_end c.give_up.ensures.ends hand))

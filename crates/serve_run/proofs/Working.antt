@@ -7,9 +7,9 @@ use Rattle.pb_door.specs.PortTold.{PortTold, ends, gives}
 use Rattle.answering.specs.Hand.{Hand}
 use Rattle.session.specs.Session.{IsSession, told}
 use Rattle.session.specs.declared.end.SessionEnd.{SessionEnd}
-use Rattle.serve_work.specs.Work.{EndsWork, KeepsEnd, Notes, Works, WorksOn}
-use Rattle.serve_work.specs.declared.end.WorkEnd.{WorkEnd}
-use Rattle.serve_work.specs.declared.end.WorkEnd.TheVariants.{Over, Fault, Memory}
+use Rattle.serve_run.specs.Work.{EndsWork, KeepsEnd, Notes, Works, WorksOn}
+use Rattle.serve_run.specs.declared.work_end.WorkEnd.{WorkEnd}
+use Rattle.serve_run.specs.declared.work_end.WorkEnd.TheVariants.{Over, Fault, Memory}
 
 -- what is kept behind one end more
 record IsKept (end : SessionEnd) (later : List SessionEnd) (log more : List SessionEnd) : Type 0 where

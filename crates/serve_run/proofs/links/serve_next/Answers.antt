@@ -3,10 +3,10 @@ use Rattle.std.specs.Prelude.{Err}
 use Rattle.pb_outside.specs.declared.error.OutError.{OutError}
 use Rattle.pb_door.specs.LinkTold.{link_told}
 use Rattle.pb_door.specs.PortTold.{PortTold, ends}
-use Rattle.serve_work.specs.Work.{Works, WorksOn}
-use Rattle.serve_work.specs.declared.end.WorkEnd.TheVariants.{Over, Fault, Memory}
-use Rattle.serve_work.proofs.Working.{goes_on, stops}
-use Rattle.serve_work.proofs.links.serve_next.Goals as goal
+use Rattle.serve_run.specs.Work.{Works, WorksOn}
+use Rattle.serve_run.specs.declared.work_end.WorkEnd.TheVariants.{Over, Fault, Memory}
+use Rattle.serve_run.proofs.Working.{goes_on, stops}
+use Rattle.serve_run.proofs.links.serve_next.Goals as goal
 
 pub returns-in-Ok-Some-clause-goes_on : goal.returns-in-Ok-Some-clause-goes_on
 returns-in-Ok-Some-clause-goes_on g c =

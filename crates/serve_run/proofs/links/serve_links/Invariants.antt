@@ -1,7 +1,7 @@
 use Rattle.std.proofs.Common.{◌≡◌, true, false}
 use Rattle.answering.specs.LaterHand.{IsLaterHand}
-use Rattle.serve_work.specs.Work.{WorksOn}
-use Rattle.serve_work.proofs.links.serve_links.Given as goal
+use Rattle.serve_run.specs.Work.{WorksOn}
+use Rattle.serve_run.proofs.links.serve_links.Given as goal
 
 abbrev pub invariant-loop : goal.invariant-loop
 invariant-loop g l = record {

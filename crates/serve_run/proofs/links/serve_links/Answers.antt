@@ -1,8 +1,8 @@
 use Rattle.std.proofs.Common.{arith}
 use Rattle.answering.proofs.LaterHands.{hand_twice}
-use Rattle.serve_work.specs.declared.end.WorkEnd.TheVariants.{Memory}
-use Rattle.serve_work.proofs.Working.{on_and_on, stops}
-use Rattle.serve_work.proofs.links.serve_links.Goals as goal
+use Rattle.serve_run.specs.declared.work_end.WorkEnd.TheVariants.{Memory}
+use Rattle.serve_run.proofs.Working.{on_and_on, stops}
+use Rattle.serve_run.proofs.links.serve_links.Goals as goal
 
 pub returns-in-Err-clause-steps : goal.returns-in-Err-clause-steps
 returns-in-Err-clause-steps g c =

@@ -11,8 +11,8 @@ use Rattle.answering.specs.Hand.{Hand}
 use Rattle.session.specs.Session.{IsSession, told}
 use Rattle.session.specs.declared.end.SessionEnd.{SessionEnd}
 use Rattle.session.specs.declared.end.SessionEnd.TheVariants.{Done, Broken, ReadFault, WriteFault, Memory}
-use Rattle.serve_work.specs.declared.end.WorkEnd.{WorkEnd}
-use Rattle.serve_work.specs.declared.end.WorkEnd.TheVariants.{Over, Fault, Memory as NoMemory}
+use Rattle.serve_run.specs.declared.work_end.WorkEnd.{WorkEnd}
+use Rattle.serve_run.specs.declared.work_end.WorkEnd.TheVariants.{Over, Fault, Memory as NoMemory}
 
 -- each link as it stood when it was given and when it was handed back; the first begins with what the holder of the desk
 -- knew at first, and each other one with what the one before it left

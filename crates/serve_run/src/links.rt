@@ -1,14 +1,13 @@
 //! The links of one port, served one after the other.
 ghost use Rattle.std.specs.Prelude.{◌≡◌, ◌≢◌, ◌⊎◌, [], ◌∷◌, ◌++◌, false, true, OnOk, IfErr};
 ghost use Rattle.answering.specs.LaterHand.{IsLaterHand};
-ghost use Rattle.serve_work.specs.Work.{KeepsEnd, Works, WorksOn};
+ghost use Rattle.serve_run.specs.Work.{KeepsEnd, Works, WorksOn};
 
-use crate::end::WorkEnd;
-use answering::Turns;
+use crate::work_end::WorkEnd;
+use answering::{Gate, Turns};
 use http_api::Routes;
 use pb_base::Memory;
 use pb_door::DoorPort;
-use pb_gate::Gate;
 use pb_outside::OutError;
 use session::{SessionEnd, session_by};
 use std::alloc::Global;

@@ -1,5 +1,4 @@
 //! A gate at the judging: whoever answers calls says there that the work of a call begins.
-#![tactic(auto)]
 
 use pb_base::Id;
 

@@ -1,7 +1,7 @@
 use Rattle.std.proofs.Common.{arith}
-use Rattle.serve_work.specs.declared.end.WorkEnd.TheVariants.{Memory}
-use Rattle.serve_work.proofs.Working.{stops}
-use Rattle.serve_work.proofs.links.work.Goals as goal
+use Rattle.serve_run.specs.declared.work_end.WorkEnd.TheVariants.{Memory}
+use Rattle.serve_run.proofs.Working.{stops}
+use Rattle.serve_run.proofs.links.work.Goals as goal
 
 pub returns-in-Err-clause-works : goal.returns-in-Err-clause-works
 returns-in-Err-clause-works g c =

@@ -1,6 +1,6 @@
 use Rattle.std.proofs.Common.{◌≡◌, ℕ, ◌<◌, true, List, get_or}
 use Rattle.pb_base.specs.Names.{is_code_name}
-use Rattle.answering.proofs.orders.names_law.Given as goal
+use Rattle.answering.proofs.names.code_names_law.Given as goal
 
 -- those that were read are code names
 abbrev pub invariant-loop-code : goal.invariant-loop-code
