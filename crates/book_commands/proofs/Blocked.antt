@@ -16,10 +16,7 @@ use Rattle.findings.specs.declared.report.Verdict.{Verdict}
 use Rattle.findings.specs.declared.report.Verdict.TheVariants.{Releasable, Blocked, Undecided}
 use Rattle.pb_outside.specs.Files.{FilesTold}
 use Rattle.book_commands.specs.Checks.{IsReported, IsProvedBy, IsProved, RepliesWithin, IsUnreleasable, inquiry, RepliesToCheck, RepliesToProof}
-use Rattle.book_commands.specs.Replies.{RepliesTo, asks_check}
 use Rattle.book_commands.specs.RunReply.{RunReply, verdict_status, report_reply}
-use Rattle.book_commands.specs.declared.command.BookCommand.{BookCommand}
-use Rattle.book_commands.specs.declared.command.BookCommand.TheVariants.{Order, Check, Prove, Verify, Supplements, Compare}
 use Rattle.book_commands.specs.declared.run_status.RunStatus.TheVariants.{Done, Refused, Faulty}
 use Rattle.book_commands.proofs.NeverBlocked.{never_blocked}
 
@@ -48,26 +45,16 @@ within-blocked : (limits : Result (List Slice) LimitFault) (IsAnswer : RunReply 
 within-blocked (Ok slices) IsAnswer b reply shown h refused = shown h
 within-blocked (Err fault) IsAnswer b reply shown h refused = let clash : Refused ≡ Faulty = refused ∙ ap (λ (r : RunReply). r.status) h in cc
 
-check-blocked : (input : List ℕ) (book : Result Contents BookFault) (budget : ℕ) (reply : RunReply) → book_of input ≡ book
+pub check-blocked : (input : List ℕ) (book : Result Contents BookFault) (budget : ℕ) (reply : RunReply) → book_of input ≡ book
     → RepliesToCheck book budget reply → Refused ≡ reply.status → IsOkAnd book IsUnreleasable
 check-blocked input (Ok b) budget reply e h refused =
     within-blocked (slices_within b) (IsReported (inquiry All budget b)) b reply
     (λ is. unreleasable (inquiry All budget b) is.report (book_of-book input b e) is.is_right (report_blocked b is.report reply is.answer refused)) h refused
 check-blocked input (Err fault) budget reply e h refused = let clash : Refused ≡ Faulty = refused ∙ ap (λ (r : RunReply). r.status) h in cc
 
-proof-blocked : (input : List ℕ) (book : Result Contents BookFault) (budget : ℕ) (reply : RunReply) → book_of input ≡ book
+pub proof-blocked : (input : List ℕ) (book : Result Contents BookFault) (budget : ℕ) (reply : RunReply) → book_of input ≡ book
     → RepliesToProof book budget reply → Refused ≡ reply.status → IsOkAnd book IsUnreleasable
 proof-blocked input (Ok b) budget reply e h refused =
     within-blocked (slices_within b) (IsProved (inquiry Blocking budget b)) b reply
     (λ p. proved-blocked (verdict_of p.report) (inquiry Blocking budget b) p.report reply refl (book_of-book input b e) p.is_right p.answer refused) h refused
 proof-blocked input (Err fault) budget reply e h refused = let clash : Refused ≡ Faulty = refused ∙ ap (λ (r : RunReply). r.status) h in cc
-
-pub command-blocked : (command : BookCommand) (input : List ℕ) (files files' : FilesTold) (reply : RunReply) → IsTrue (asks_check command)
-    → RepliesTo command input files files' reply → Refused ≡ reply.status → IsOkAnd (book_of input) IsUnreleasable
-unfolding RepliesTo
-command-blocked (Order day ordered) input files files' reply asks h refused = let clash : false ≡ true = asks in cc
-command-blocked (Check budget) input files files' reply asks h refused = check-blocked input (book_of input) budget reply refl h.is_answer refused
-command-blocked (Prove budget) input files files' reply asks h refused = proof-blocked input (book_of input) budget reply refl h.is_answer refused
-command-blocked (Supplements budget) input files files' reply asks h refused = let clash : false ≡ true = asks in cc
-command-blocked (Compare day file budget) input files files' reply asks h refused = let clash : false ≡ true = asks in cc
-command-blocked (Verify file) input files files' reply asks h refused = let clash : false ≡ true = asks in cc

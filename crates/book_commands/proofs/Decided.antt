@@ -16,12 +16,8 @@ use Rattle.findings.specs.declared.report.Verdict.{Verdict}
 use Rattle.findings.specs.declared.report.Verdict.TheVariants as verdicts
 use Rattle.findings.proofs.LeftLaws.{report_decided}
 use Rattle.pb_outside.specs.Files.{FilesTold}
-use Rattle.book_commands.specs.Ample.{IsAmpleCommand}
 use Rattle.book_commands.specs.Checks.{IsReported, IsProvedBy, IsProved, RepliesWithin, inquiry, RepliesToCheck, RepliesToProof}
-use Rattle.book_commands.specs.Replies.{RepliesTo}
 use Rattle.book_commands.specs.RunReply.{RunReply, verdict_status, report_reply}
-use Rattle.book_commands.specs.declared.command.BookCommand.{BookCommand}
-use Rattle.book_commands.specs.declared.command.BookCommand.TheVariants.{Order, Check, Prove, Verify, Supplements, Compare}
 use Rattle.book_commands.specs.declared.run_status.RunStatus.TheVariants.{Done, Refused, Undecided, Faulty}
 
 -- the status comes with the verdict
@@ -45,27 +41,17 @@ within_decided : (limits : Result (List Slice) LimitFault) (IsAnswer : RunReply 
 within_decided (Ok slices) IsAnswer reply never h left = never h left
 within_decided (Err fault) IsAnswer reply never h left = let clash : Undecided ≡ Faulty = left ∙ ap (λ (r : RunReply). r.status) h in cc
 
-check_decided : (input : List ℕ) (book : Result Contents BookFault) (budget : ℕ) (reply : RunReply) → book_of input ≡ book
+pub check_decided : (input : List ℕ) (book : Result Contents BookFault) (budget : ℕ) (reply : RunReply) → book_of input ≡ book
     → IfOk book (λ b. IsAmple b budget) → RepliesToCheck book budget reply → Undecided ≡ reply.status → ⊥
 check_decided input (Ok b) budget reply e ample h left =
     within_decided (slices_within b) (IsReported (inquiry All budget b)) reply
     (λ is left. report_decided (inquiry All budget b) is.report (book_of-book input b e).term ample is.is_right (report_left b is.report reply is.answer left)) h left
 check_decided input (Err fault) budget reply e ample h left = let clash : Undecided ≡ Faulty = left ∙ ap (λ (r : RunReply). r.status) h in cc
 
-proof_decided : (input : List ℕ) (book : Result Contents BookFault) (budget : ℕ) (reply : RunReply) → book_of input ≡ book
+pub proof_decided : (input : List ℕ) (book : Result Contents BookFault) (budget : ℕ) (reply : RunReply) → book_of input ≡ book
     → IfOk book (λ b. IsAmple b budget) → RepliesToProof book budget reply → Undecided ≡ reply.status → ⊥
 proof_decided input (Ok b) budget reply e ample h left =
     within_decided (slices_within b) (IsProved (inquiry Blocking budget b)) reply
     (λ p left. proved_decided (verdict_of p.report) (inquiry Blocking budget b) p.report reply p.answer
     (report_decided (inquiry Blocking budget b) p.report (book_of-book input b e).term ample p.is_right) left) h left
 proof_decided input (Err fault) budget reply e ample h left = let clash : Undecided ≡ Faulty = left ∙ ap (λ (r : RunReply). r.status) h in cc
-
-pub command-decided : (command : BookCommand) (input : List ℕ) (files files' : FilesTold) (reply : RunReply) → IsAmpleCommand command input
-    → RepliesTo command input files files' reply → Undecided ≡ reply.status → ⊥
-unfolding RepliesTo
-command-decided (Order day ordered) input files files' reply ample h left = ample
-command-decided (Check budget) input files files' reply ample h left = check_decided input (book_of input) budget reply refl ample h.is_answer left
-command-decided (Prove budget) input files files' reply ample h left = proof_decided input (book_of input) budget reply refl ample h.is_answer left
-command-decided (Verify file) input files files' reply ample h left = ample
-command-decided (Supplements budget) input files files' reply ample h left = ample
-command-decided (Compare day file budget) input files files' reply ample h left = ample

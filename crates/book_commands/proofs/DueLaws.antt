@@ -1,26 +1,13 @@
 -- The reply that is due, by what was read.
 use Rattle.std.proofs.Common.{◌≡◌, ℕ, List, refl, arith}
 use Rattle.std.specs.Prelude.{Option, None, Some, Result, Ok, Err, IfOk}
-use Rattle.pb_outside.specs.Faults.{Rose}
-use Rattle.pb_outside.specs.Files.{FilesTold}
 use Rattle.pb_outside.specs.Source.{ReadsUpTo, LosesFront}
 use Rattle.book_commands.specs.Due.{Due, file_fault, no_memory}
 use Rattle.book_commands.specs.Inputs.{Inputs, input_limit, ReadsInput}
-use Rattle.book_commands.specs.Replies.{FailsAtFile, KeepsFiles}
+use Rattle.book_commands.specs.Promises.{promise_of}
 use Rattle.book_commands.specs.RunReply.{RunReply, memory_reply, read_fault_reply, due_of}
-use Rattle.book_commands.specs.declared.command.BookCommand.{BookCommand}
-use Rattle.book_commands.specs.declared.command.BookCommand.TheVariants.{Order, Check, Prove, Verify, Supplements, Compare}
+use Rattle.command_words.specs.declared.task.BookCommand.{BookCommand}
 use Rattle.book_commands.specs.declared.object.Object.TheVariants.{Files}
-
--- files that nobody touched
-pub KeepsFiles-same : (command : BookCommand) (files : FilesTold) → KeepsFiles command files files
-unfolding KeepsFiles
-KeepsFiles-same (Order day ordered) files = refl
-KeepsFiles-same (Check budget) files = refl
-KeepsFiles-same (Prove budget) files = refl
-KeepsFiles-same (Supplements budget) files = refl
-KeepsFiles-same (Compare day file budget) files = record { same = refl; later = record { never_falls = omega arith; kept = λ h. h } }
-KeepsFiles-same (Verify file) files = record { same = refl; later = record { never_falls = omega arith; kept = λ h. h } }
 
 -- what was read is a front of what was left
 LosesFront-of_read : (left left' : Option (List ℕ)) (input : List ℕ) → ReadsUpTo input_limit left left' input → LosesFront input_limit left left'
@@ -32,7 +19,7 @@ LosesFront-none None = tt
 LosesFront-none (Some all) = (0, omega arith, refl)
 
 pub Due-of_files : {E : Type 0} (command : BookCommand) (before after : Inputs) (input : List ℕ) (result : Result RunReply E)
-    → ReadsInput before.source after.source input → FailsAtFile command input before.files after.files
+    → ReadsInput before.source after.source input → (promise_of command).fails_at_file input before.files after.files
     → IfOk result (λ reply. reply ≡ read_fault_reply Files before.files.faults.count after.files.faults.count)
     → Due command before after (due_of result)
 Due-of_files command before after input (Ok reply) read fails is = file_fault input read fails is
@@ -41,13 +28,3 @@ Due-of_files command before after input (Err wanting) read fails is = no_memory 
 pub Due-of_memory : (command : BookCommand) (before after : Inputs) (input : List ℕ) → ReadsInput before.source after.source input
     → Due command before after memory_reply
 Due-of_memory command before after input read = no_memory (LosesFront-of_read before.source.left after.source.left input read.text) refl
-
--- files that failed
-pub file_rose : (command : BookCommand) (input : List ℕ) (files files' : FilesTold) → FailsAtFile command input files files' → Rose files.faults.count files'.faults.count
-unfolding FailsAtFile
-file_rose (Order day ordered) input files files' h = absurd h
-file_rose (Check budget) input files files' h = absurd h
-file_rose (Prove budget) input files files' h = absurd h
-file_rose (Supplements budget) input files files' h = absurd h
-file_rose (Compare day file budget) input files files' h = h.rose
-file_rose (Verify file) input files files' h = h.fault.rose

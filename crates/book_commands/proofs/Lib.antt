@@ -11,3 +11,5 @@ pub mod ReportLaws
 pub mod TextLaws
 pub mod Decided
 pub mod CompareLaws
+pub mod Lawful
+pub mod Promises

@@ -21,10 +21,8 @@ use Rattle.findings.specs.declared.report.Verdict.{Verdict}
 use Rattle.findings.specs.declared.report.Verdict.TheVariants.{Releasable, Blocked, Undecided}
 use Rattle.pb_outside.specs.Files.{FilesTold}
 use Rattle.book_commands.specs.Checks.{IsReported, IsProvedBy, IsProved, RepliesWithin, inquiry, RepliesToCheck, RepliesToProof}
-use Rattle.book_commands.specs.Replies.{RepliesTo, RepliesToVerify, asks_release}
+use Rattle.book_commands.specs.Verify.{RepliesToVerify}
 use Rattle.book_commands.specs.RunReply.{RunReply, certified_reply, content_reply, verdict_status, report_reply}
-use Rattle.book_commands.specs.declared.command.BookCommand.{BookCommand}
-use Rattle.book_commands.specs.declared.command.BookCommand.TheVariants.{Order, Check, Prove, Verify, Supplements, Compare}
 use Rattle.book_commands.specs.declared.run_status.RunStatus.TheVariants.{Done, Faulty}
 
 -- the status of done comes with a certificate of the book
@@ -37,7 +35,7 @@ content-releasable : (b : Contents) (content : Option (List ℕ)) → IsBook b �
 content-releasable b None book done = cc
 content-releasable b (Some text) book done = certified-releasable b text (cert_answer b text) refl book done
 
-verified-releasable : (input file : List ℕ) (book : Result Contents BookFault) (files files' : FilesTold) (reply : RunReply) → book_of input ≡ book
+pub verified-releasable : (input file : List ℕ) (book : Result Contents BookFault) (files files' : FilesTold) (reply : RunReply) → book_of input ≡ book
     → RepliesToVerify book file files files' reply → Done ≡ reply.status → IsOkAnd book IsReleasable
 verified-releasable input file (Ok b) files files' reply is h done =
     content-releasable b h.content (book_of-book input b is) (done ∙ ap (λ (r : RunReply). r.status) h.answer)
@@ -64,7 +62,7 @@ within-releasable (Ok slices) IsAnswer b reply shown h done = shown h
 within-releasable (Err fault) IsAnswer b reply shown h done =
     let clash : Done ≡ Faulty = done ∙ ap (λ (r : RunReply). r.status) h in cc
 
-check-releasable : (book : Result Contents BookFault) (budget : ℕ) (reply : RunReply) → RepliesToCheck book budget reply
+pub check-releasable : (book : Result Contents BookFault) (budget : ℕ) (reply : RunReply) → RepliesToCheck book budget reply
     → Done ≡ reply.status → IsOkAnd book IsReleasable
 check-releasable (Ok b) budget reply h done =
     within-releasable (slices_within b) (IsReported (inquiry All budget b)) b reply
@@ -72,20 +70,10 @@ check-releasable (Ok b) budget reply h done =
 check-releasable (Err fault) budget reply h done =
     let clash : Done ≡ Faulty = done ∙ ap (λ (r : RunReply). r.status) h in cc
 
-proof-releasable : (input : List ℕ) (book : Result Contents BookFault) (budget : ℕ) (reply : RunReply) → book_of input ≡ book
+pub proof-releasable : (input : List ℕ) (book : Result Contents BookFault) (budget : ℕ) (reply : RunReply) → book_of input ≡ book
     → RepliesToProof book budget reply → Done ≡ reply.status → IsOkAnd book IsReleasable
 proof-releasable input (Ok b) budget reply is h done =
     within-releasable (slices_within b) (IsProved (inquiry Blocking budget b)) b reply
     (λ p. proved-releasable (verdict_of p.report) b p.report reply refl (book_of-book input b is) p.answer done) h done
 proof-releasable input (Err fault) budget reply is h done =
     let clash : Done ≡ Faulty = done ∙ ap (λ (r : RunReply). r.status) h in cc
-
-pub command-releasable : (command : BookCommand) (input : List ℕ) (files files' : FilesTold) (reply : RunReply) → IsTrue (asks_release command)
-    → RepliesTo command input files files' reply → Done ≡ reply.status → IsOkAnd (book_of input) IsReleasable
-unfolding RepliesTo
-command-releasable (Order day ordered) input files files' reply asks h done = let clash : false ≡ true = asks in cc
-command-releasable (Check budget) input files files' reply asks h done = check-releasable (book_of input) budget reply h.is_answer done
-command-releasable (Prove budget) input files files' reply asks h done = proof-releasable input (book_of input) budget reply refl h.is_answer done
-command-releasable (Supplements budget) input files files' reply asks h done = let clash : false ≡ true = asks in cc
-command-releasable (Compare day file budget) input files files' reply asks h done = let clash : false ≡ true = asks in cc
-command-releasable (Verify file) input files files' reply asks h done = verified-releasable input file (book_of input) files files' reply refl h done

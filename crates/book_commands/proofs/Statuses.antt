@@ -34,19 +34,17 @@ use Rattle.supplement_findings.specs.Limits.{slices_within as supplement_slices}
 use Rattle.supplement_findings.specs.Notes.{is_finding, is_undecided}
 use Rattle.supplement_findings.specs.declared.report.SupplementNote.{SupplementNote}
 use Rattle.pb_outside.specs.Files.{NamedBytes, FilesTold, content_of, within_room, ReadsFile}
-use Rattle.book_commands.specs.Ends.{IsDecided, IsOrderStatus, IsCheckStatus, IsVerifyStatus, IsReplyStatus, IsSampleStatus, EndsCheck, EndsCommand, EndsSample}
+use Rattle.book_commands.specs.Ends.{IsDecided, IsOrderStatus, IsCheckStatus, IsVerifyStatus, IsSampleStatus, EndsCheck, EndsSample}
 use Rattle.book_commands.specs.Logged.{logged_behind, is_spent}
 use Rattle.book_commands.specs.RunReply.{RunReply, outcome_status, judged_reply, order_reply, certified_reply, content_reply}
 use Rattle.book_commands.specs.RunReply.{verdict_status, report_reply}
 use Rattle.book_commands.specs.Checks.{IsReported, IsProvedBy, IsProved, RepliesWithin, inquiry, RepliesToCheck, RepliesToProof}
 use Rattle.book_commands.specs.Sample.{RepliesToSample}
-use Rattle.book_commands.specs.Size.{Size}
+use Rattle.command_words.specs.Size.{Size}
 use Rattle.book_commands.specs.Supplements.{IsSupplementReply, RepliesToSupplements}
 use Rattle.book_commands.specs.CompareReply.{IsReleased, IsComparisonReply, RepliesByDay, RepliesToSecond, RepliesToTexts, RepliesToCompare, IsBookOn, HasBookOn, IsValidCompare}
 use Rattle.book_commands.specs.declared.log.Note.TheVariants.{Supplement, Compare as CompareLogged}
-use Rattle.book_commands.specs.Replies.{IsCertificate, HasCertificate, IsValidCommand, RepliesTo, RepliesToVerify}
-use Rattle.book_commands.specs.declared.command.BookCommand.{BookCommand}
-use Rattle.book_commands.specs.declared.command.BookCommand.TheVariants.{Order, Check, Prove, Verify, Supplements, Compare}
+use Rattle.book_commands.specs.Verify.{IsCertificate, HasCertificate, RepliesToVerify}
 use Rattle.book_commands.specs.declared.run_status.RunStatus.{RunStatus}
 use Rattle.book_commands.specs.declared.run_status.RunStatus.TheVariants as statuses
 
@@ -59,7 +57,7 @@ judged-kind : (b : Contents) (answer : Result Outcome OrderFault) → IsOrderSta
 judged-kind b (Ok outcome) = inl (decided-outcome outcome)
 judged-kind b (Err fault) = inr refl
 
-order-kind : (book : Result Contents BookFault) (day : ℕ) (ordered : List (List ℕ)) → IsOrderStatus (order_reply book day ordered).status
+pub order-kind : (book : Result Contents BookFault) (day : ℕ) (ordered : List (List ℕ)) → IsOrderStatus (order_reply book day ordered).status
 order-kind (Ok b) day ordered = judged-kind b (outcome_of b day ordered)
 order-kind (Err fault) day ordered = inr refl
 
@@ -72,10 +70,10 @@ content-kind b None = inr (inl refl)
 content-kind b (Some text) = certified-kind b (cert_answer b text)
 
 -- a reply that is an answer ends as the answer does
-same-kind : (IsKind : RunStatus → Type 0) (answer reply : RunReply) → reply ≡ answer → IsKind answer.status → IsKind reply.status
+pub same-kind : (IsKind : RunStatus → Type 0) (answer reply : RunReply) → reply ≡ answer → IsKind answer.status → IsKind reply.status
 same-kind IsKind answer reply e h = subst (λ (r : RunReply). IsKind r.status) (sym e) h
 
-verify-kind : (book : Result Contents BookFault) (file : List ℕ) (files files' : FilesTold) (reply : RunReply)
+pub verify-kind : (book : Result Contents BookFault) (file : List ℕ) (files files' : FilesTold) (reply : RunReply)
     → RepliesToVerify book file files files' reply → IsVerifyStatus reply.status
 verify-kind (Ok b) file files files' reply h = same-kind IsVerifyStatus _ reply h.answer (content-kind b h.content)
 verify-kind (Err fault) file files files' reply h = same-kind IsVerifyStatus _ reply h.answer (inr (inr refl))
@@ -98,12 +96,12 @@ within-kind : (limits : Result (List Slice) LimitFault) (IsAnswer : RunReply →
 within-kind (Ok slices) IsAnswer reply kind h = kind reply h
 within-kind (Err fault) IsAnswer reply kind h = same-kind IsCheckStatus _ reply h (inr (inr refl))
 
-check-kind : (book : Result Contents BookFault) (budget : ℕ) (reply : RunReply) → RepliesToCheck book budget reply → IsCheckStatus reply.status
+pub check-kind : (book : Result Contents BookFault) (budget : ℕ) (reply : RunReply) → RepliesToCheck book budget reply → IsCheckStatus reply.status
 check-kind (Ok b) budget reply h =
     within-kind (slices_within b) (IsReported (inquiry All budget b)) reply (λ r is. report-kind b is.report r is.answer) h
 check-kind (Err fault) budget reply h = same-kind IsCheckStatus _ reply h (inr (inr refl))
 
-proof-kind : (book : Result Contents BookFault) (budget : ℕ) (reply : RunReply) → RepliesToProof book budget reply → IsCheckStatus reply.status
+pub proof-kind : (book : Result Contents BookFault) (budget : ℕ) (reply : RunReply) → RepliesToProof book budget reply → IsCheckStatus reply.status
 proof-kind (Ok b) budget reply h =
     within-kind (slices_within b) (IsProved (inquiry Blocking budget b)) reply
     (λ r is. proved-kind (verdict_of is.report) b is.report r is.answer) h
@@ -115,7 +113,7 @@ supplement-cases true left = inl (inr refl)
 supplement-cases false true = inr (refl, refl)
 supplement-cases false false = inl (inl refl)
 
-supplements-kind : (book : Result Contents BookFault) (budget : ℕ) (reply : RunReply) → RepliesToSupplements book budget reply → IsCheckStatus reply.status
+pub supplements-kind : (book : Result Contents BookFault) (budget : ℕ) (reply : RunReply) → RepliesToSupplements book budget reply → IsCheckStatus reply.status
 supplements-kind (Ok b) budget reply h =
     within-kind (supplement_slices b) (IsSupplementReply (record { book = b; budget = budget })) reply
     (λ r is. same-kind IsCheckStatus _ r is.answer (elim (supplement-cases (list_any is_finding is.report) (list_any is_undecided is.report)) [ inl done ↦ inl done | inr left ↦ inr (inl left.0) ])) h
@@ -133,21 +131,11 @@ second-kind one (Some text) day budget reply h = elim h [
   | inr compares ↦ outside-kind (outside one compares.book day) one compares.book day budget reply compares.answer
 ]
 
-texts-kind : (first : List ℕ) (second : Option (List ℕ)) (day budget : ℕ) (reply : RunReply) → RepliesToTexts first second day budget reply → IsCheckStatus reply.status
+pub texts-kind : (first : List ℕ) (second : Option (List ℕ)) (day budget : ℕ) (reply : RunReply) → RepliesToTexts first second day budget reply → IsCheckStatus reply.status
 texts-kind first second day budget reply h = elim h [
   | inl kept ↦ proof-kind (book_of first) budget reply kept.answer
   | inr from ↦ second-kind from.book second day budget reply from.answer
 ]
-
-pub replies-kind : (command : BookCommand) (input : List ℕ) (files files' : FilesTold) (reply : RunReply)
-    → RepliesTo command input files files' reply → IsReplyStatus command reply.status
-unfolding RepliesTo
-replies-kind (Order day ordered) input files files' reply h = same-kind IsOrderStatus _ reply h.is_answer (order-kind (book_of input) day ordered)
-replies-kind (Check budget) input files files' reply h = check-kind (book_of input) budget reply h.is_answer
-replies-kind (Prove budget) input files files' reply h = proof-kind (book_of input) budget reply h.is_answer
-replies-kind (Supplements budget) input files files' reply h = supplements-kind (book_of input) budget reply h.is_answer
-replies-kind (Compare day file budget) input files files' reply h = texts-kind input h.content day budget reply h.answer
-replies-kind (Verify file) input files files' reply h = verify-kind (book_of input) file files files' reply h
 
 pub sample-kind : (size : Size) (reply : RunReply) → RepliesToSample size reply → IsSampleStatus reply.status
 sample-kind size reply h = elim h.answer [
@@ -159,7 +147,7 @@ judged-status : (b : Contents) (fault : Option OrderFault) (outcome : Outcome) �
 judged-status b fault outcome e =
     subst (λ (f : Option OrderFault). IsDecided (judged_reply b (unless f (Ok outcome))).status) (sym e) (decided-outcome outcome)
 
-order-status : (book : Result Contents BookFault) (day : ℕ) (ordered : List (List ℕ)) → IsOk book
+pub order-status : (book : Result Contents BookFault) (day : ℕ) (ordered : List (List ℕ)) → IsOk book
     → IfOk book (λ b. order_fault b day ordered ≡ None) → IsDecided (order_reply book day ordered).status
 order-status (Ok b) day ordered ok none = judged-status b (order_fault b day ordered) _ none
 order-status (Err fault) day ordered ok none = let clash : false ≡ true = ok in cc
@@ -185,7 +173,7 @@ file-status : (b : Contents) (content : Option (List ℕ)) (files : Option (List
 file-status b content None file h read = absurd h
 file-status b content (Some all) file h read = found-status b content (content_of all file) h read
 
-verify-status : (book : Result Contents BookFault) (file : List ℕ) (files files' : FilesTold) (reply : RunReply)
+pub verify-status : (book : Result Contents BookFault) (file : List ℕ) (files files' : FilesTold) (reply : RunReply)
     → IsOk book → IfOk book (λ b. HasCertificate b files.files file) → RepliesToVerify book file files files' reply → reply.status ≡ statuses.Done
 verify-status (Ok b) file files files' reply ok has h =
     same-kind (λ status. status ≡ statuses.Done) _ reply h.answer (file-status b h.content files.files file has h.read)
@@ -226,14 +214,14 @@ within-answered : (limits : Result (List Slice) LimitFault) (IsAnswer : RunReply
 within-answered (Ok slices) IsAnswer reply ok answered h = answered reply h
 within-answered (Err fault) IsAnswer reply ok answered h = let clash : false ≡ true = ok in cc
 
-check-answered : (book : Result Contents BookFault) (budget : ℕ) (reply : RunReply) → IsOk book → IfOk book (λ b. IsOk (slices_within b))
+pub check-answered : (book : Result Contents BookFault) (budget : ℕ) (reply : RunReply) → IsOk book → IfOk book (λ b. IsOk (slices_within b))
     → RepliesToCheck book budget reply → EndsChecked reply
 check-answered (Ok b) budget reply ok limits h =
     within-answered (slices_within b) (IsReported (inquiry All budget b)) reply limits
     (λ r is. same-checked _ r is.answer (report-answered b is.report)) h
 check-answered (Err fault) budget reply ok limits h = let clash : false ≡ true = ok in cc
 
-proof-answered : (book : Result Contents BookFault) (budget : ℕ) (reply : RunReply) → IsOk book → IfOk book (λ b. IsOk (slices_within b))
+pub proof-answered : (book : Result Contents BookFault) (budget : ℕ) (reply : RunReply) → IsOk book → IfOk book (λ b. IsOk (slices_within b))
     → RepliesToProof book budget reply → EndsChecked reply
 proof-answered (Ok b) budget reply ok limits h =
     within-answered (slices_within b) (IsProved (inquiry Blocking budget b)) reply limits
@@ -244,7 +232,7 @@ undecided-logged : (report : List SupplementNote) → list_any is_spent (map Sup
 undecided-logged [] = refl
 undecided-logged (note ∷ report) = ap (λ (later : Bool). is_undecided note || later) (undecided-logged report)
 
-supplements-answered : (book : Result Contents BookFault) (budget : ℕ) (reply : RunReply) → IsOk book → IfOk book (λ b. IsOk (supplement_slices b))
+pub supplements-answered : (book : Result Contents BookFault) (budget : ℕ) (reply : RunReply) → IsOk book → IfOk book (λ b. IsOk (supplement_slices b))
     → RepliesToSupplements book budget reply → EndsChecked reply
 supplements-answered (Ok b) budget reply ok limits h =
     within-answered (supplement_slices b) (IsSupplementReply (record { book = b; budget = budget })) reply limits
@@ -299,7 +287,7 @@ file-text : (day : ℕ) (files : Option (List NamedBytes)) (file : List ℕ) (co
 file-text day None file content on read = absurd on
 file-text day (Some all) file content on read = found-text day (content_of all file) content on read
 
-compare-answered : (input file : List ℕ) (day budget : ℕ) (files files' : FilesTold) (reply : RunReply) → IsValidCompare input files.files file day
+pub compare-answered : (input file : List ℕ) (day budget : ℕ) (files files' : FilesTold) (reply : RunReply) → IsValidCompare input files.files file day
     → RepliesToCompare input day file budget files files' reply → EndsChecked reply
 compare-answered input file day budget files files' reply valid h = elim h.answer [
   | inl kept ↦ proof-answered (book_of input) budget reply valid.first.checkable.no_fault valid.first.checkable.limits kept.answer
@@ -307,19 +295,6 @@ compare-answered input file day budget files files' reply valid h = elim h.answe
       content-answered from.book h.content day budget reply (on-day input from.book day valid.first from.released)
       (file-text day files.files file h.content valid.second h.read) from.answer
 ]
-
--- a valid command is answered
-pub valid-answered : (command : BookCommand) (input : List ℕ) (files files' : FilesTold) (reply : RunReply)
-    → IsValidCommand command input files.files → RepliesTo command input files files' reply → EndsCommand command reply.status reply.notes
-unfolding RepliesTo IsValidCommand
-valid-answered (Order day ordered) input files files' reply v h =
-    same-kind IsDecided _ reply h.is_answer (order-status (book_of input) day ordered v.book v.order)
-valid-answered (Check budget) input files files' reply v h = check-answered (book_of input) budget reply v.no_fault v.limits h.is_answer
-valid-answered (Prove budget) input files files' reply v h = proof-answered (book_of input) budget reply v.no_fault v.limits h.is_answer
-valid-answered (Supplements budget) input files files' reply v h = supplements-answered (book_of input) budget reply v.no_fault v.limits h.is_answer
-valid-answered (Compare day file budget) input files files' reply v h = compare-answered input file day budget files files' reply v h
-valid-answered (Verify file) input files files' reply v h =
-    verify-status (book_of input) file files files' reply v.book v.certificate h
 
 left_by_verdict : (fault left : Bool) → (if fault then Blocked else (if left then Undecided else Releasable)) ≡ Undecided → left ≡ true
 left_by_verdict true left e = cc

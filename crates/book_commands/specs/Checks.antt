@@ -1,17 +1,19 @@
--- What the check of a whole book is answered.
+-- What the check of a whole book is answered, and what is promised of `check` and of `prove`.
 --     RepliesToCheck book budget reply    the report on all questions
 --     RepliesToProof book budget reply    a certificate, or the report on what keeps the book from its release
 --     not_checked_reply why               why there is no report
 --     kept_back_reply why                 why there is no certificate, or no released book
-use Rattle.std.specs.Prelude.{◌≡◌, ℕ, ◌≤◌, List, Result, Ok, Err, IsOk, IfOk}
+use Rattle.std.specs.Prelude.{◌≡◌, ℕ, ◌≤◌, true, List, Result, Ok, Err, IsOk, IfOk}
 use Rattle.pb_base.specs.declared.limits.TheConstants.{MOST_SLICES}
 use Rattle.book_model.specs.Contents.{Contents}
 use Rattle.book_model.specs.Sound.{IsReleasable}
 use Rattle.book_model.specs.declared.record.Slice.{Slice}
 use Rattle.book_model.specs.declared.slicing.LimitFault.{LimitFault}
+use Rattle.book_text.specs.BookText.{book_of}
 use Rattle.book_text.specs.declared.fault.BookFault.{BookFault}
 use Rattle.derivation.specs.Limits.{slices_within}
 use Rattle.derivation.specs.Accepted.{IsAccepted}
+use Rattle.findings.specs.Left.{IsAmple}
 use Rattle.findings.specs.Notes.{Inquiry, IsReport, verdict_of}
 use Rattle.findings.specs.declared.report.Ask.{Ask}
 use Rattle.findings.specs.declared.report.Ask.TheVariants.{All, Blocking}
@@ -22,7 +24,9 @@ use Rattle.release_check.specs.declared.checking.NotChecked.{NotChecked}
 use Rattle.release_check.specs.declared.checking.NotChecked.TheVariants as not_checked
 use Rattle.release_check.specs.declared.not_released.NotReleased.{NotReleased}
 use Rattle.release_check.specs.declared.not_released.NotReleased.TheVariants as not_released
+use Rattle.book_commands.specs.Ends.{EndsCheck, IsCheckStatus}
 use Rattle.book_commands.specs.Logged.{slices_told}
+use Rattle.book_commands.specs.Promise.{Promise, RepliesAlone, fails_nowhere, touches_nothing}
 use Rattle.book_commands.specs.RunReply.{RunReply, book_fault_reply, limit_fault_reply, report_reply, certificate_reply}
 
 -- a right report, and where it says that the book can be released, the book can
@@ -94,3 +98,35 @@ pub record IsCheckable (book : Result Contents BookFault) : Type 0 where
 -- position and nowhere two
 abbrev pub IsUnreleasable : Contents → Type 0
 IsUnreleasable b = IsReleasable b → ⊥
+
+-- ---- the promises
+
+-- the budget is above 3 to the power of the number of variables of the slice, on each day of the book's term
+abbrev pub IsAmpleFor : ℕ → List ℕ → Type 0
+IsAmpleFor budget input = IfOk (book_of input) (λ b. IsAmple b budget)
+
+abbrev pub check_promise : ℕ → Promise
+check_promise budget = record {
+  replies = λ input. RepliesAlone (RepliesToCheck (book_of input) budget);
+  fails_at_file = fails_nowhere;
+  keeps_files = touches_nothing;
+  is_valid = λ input files. IsCheckable (book_of input);
+  is_status = IsCheckStatus;
+  is_answer = EndsCheck;
+  tells_release = true;
+  tells_refusal = true;
+  is_ample = IsAmpleFor budget;
+}
+
+abbrev pub proof_promise : ℕ → Promise
+proof_promise budget = record {
+  replies = λ input. RepliesAlone (RepliesToProof (book_of input) budget);
+  fails_at_file = fails_nowhere;
+  keeps_files = touches_nothing;
+  is_valid = λ input files. IsCheckable (book_of input);
+  is_status = IsCheckStatus;
+  is_answer = EndsCheck;
+  tells_release = true;
+  tells_refusal = true;
+  is_ample = IsAmpleFor budget;
+}

@@ -1,9 +1,9 @@
--- What the comparison of two books is answered.
+-- What the comparison of two books is answered, and what is promised of `compare`.
 --     IsKeptBack text budget reply       the text's book is not released, and the reply is that of a proof, which gives no certificate
 --     comparison_reply notes             the notes on all positions, which stand in the log
 --     RepliesToTexts first second day budget reply
 --                                        the books of both texts are released, the first one first, and then compared
-use Rattle.std.specs.Prelude.{◌≡◌, ◌⊎◌, ℕ, true, List, [], Option, None, Some, Ok, IfOk, IsSomeAnd, IsTrue, codes, length, map, nat_le, if◌then◌else◌}
+use Rattle.std.specs.Prelude.{◌≡◌, ◌⊎◌, ℕ, true, false, List, [], Option, None, Some, Ok, IfOk, IsSomeAnd, IsTrue, codes, length, map, nat_le, if◌then◌else◌}
 use Rattle.std.specs.List.{list_any}
 use Rattle.pb_base.specs.declared.limits.TheConstants.{MOST_TEXT_BYTES}
 use Rattle.book_compare.specs.CompareText.{is_finding, is_undecided, compare_text}
@@ -18,8 +18,10 @@ use Rattle.book_text.specs.BookText.{book_of}
 use Rattle.book_text.specs.declared.fault.BookFault.{BookFault}
 use Rattle.book_text.specs.declared.fault.BookKind.TheVariants.{TooLarge}
 use Rattle.desk_words.specs.Lines.{line}
-use Rattle.pb_outside.specs.Files.{NamedBytes, FilesTold, content_of, ReadsFile}
+use Rattle.pb_outside.specs.Files.{NamedBytes, FilesTold, content_of, ReadsFile, FailsToRead}
 use Rattle.book_commands.specs.Checks.{RepliesToProof, IsCheckable}
+use Rattle.book_commands.specs.Ends.{EndsCheck, IsCheckStatus}
+use Rattle.book_commands.specs.Promise.{Promise, ReadsFiles, never_ample}
 use Rattle.book_commands.specs.RunReply.{RunReply, book_fault_reply}
 use Rattle.book_commands.specs.declared.log.Note.TheVariants.{Compare}
 use Rattle.book_commands.specs.declared.run_status.RunStatus.{RunStatus}
@@ -103,3 +105,16 @@ HasBookOn day files file = IsSomeAnd files (λ all. IsSomeAnd (content_of all fi
 pub record IsValidCompare (input : List ℕ) (files : Option (List NamedBytes)) (file : List ℕ) (day : ℕ) : Type 0 where
   pub first : IsBookOn day input
   pub second : HasBookOn day files file
+
+abbrev pub compare_promise : ℕ → List ℕ → ℕ → Promise
+compare_promise day file budget = record {
+  replies = λ input. RepliesToCompare input day file budget;
+  fails_at_file = λ input. FailsToRead file;
+  keeps_files = ReadsFiles;
+  is_valid = λ input files. IsValidCompare input files file day;
+  is_status = IsCheckStatus;
+  is_answer = EndsCheck;
+  tells_release = false;
+  tells_refusal = false;
+  is_ample = never_ample;
+}

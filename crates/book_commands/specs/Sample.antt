@@ -27,7 +27,7 @@ use Rattle.release.specs.declared.judging.Judged.TheVariants as judged
 use Rattle.book_commands.specs.Checks.{inquiry}
 use Rattle.book_commands.specs.Logged.{logged}
 use Rattle.book_commands.specs.RunReply.{RunReply}
-use Rattle.book_commands.specs.Size.{Size}
+use Rattle.command_words.specs.Size.{Size}
 use Rattle.pb_base.specs.declared.limits.TheConstants.{DEFAULT_BUDGET}
 use Rattle.book_commands.specs.declared.run_status.RunStatus.TheVariants as statuses
 use Rattle.book_commands.specs.declared.tally.Tally.{Tally}

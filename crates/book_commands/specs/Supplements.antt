@@ -1,15 +1,18 @@
--- What the check of supplementing rules is answered.
+-- What the check of supplementing rules is answered, and what is promised of `supplements`.
 --     supplement_status report    by the findings, and then by what is undecided
 --     RepliesToSupplements book budget reply    the report, or the fault of the text, or the limit that the book exceeds
-use Rattle.std.specs.Prelude.{◌≡◌, ℕ, List, Result, Ok, Err, IsOk, IfOk, map, if◌then◌else◌}
+use Rattle.std.specs.Prelude.{◌≡◌, ℕ, false, List, Result, Ok, Err, IsOk, IfOk, map, if◌then◌else◌}
 use Rattle.std.specs.List.{list_any}
 use Rattle.book_model.specs.Contents.{Contents}
+use Rattle.book_text.specs.BookText.{book_of}
 use Rattle.book_text.specs.declared.fault.BookFault.{BookFault}
 use Rattle.pb_reports.specs.SupplementText.{supplement_text}
 use Rattle.supplement_findings.specs.Limits.{slices_within}
 use Rattle.supplement_findings.specs.Notes.{SupplementInquiry, IsReport, is_finding, is_undecided}
 use Rattle.supplement_findings.specs.declared.report.SupplementNote.{SupplementNote}
 use Rattle.book_commands.specs.Checks.{RepliesWithin}
+use Rattle.book_commands.specs.Ends.{EndsCheck, IsCheckStatus}
+use Rattle.book_commands.specs.Promise.{Promise, RepliesAlone, fails_nowhere, touches_nothing, never_ample}
 use Rattle.book_commands.specs.RunReply.{RunReply, book_fault_reply}
 use Rattle.book_commands.specs.declared.log.Note.TheVariants.{Supplement}
 use Rattle.book_commands.specs.declared.run_status.RunStatus.{RunStatus}
@@ -37,3 +40,16 @@ RepliesToSupplements (Err fault) budget reply = reply ≡ book_fault_reply fault
 pub record IsAskable (book : Result Contents BookFault) : Type 0 where
   pub no_fault : IsOk book
   pub limits : IfOk book (λ b. IsOk (slices_within b))
+
+abbrev pub supplements_promise : ℕ → Promise
+supplements_promise budget = record {
+  replies = λ input. RepliesAlone (RepliesToSupplements (book_of input) budget);
+  fails_at_file = fails_nowhere;
+  keeps_files = touches_nothing;
+  is_valid = λ input files. IsAskable (book_of input);
+  is_status = IsCheckStatus;
+  is_answer = EndsCheck;
+  tells_release = false;
+  tells_refusal = false;
+  is_ample = never_ample;
+}

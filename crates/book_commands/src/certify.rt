@@ -5,7 +5,8 @@ ghost use Rattle.book_text.specs.BookText.{book_of};
 ghost use Rattle.derivation.specs.Certificate.{cert_answer};
 ghost use Rattle.pb_outside.specs.Files.{FailsToRead};
 ghost use Rattle.book_commands.specs.RunReply.{cert_fault_reply, certified_reply, content_reply};
-ghost use Rattle.book_commands.specs.Replies.{RepliesToFile, RepliesToVerify, FailsAtCertificate, ReadsFiles};
+ghost use Rattle.book_commands.specs.Promise.{ReadsFiles};
+ghost use Rattle.book_commands.specs.Verify.{RepliesToFile, RepliesToVerify, FailsAtCertificate};
 
 use crate::cert_text::{cert_fault_text, verified_text};
 use crate::judge::book_fault_reply;

@@ -6,7 +6,6 @@ ghost use Rattle.book_commands.specs.Logged.{slices_told};
 ghost use Rattle.book_commands.specs.RunReply.{limit_fault_reply, verdict_status, report_reply};
 ghost use Rattle.book_commands.specs.Checks.{RepliesToCheck, RepliesToProof, HasFewSlices, kept_back_reply, not_checked_reply};
 
-use crate::budget::Budget;
 use crate::fault_text::limit_fault_text;
 use crate::judge::book_fault_reply;
 use crate::log::Note;
@@ -14,6 +13,7 @@ use crate::logged::logged;
 use crate::run_reply::RunReply;
 use crate::run_status::RunStatus;
 use book_model::{Book, LimitFault};
+use command_words::Budget;
 use findings::{Report, Verdict, verdict_of};
 use pb_base::{Fail, Memory};
 use pb_reports::report_text;

@@ -3,17 +3,17 @@ ghost use Rattle.std.specs.Prelude.{◌≡◌, IfOk};
 ghost use Rattle.pb_outside.specs.Faults.{IsLater};
 ghost use Rattle.book_commands.specs.Inputs.{inputs};
 ghost use Rattle.book_commands.specs.RunReply.{due_of};
-ghost use Rattle.book_commands.specs.Replies.{RepliesTo, FailsAtFile, KeepsFiles};
+ghost use Rattle.book_commands.specs.Promises.{promise_of};
 ghost use Rattle.book_commands.specs.Due.{Due};
 
 use crate::certify::verify_reply;
 use crate::check::{check_reply, proof_reply};
-use crate::command::BookCommand;
 use crate::comparing::compare_reply;
 use crate::judge::order_reply;
 use crate::object::Object;
 use crate::run_reply::RunReply;
 use crate::supplements::supplements_reply;
+use command_words::BookCommand;
 use pb_base::Memory;
 use pb_base::limits::MOST_TEXT_BYTES;
 use pb_outside::{Files, OutError, Source, read_up_to};
@@ -33,7 +33,7 @@ pub fn due_reply<S: Source, F: Files>(
         let after = inputs (S.input source.new) (F.told files.new) in
         Due command.now before after (due_of result) }
     ensures source_later { IsLater (S.input source.old).faults (S.input source.new).faults }
-    ensures files_kept { KeepsFiles command.now (F.told files.old) (F.told files.new) }
+    ensures files_kept { (promise_of command.now).keeps_files (F.told files.old) (F.told files.new) }
 {
     let source_before = source.read_faults();
     let files_before = files.faults();
@@ -56,17 +56,17 @@ pub fn due_reply<S: Source, F: Files>(
     }
 }
 
-#[tactic(auto, unfolding(crate::specs::Replies::RepliesTo, crate::specs::Replies::FailsAtFile, crate::specs::Replies::KeepsFiles))]
+#[tactic(auto, unfolding(crate::specs::Promises::promise_of))]
 fn command_reply<F: Files>(
     alloc: Global,
     command: &BookCommand,
     input: &[u8],
     files: &mut F,
 ) -> Result<RunReply, OutError>
-    ensures reply { IfOk result (RepliesTo command.now input.now (F.told files.old) (F.told files.new)) }
-    ensures cause { let fails = FailsAtFile command.now input.now (F.told files.old) (F.told files.new) in
+    ensures reply { IfOk result ((promise_of command.now).replies input.now (F.told files.old) (F.told files.new)) }
+    ensures cause { let fails = (promise_of command.now).fails_at_file input.now (F.told files.old) (F.told files.new) in
         result ≡ Err OutError.Failed → fails }
-    ensures kept { KeepsFiles command.now (F.told files.old) (F.told files.new) }
+    ensures kept { (promise_of command.now).keeps_files (F.told files.old) (F.told files.new) }
 {
     match command {
         BookCommand::Order { day, codes } => Ok(order_reply(alloc, input, *day, codes)?),

@@ -15,10 +15,10 @@ ghost use Rattle.pb_base.specs.declared.limits.TheConstants.{DEFAULT_BUDGET};
 use crate::logged::logged;
 use crate::run_reply::RunReply;
 use crate::run_status::RunStatus;
-use crate::sample_size::SampleSize;
 use crate::tally::{Tally, put_tally};
 use book_model::Book;
 use book_sample::{Sampler, sample_book};
+use command_words::SampleSize;
 use desk_words::{OrderWords, put_number};
 use findings::Report;
 use pb_base::limits::DEFAULT_BUDGET;
@@ -32,12 +32,20 @@ use std::alloc::Global;
 pub fn sample_reply(alloc: Global, size: &SampleSize) -> Result<RunReply, Memory>
     ensures { IfOk result (RepliesToSample size.now) }
 {
-    let text = sample_book(alloc, size.start(), size.codes())?;
+    let text = sample_book(alloc, size.start(), codes_of(size))?;
     match try_release(alloc, text, DEFAULT_BUDGET) {
         Ok(released) => released_reply(alloc, size, &released),
         Err(Fail::Refused(why)) => refused_reply(alloc, size, why),
         Err(Fail::Memory) => Err(Memory),
     }
+}
+
+// The number of codes, which a generated book may have.
+fn codes_of(size: &SampleSize) -> u32
+    ensures value { result ≡ size.now.codes }
+    ensures lawful { MaySample result }
+{
+    size.codes()
 }
 
 fn released_reply(alloc: Global, size: &SampleSize, released: &Released) -> Result<RunReply, Memory>
@@ -126,7 +134,7 @@ fn put_size(text: &mut Text, size: &SampleSize) -> Result<(), Memory>
 {
     text.put(b"sample")?;
     put_number(text, u64::from(size.start()))?;
-    put_number(text, u64::from(size.codes()))?;
+    put_number(text, u64::from(codes_of(size)))?;
     put_number(text, u64::from(size.orders()))?;
     text.put(b"\n")
 }
@@ -149,7 +157,7 @@ fn judge_orders(alloc: Global, released: &Released, size: &SampleSize) -> Result
     requires { book_of (sample_text size.now.start size.now.codes) ≡ Ok released.now.book }
     ensures { IfOk result (λ tally. tally ≡ tally_of released.now.book size.now) }
 {
-    let mut sampler = Sampler::after_book(size.start(), size.codes());
+    let mut sampler = Sampler::after_book(size.start(), codes_of(size));
     let mut tally = Tally::none();
     for _ in 0..size.orders() {
         let order = sampler.next_order(alloc)?;

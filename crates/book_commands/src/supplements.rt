@@ -7,7 +7,6 @@ ghost use Rattle.book_commands.specs.Checks.{RepliesWithin};
 ghost use Rattle.book_commands.specs.Supplements.{supplement_status, supplement_reply, IsSupplementReply, RepliesToSupplements};
 ghost use Rattle.book_commands.specs.declared.log.Note.TheVariants.{Supplement};
 
-use crate::budget::Budget;
 use crate::check::limit_fault_reply;
 use crate::judge::book_fault_reply;
 use crate::log::Note;
@@ -15,6 +14,7 @@ use crate::run_reply::RunReply;
 use crate::run_status::RunStatus;
 use book_model::Book;
 use book_text::read_book;
+use command_words::Budget;
 use pb_base::{Fail, Memory};
 use pb_reports::supplement_text;
 use std::alloc::Global;

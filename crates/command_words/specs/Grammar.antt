@@ -9,8 +9,8 @@ use Rattle.clap.specs.Lexer.{long_of}
 use Rattle.clap.specs.Words.{App, Row, Rule, all_of, first_of, new_app, new_rule, with_rule, with_subcommand}
 use Rattle.clap.specs.Simple.{new_shape}
 use Rattle.clap.specs.declared.builder.action.ArgAction.TheVariants.{Append}
-use Rattle.command_words.specs.Meaning.{asked}
-use Rattle.command_words.specs.declared.command.Command.{Command}
+use Rattle.command_words.specs.Meaning.{asked, command_words}
+use Rattle.command_words.specs.declared.task.Task.{Task}
 use Rattle.command_words.specs.Parts.{Words, is_plain, dashes}
 use Rattle.command_words.specs.Prepared.{is_long, plain_front, behind_plain}
 
@@ -41,9 +41,6 @@ with_form app name = with_subcommand app (form name).top
 abbrev pub with_forms : App → Words → App
 with_forms = fold with_form
 
-abbrev pub command_words : Words
-command_words = codes "order" ∷ codes "check" ∷ codes "prove" ∷ codes "verify" ∷ codes "desk" ∷ codes "serve" ∷ codes "sample" ∷ codes "supplements" ∷ codes "compare" ∷ codes "rejudge" ∷ []
-
 abbrev pub grammar : App
 grammar = with_forms top command_words
 
@@ -71,8 +68,8 @@ option_in (word ∷ words) = budget_in (long_of word) words
 abbrev pub taken : Words → Option (Option (List ℕ) × Words)
 taken words = option_map (λ p. (p.0, plain_front words ++ p.1)) (option_in (behind_plain words))
 
--- the words ask for the command, as the parser reads them
-abbrev pub parsed : Words → Option Command
+-- the words ask for the task, as the parser reads them
+abbrev pub parsed : Words → Option Task
 parsed [] = None
 parsed (name ∷ words) = option_and_then (λ p. asked name p.0 p.1) (taken words)
 
@@ -82,9 +79,9 @@ is_prepared [] = false
 is_prepared (name ∷ words) = is_plain name && is_tame words
 
 -- what the rows of a form ask
-abbrev pub form_read : List ℕ → List Row → Option Command
+abbrev pub form_read : List ℕ → List Row → Option Task
 form_read name rows = asked name (first_of (codes "budget") rows) (unwrap_or (all_of (codes "operands") rows) [])
 
-abbrev pub read : Option (List ℕ × List Row) → Option Command
+abbrev pub read : Option (List ℕ × List Row) → Option Task
 read None = None
 read (Some form) = form_read form.0 form.1

@@ -1,4 +1,7 @@
 pub mod Parts
+pub mod Size
+pub mod Service
+pub mod Rejudging
 pub mod Meaning
 pub mod Prepared
 pub mod Grammar

@@ -1,22 +1,27 @@
 -- What the words of a command line ask for.
---     order DAY CODE..              the order of these codes on this day
---     check [--budget N]            the report of a book's checks, each within the budget
---     prove [--budget N]            the certificate of a book, found within the budget
+--     order DAY CODE..              what the order of these codes on this day comes to
+--     check [--budget N]            what is wrong with the book
+--     prove [--budget N]            a certificate that the book can be released, or what keeps it from its release
 --     verify CERTFILE               the check of the certificate in this file
---     desk STORE                    the order desk over this store
---     serve STORE PORT WORKERS LINKS    the order desk over this store, at this port, for so many links
---     sample START CODES ORDERS     the generated book with this many codes, and this many orders
---     supplements [--budget N]      what completion does with sets that break no rule, each question within the budget
---     compare DAY FILE [--budget N]    what changes on this day with the book in this file, each question within the budget
---     rejudge STORE BOOK WORKERS    what the orders that this store keeps come to by this book
+--     desk STORE                    the order desk over the rows that this store keeps
+--     serve STORE PORT WORKERS LINKS    the order desk over the rows that this store keeps, at this port, for so many links
+--     sample START CODES ORDERS     the release of the generated book of this size, and what its orders come to
+--     supplements [--budget N]      what completion does with sets that break no rule
+--     compare DAY FILE [--budget N]    what changes on this day from the book to the one in this file
+--     rejudge STORE BOOK WORKERS    the orders that this store keeps, judged again by the book of this number
+-- A budget is the most clauses that may be learnt for one question.
 use Rattle.std.specs.Prelude.{◌≡◌, ◌==◌, ◌&&◌, ℕ, ◌%◌, List, [], ◌∷◌, Option, None, Some, codes, nat_le, if◌then◌else◌}
 use Rattle.std.specs.Option.{option_map, option_and_then}
 use Rattle.std.specs.List.{list_all}
 use Rattle.pb_base.specs.Names.{same_name, is_code_name}
 use Rattle.pb_base.specs.Digits.{number_within, short_number}
 use Rattle.command_words.specs.Parts.{Words, HasParts}
-use Rattle.command_words.specs.declared.command.Command.{Command}
-use Rattle.command_words.specs.declared.command.Command.TheVariants.{Order, Check, Prove, Verify, Desk, Serve, Sample, Supplements, Compare, Rejudge}
+use Rattle.command_words.specs.Size.{Size}
+use Rattle.command_words.specs.Service.{Service}
+use Rattle.command_words.specs.Rejudging.{Rejudging}
+use Rattle.command_words.specs.declared.task.Task.{Task}
+use Rattle.command_words.specs.declared.task.Task.TheVariants.{Book, Desk, Serve, Rejudge, Sample}
+use Rattle.command_words.specs.declared.task.BookCommand.TheVariants.{Order, Check, Prove, Verify, Supplements, Compare}
 use Rattle.pb_base.specs.declared.limits.TheConstants.{MOST_BUDGET, DEFAULT_BUDGET}
 
 -- the number of 1 to 10 digits, where it lies in the range
@@ -28,8 +33,8 @@ abbrev pub codes_of : Words → Option Words
 codes_of names = if list_all is_code_name names then Some names else None
 
 -- a day is 1 to 5 digits
-abbrev pub order_of : Option (List ℕ) → Words → Option Command
-order_of None (day ∷ names) = option_and_then (λ on. option_map (Order on) (codes_of names)) (short_number day)
+abbrev pub order_of : Option (List ℕ) → Words → Option Task
+order_of None (day ∷ names) = option_and_then (λ on. option_map (λ ordered. Book (Order on ordered)) (codes_of names)) (short_number day)
 order_of budget operands = None
 
 -- the budget where no option gives one is 10,000
@@ -37,16 +42,28 @@ abbrev pub budget_of : Option (List ℕ) → Option ℕ
 budget_of None = Some DEFAULT_BUDGET
 budget_of (Some text) = number_in 1 MOST_BUDGET text
 
-abbrev pub check_of : (ℕ → Command) → Option (List ℕ) → Words → Option Command
-check_of command budget [] = option_map command (budget_of budget)
-check_of command budget (word ∷ words) = None
+abbrev pub budget_alone : Option (List ℕ) → Words → Option ℕ
+budget_alone budget [] = budget_of budget
+budget_alone budget (word ∷ words) = None
+
+abbrev pub check_of : Option (List ℕ) → Words → Option Task
+check_of budget operands = option_map (λ n. Book (Check n)) (budget_alone budget operands)
+
+abbrev pub prove_of : Option (List ℕ) → Words → Option Task
+prove_of budget operands = option_map (λ n. Book (Prove n)) (budget_alone budget operands)
+
+abbrev pub supplements_of : Option (List ℕ) → Words → Option Task
+supplements_of budget operands = option_map (λ n. Book (Supplements n)) (budget_alone budget operands)
 
 abbrev pub only_one : Option (List ℕ) → Words → Option (List ℕ)
 only_one None (word ∷ []) = Some word
 only_one budget operands = None
 
-abbrev pub file_of : (List ℕ → Command) → Option (List ℕ) → Words → Option Command
-file_of command budget operands = option_map command (only_one budget operands)
+abbrev pub verify_of : Option (List ℕ) → Words → Option Task
+verify_of budget operands = option_map (λ file. Book (Verify file)) (only_one budget operands)
+
+abbrev pub desk_of : Option (List ℕ) → Words → Option Task
+desk_of budget operands = option_map Desk (only_one budget operands)
 
 -- the port, the workers and the links
 abbrev pub door_of : Words → Option (ℕ × ℕ × ℕ)
@@ -55,54 +72,74 @@ door_of (port ∷ workers ∷ links ∷ []) =
     (number_in 1 65535 port)
 door_of operands = None
 
-abbrev pub serve_of : Option (List ℕ) → Words → Option Command
-serve_of None (store ∷ numbers) = option_map (λ d. Serve store d.0 d.1 d.2) (door_of numbers)
+abbrev pub service : List ℕ → ℕ × ℕ × ℕ → Service
+service store d = record { store = store; port = d.0; workers = d.1; links = d.2 }
+
+abbrev pub serve_of : Option (List ℕ) → Words → Option Task
+serve_of None (store ∷ numbers) = option_map (λ d. Serve (service store d)) (door_of numbers)
 serve_of budget operands = None
 
 abbrev pub codes_number : List ℕ → Option ℕ
 codes_number text = option_and_then (λ n. if n % 4 == 0 then Some n else None) (number_in 8 2000 text)
 
-abbrev pub sample_of : Option (List ℕ) → Words → Option Command
-sample_of None (start ∷ size ∷ orders ∷ []) =
-    option_and_then (λ s. option_and_then (λ c. option_map (Sample s c) (number_in 0 10000 orders)) (codes_number size))
+abbrev pub size : ℕ → ℕ → ℕ → Size
+size start codes orders = record { start = start; codes = codes; orders = orders }
+
+abbrev pub sample_of : Option (List ℕ) → Words → Option Task
+sample_of None (start ∷ codes ∷ orders ∷ []) =
+    option_and_then (λ s. option_and_then (λ c. option_map (λ o. Sample (size s c o)) (number_in 0 10000 orders)) (codes_number codes))
     (number_in 0 4294967295 start)
 sample_of budget operands = None
 
 -- a day is 1 to 5 digits
-abbrev pub compare_of : Option (List ℕ) → Words → Option Command
-compare_of budget (day ∷ file ∷ []) = option_and_then (λ on. option_map (Compare on file) (budget_of budget)) (short_number day)
+abbrev pub compare_of : Option (List ℕ) → Words → Option Task
+compare_of budget (day ∷ file ∷ []) = option_and_then (λ on. option_map (λ n. Book (Compare on file n)) (budget_of budget)) (short_number day)
 compare_of budget operands = None
 
-abbrev pub rejudge_of : Option (List ℕ) → Words → Option Command
+abbrev pub rejudging : List ℕ → ℕ → ℕ → Rejudging
+rejudging store book workers = record { store = store; book = book; workers = workers }
+
+abbrev pub rejudge_of : Option (List ℕ) → Words → Option Task
 rejudge_of None (store ∷ book ∷ workers ∷ []) =
-    option_and_then (λ b. option_map (Rejudge store b) (number_in 1 16 workers)) (number_in 1 4294967295 book)
+    option_and_then (λ b. option_map (λ w. Rejudge (rejudging store b w)) (number_in 1 16 workers)) (number_in 1 4294967295 book)
 rejudge_of budget operands = None
 
+-- the command words
+abbrev pub command_words : Words
+command_words =
+    codes "order" ∷ codes "check" ∷ codes "prove" ∷ codes "verify" ∷ codes "desk" ∷ codes "serve" ∷ codes "sample" ∷ codes "supplements"
+    ∷ codes "compare" ∷ codes "rejudge" ∷ []
+
 -- what a command word asks with a budget and operands
-abbrev pub asked : List ℕ → Option (List ℕ) → Words → Option Command
+abbrev pub asked : List ℕ → Option (List ℕ) → Words → Option Task
 asked name budget operands =
     if same_name name (codes "order") then order_of budget operands
-    else (if same_name name (codes "check") then check_of Check budget operands
-    else (if same_name name (codes "prove") then check_of Prove budget operands
-    else (if same_name name (codes "verify") then file_of Verify budget operands
-    else (if same_name name (codes "desk") then file_of Desk budget operands
+    else (if same_name name (codes "check") then check_of budget operands
+    else (if same_name name (codes "prove") then prove_of budget operands
+    else (if same_name name (codes "verify") then verify_of budget operands
+    else (if same_name name (codes "desk") then desk_of budget operands
     else (if same_name name (codes "serve") then serve_of budget operands
     else (if same_name name (codes "sample") then sample_of budget operands
-    else (if same_name name (codes "supplements") then check_of Supplements budget operands
+    else (if same_name name (codes "supplements") then supplements_of budget operands
     else (if same_name name (codes "compare") then compare_of budget operands
     else (if same_name name (codes "rejudge") then rejudge_of budget operands
     else None)))))))))
 
--- the words ask for the command
-pub record IsForm (words : Words) (command : Command) : Type 0 where
+-- the words ask for the task
+pub record Asks (words : Words) (task : Task) : Type 0 where
   pub name : List ℕ
   pub behind : Words
   pub budget : Option (List ℕ)
   pub operands : Words
   pub words_are : words ≡ name ∷ behind
   pub parts : HasParts behind budget operands
-  pub asks : asked name budget operands ≡ Some command
+  pub asks : asked name budget operands ≡ Some task
 
--- the words ask for no command
-abbrev pub HasNoForm : Words → Type 0
-HasNoForm words = (command : Command) → IsForm words command → ⊥
+-- the words are of no form
+abbrev pub AsksNothing : Words → Type 0
+AsksNothing words = (task : Task) → Asks words task → ⊥
+
+-- the words ask for this task, or for nothing
+abbrev pub Means : Words → Option Task → Type 0
+Means words None = AsksNothing words
+Means words (Some task) = Asks words task

@@ -1,25 +1,46 @@
 //! What a command word asks with a budget and operands.
-ghost use Rattle.std.specs.Prelude.{◌≡◌, ◌≤◌, IfOk, IfSome, option_map};
+ghost use Rattle.std.specs.Prelude.{◌≡◌, ◌%◌, ◌≤◌, IfOk, IfSome, option_map};
 ghost use Rattle.command_words.specs.Prepared.{lent, lent_option};
-ghost use Rattle.command_words.specs.Meaning.{number_in, codes_of, order_of, budget_of, check_of, only_one, file_of, compare_of, rejudge_of};
-ghost use Rattle.command_words.specs.Meaning.{door_of, serve_of, codes_number, sample_of, asked};
-ghost use Rattle.command_words.specs.declared.command.Command.TheVariants.{Check, Prove, Verify, Desk, Supplements};
+ghost use Rattle.command_words.specs.Meaning.{number_in, codes_of, order_of, budget_of, budget_alone, check_of, prove_of, supplements_of};
+ghost use Rattle.command_words.specs.Meaning.{only_one, verify_of, desk_of, compare_of, rejudge_of};
+ghost use Rattle.command_words.specs.Meaning.{door_of, serve_of, codes_number, sample_of, asked, command_words};
 
-use crate::command::Command;
+use crate::budget::Budget;
 use crate::file_name::FileName;
+use crate::rejudging::Rejudging;
+use crate::sample_size::SampleSize;
+use crate::service::Service;
+use crate::task::{BookCommand, Task};
 use pb_base::limits::{DEFAULT_BUDGET, MOST_BUDGET};
 use pb_base::{CodeList, CodeName, Memory, number_within, short_number};
 use std::alloc::Global;
 
-/// The command, or None where the word is no command word, or takes other operands or no budget.
+/// The command words.
+pub fn command_words<'a>() -> [&'a str; 10]
+    ensures { lent result ≡ command_words }
+{
+    [
+        "order",
+        "check",
+        "prove",
+        "verify",
+        "desk",
+        "serve",
+        "sample",
+        "supplements",
+        "compare",
+        "rejudge",
+    ]
+}
+
+/// The task, or None where the word is no command word, or takes other operands or no budget.
 pub fn asked(
     alloc: Global,
     name: &str,
     budget: Option<&str>,
     operands: &[&str],
-) -> Result<Option<Command>, Memory>
-    ensures { IfOk result (λ command. command
-        ≡ asked name.now (lent_option budget.entry) (lent operands.now)) }
+) -> Result<Option<Task>, Memory>
+    ensures { IfOk result (λ task. task ≡ asked name.now (lent_option budget.entry) (lent operands.now)) }
 {
     if name == "order" {
         order_of(alloc, budget, operands)
@@ -46,13 +67,8 @@ pub fn asked(
     }
 }
 
-fn order_of(
-    alloc: Global,
-    budget: Option<&str>,
-    operands: &[&str],
-) -> Result<Option<Command>, Memory>
-    ensures { IfOk result (λ command. command
-        ≡ order_of (lent_option budget.entry) (lent operands.now)) }
+fn order_of(alloc: Global, budget: Option<&str>, operands: &[&str]) -> Result<Option<Task>, Memory>
+    ensures { IfOk result (λ task. task ≡ order_of (lent_option budget.entry) (lent operands.now)) }
 {
     if budget.is_some() {
         return Ok(None);
@@ -64,7 +80,7 @@ fn order_of(
         return Ok(None);
     };
     match codes_of(alloc, names)? {
-        Some(codes) => Ok(Some(Command::Order { day, codes })),
+        Some(codes) => Ok(Some(Task::Book(BookCommand::Order { day, codes }))),
         None => Ok(None),
     }
 }
@@ -82,75 +98,69 @@ fn codes_of(alloc: Global, names: &[&str]) -> Result<Option<CodeList>, Memory>
     Ok(Some(codes))
 }
 
-fn check_of(budget: Option<&str>, operands: &[&str]) -> Option<Command>
-    ensures { result ≡ check_of Check (lent_option budget.entry) (lent operands.now) }
+fn check_of(budget: Option<&str>, operands: &[&str]) -> Option<Task>
+    ensures { result ≡ check_of (lent_option budget.entry) (lent operands.now) }
 {
-    if !operands.is_empty() {
-        return None;
-    }
-    let budget = budget_of(budget)?;
-    Some(Command::Check { budget })
+    let budget = budget_alone(budget, operands)?;
+    Some(Task::Book(BookCommand::Check { budget }))
 }
 
-fn prove_of(budget: Option<&str>, operands: &[&str]) -> Option<Command>
-    ensures { result ≡ check_of Prove (lent_option budget.entry) (lent operands.now) }
+fn prove_of(budget: Option<&str>, operands: &[&str]) -> Option<Task>
+    ensures { result ≡ prove_of (lent_option budget.entry) (lent operands.now) }
 {
-    if !operands.is_empty() {
-        return None;
-    }
-    let budget = budget_of(budget)?;
-    Some(Command::Prove { budget })
+    let budget = budget_alone(budget, operands)?;
+    Some(Task::Book(BookCommand::Prove { budget }))
 }
 
-fn supplements_of(budget: Option<&str>, operands: &[&str]) -> Option<Command>
-    ensures { result ≡ check_of Supplements (lent_option budget.entry) (lent operands.now) }
+fn supplements_of(budget: Option<&str>, operands: &[&str]) -> Option<Task>
+    ensures { result ≡ supplements_of (lent_option budget.entry) (lent operands.now) }
+{
+    let budget = budget_alone(budget, operands)?;
+    Some(Task::Book(BookCommand::Supplements { budget }))
+}
+
+// The budget, where there are no operands.
+fn budget_alone(budget: Option<&str>, operands: &[&str]) -> Option<Budget>
+    ensures { result ≡ budget_alone (lent_option budget.entry) (lent operands.now) }
 {
     if !operands.is_empty() {
         return None;
     }
-    let budget = budget_of(budget)?;
-    Some(Command::Supplements { budget })
+    budget_of(budget)
 }
 
 // The most work for one question, which is 10,000 where the words say none.
-fn budget_of(text: Option<&str>) -> Option<u32>
+fn budget_of(text: Option<&str>) -> Option<Budget>
     ensures { result ≡ budget_of (lent_option text.entry) }
 {
     match text {
-        Some(text) => number_in(text, 1, MOST_BUDGET),
-        None => Some(DEFAULT_BUDGET),
+        Some(text) => {
+            let clauses = number_in(text, 1, MOST_BUDGET)?;
+            Some(Budget::of(clauses))
+        }
+        None => Some(Budget::of(DEFAULT_BUDGET)),
     }
 }
 
-fn verify_of(
-    alloc: Global,
-    budget: Option<&str>,
-    operands: &[&str],
-) -> Result<Option<Command>, Memory>
-    ensures { IfOk result (λ command. command
-        ≡ file_of Verify (lent_option budget.entry) (lent operands.now)) }
+fn verify_of(alloc: Global, budget: Option<&str>, operands: &[&str]) -> Result<Option<Task>, Memory>
+    ensures { IfOk result (λ task. task ≡ verify_of (lent_option budget.entry) (lent operands.now)) }
 {
     match only_one(budget, operands) {
         Some(name) => {
             let file = FileName::of(alloc, name)?;
-            Ok(Some(Command::Verify { file }))
+            Ok(Some(Task::Book(BookCommand::Verify { file })))
         }
         None => Ok(None),
     }
 }
 
-fn desk_of(
-    alloc: Global,
-    budget: Option<&str>,
-    operands: &[&str],
-) -> Result<Option<Command>, Memory>
-    ensures { IfOk result (λ command. command
-        ≡ file_of Desk (lent_option budget.entry) (lent operands.now)) }
+fn desk_of(alloc: Global, budget: Option<&str>, operands: &[&str]) -> Result<Option<Task>, Memory>
+    ensures { IfOk result (λ task. task ≡ desk_of (lent_option budget.entry) (lent operands.now)) }
 {
     match only_one(budget, operands) {
         Some(name) => {
             let store = FileName::of(alloc, name)?;
-            Ok(Some(Command::Desk { store }))
+            Ok(Some(Task::Desk { store }))
         }
         None => Ok(None),
     }
@@ -171,13 +181,8 @@ fn only_one<'a>(budget: Option<&str>, operands: &[&'a str]) -> Option<&'a str>
     }
 }
 
-fn serve_of(
-    alloc: Global,
-    budget: Option<&str>,
-    operands: &[&str],
-) -> Result<Option<Command>, Memory>
-    ensures { IfOk result (λ command. command
-        ≡ serve_of (lent_option budget.entry) (lent operands.now)) }
+fn serve_of(alloc: Global, budget: Option<&str>, operands: &[&str]) -> Result<Option<Task>, Memory>
+    ensures { IfOk result (λ task. task ≡ serve_of (lent_option budget.entry) (lent operands.now)) }
 {
     if budget.is_some() {
         return Ok(None);
@@ -189,17 +194,13 @@ fn serve_of(
         return Ok(None);
     };
     let store = FileName::of(alloc, store)?;
-    Ok(Some(Command::Serve {
-        store,
-        port,
-        workers,
-        links,
-    }))
+    Ok(Some(Task::Serve(Service::of(store, port, workers, links))))
 }
 
 // The port, the workers and the links.
 fn door_of(operands: &[&str]) -> Option<(u16, u32, u32)>
-    ensures { result ≡ door_of (lent operands.now) }
+    ensures value { result ≡ door_of (lent operands.now) }
+    ensures some { IfSome result (λ door. 1 ≤ door.1) }
 {
     let [port, workers, links] = operands else {
         return None;
@@ -210,32 +211,27 @@ fn door_of(operands: &[&str]) -> Option<(u16, u32, u32)>
     Some((port, workers, links))
 }
 
-fn sample_of(budget: Option<&str>, operands: &[&str]) -> Option<Command>
+fn sample_of(budget: Option<&str>, operands: &[&str]) -> Option<Task>
     ensures { result ≡ sample_of (lent_option budget.entry) (lent operands.now) }
 {
     if budget.is_some() {
         return None;
     }
-    let [start, size, orders] = operands else {
+    let [start, codes, orders] = operands else {
         return None;
     };
     let start = number_in(start, 0, u32::MAX)?;
-    let codes = codes_number(size)?;
+    let codes = codes_number(codes)?;
     let orders = number_in(orders, 0, 10_000)?;
-    Some(Command::Sample {
-        start,
-        codes,
-        orders,
-    })
+    Some(Task::Sample(SampleSize::of(start, codes, orders)))
 }
 
 fn compare_of(
     alloc: Global,
     budget: Option<&str>,
     operands: &[&str],
-) -> Result<Option<Command>, Memory>
-    ensures { IfOk result (λ command. command
-        ≡ compare_of (lent_option budget.entry) (lent operands.now)) }
+) -> Result<Option<Task>, Memory>
+    ensures { IfOk result (λ task. task ≡ compare_of (lent_option budget.entry) (lent operands.now)) }
 {
     let [day, file] = operands else {
         return Ok(None);
@@ -243,7 +239,7 @@ fn compare_of(
     match (short_number(day.as_bytes()), budget_of(budget)) {
         (Some(day), Some(budget)) => {
             let file = FileName::of(alloc, file)?;
-            Ok(Some(Command::Compare { day, file, budget }))
+            Ok(Some(Task::Book(BookCommand::Compare { day, file, budget })))
         }
         _ => Ok(None),
     }
@@ -253,9 +249,8 @@ fn rejudge_of(
     alloc: Global,
     budget: Option<&str>,
     operands: &[&str],
-) -> Result<Option<Command>, Memory>
-    ensures { IfOk result (λ command. command
-        ≡ rejudge_of (lent_option budget.entry) (lent operands.now)) }
+) -> Result<Option<Task>, Memory>
+    ensures { IfOk result (λ task. task ≡ rejudge_of (lent_option budget.entry) (lent operands.now)) }
 {
     if budget.is_some() {
         return Ok(None);
@@ -266,18 +261,18 @@ fn rejudge_of(
     match (number_in(book, 1, u32::MAX), number_in(workers, 1, 16)) {
         (Some(book), Some(workers)) => {
             let store = FileName::of(alloc, store)?;
-            Ok(Some(Command::Rejudge {
-                store,
-                book,
-                workers,
-            }))
+            Ok(Some(Task::Rejudge(Rejudging::of(store, book, workers))))
         }
         _ => Ok(None),
     }
 }
 
+// A multiple of 4.
 fn codes_number(text: &str) -> Option<u32>
-    ensures { result ≡ codes_number text.now }
+    ensures value { result ≡ codes_number text.now }
+    ensures whole { IfSome result (λ codes. codes % 4 ≡ 0) }
+    ensures least { IfSome result (λ codes. 8 ≤ codes) }
+    ensures most { IfSome result (λ codes. codes ≤ 2000) }
 {
     let number = number_in(text, 8, 2_000)?;
     if number % 4 == 0 { Some(number) } else { None }
@@ -286,7 +281,8 @@ fn codes_number(text: &str) -> Option<u32>
 // The number of 1 to 10 digits, where it lies in the range.
 fn number_in(text: &str, least: u32, most: u32) -> Option<u32>
     ensures number { result ≡ number_in least most text.now }
-    ensures range { IfSome result (λ number. number ≤ most) }
+    ensures least { IfSome result (λ number. least ≤ number) }
+    ensures most { IfSome result (λ number. number ≤ most) }
 {
     let number = number_within(text.as_bytes(), 10)?;
     if u64::from(least) <= number && number <= u64::from(most) {

@@ -5,6 +5,7 @@ ghost use Rattle.clap.specs.declared.builder.command.Command.TheViews.{out-Comma
 ghost use Rattle.command_words.specs.Grammar.{form, with_form, with_forms, budget_rule, grammar, operands_rule, top};
 ghost use Rattle.command_words.specs.Prepared.{lent};
 
+use crate::asked::command_words;
 use clap::{Arg, ArgAction, Command};
 use pb_base::Memory;
 use std::alloc::{AllocError, Global};
@@ -13,19 +14,7 @@ use std::alloc::{AllocError, Global};
 pub fn grammar<'a>(alloc: Global) -> Result<Command<'a>, Memory>
     ensures { IfOk result (λ command. app_of command ≡ grammar) }
 {
-    let names = [
-        "order",
-        "check",
-        "prove",
-        "verify",
-        "desk",
-        "serve",
-        "sample",
-        "supplements",
-        "compare",
-        "rejudge",
-    ];
-    with_forms(alloc, top(alloc), &names)
+    with_forms(alloc, top(alloc), &command_words())
 }
 
 // The command with a form for each of these words.

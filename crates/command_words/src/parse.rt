@@ -6,17 +6,17 @@ ghost use Rattle.command_words.specs.Prepared.{lent};
 ghost use Rattle.command_words.specs.Grammar.{is_prepared, parsed, read, form_read};
 
 use crate::asked::asked;
-use crate::command::Command;
 use crate::grammar::grammar;
+use crate::task::Task;
 use clap::ArgMatches;
 use clap::error::ErrorKind;
 use pb_base::Memory;
 use std::alloc::Global;
 
-/// The command that prepared words ask for, or None where they ask for none.
-pub fn parse(alloc: Global, words: &[&str]) -> Result<Option<Command>, Memory>
+/// The task that prepared words ask for, or None where they ask for none.
+pub fn parse(alloc: Global, words: &[&str]) -> Result<Option<Task>, Memory>
     requires { is_prepared (lent words.now) ≡ true }
-    ensures { IfOk result (λ command. command ≡ parsed (lent words.now)) }
+    ensures { IfOk result (λ task. task ≡ parsed (lent words.now)) }
 {
     match grammar(alloc)?.try_get_matches_from(words) {
         Ok(matches) => read(alloc, &matches),
@@ -28,8 +28,8 @@ pub fn parse(alloc: Global, words: &[&str]) -> Result<Option<Command>, Memory>
 }
 
 // Reads what the parser found.
-fn read(alloc: Global, matches: &ArgMatches<'_>) -> Result<Option<Command>, Memory>
-    ensures { IfOk result (λ command. command ≡ read (subcommand_rows_of matches.now)) }
+fn read(alloc: Global, matches: &ArgMatches<'_>) -> Result<Option<Task>, Memory>
+    ensures { IfOk result (λ task. task ≡ read (subcommand_rows_of matches.now)) }
 {
     match matches.subcommand() {
         Some((name, found)) => read_form(alloc, name, found),
@@ -37,8 +37,8 @@ fn read(alloc: Global, matches: &ArgMatches<'_>) -> Result<Option<Command>, Memo
     }
 }
 
-fn read_form(alloc: Global, name: &str, found: &ArgMatches<'_>) -> Result<Option<Command>, Memory>
-    ensures { IfOk result (λ command. command ≡ form_read name.now (rows_of (found_of found.now))) }
+fn read_form(alloc: Global, name: &str, found: &ArgMatches<'_>) -> Result<Option<Task>, Memory>
+    ensures { IfOk result (λ task. task ≡ form_read name.now (rows_of (found_of found.now))) }
 {
     let budget = found.get_str("budget");
     match found.get_strs("operands") {

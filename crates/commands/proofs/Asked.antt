@@ -1,5 +1,5 @@
 -- What was asked was done.
-use Rattle.std.proofs.Common.{◌≡◌, refl, subst, inl, inr, arith}
+use Rattle.std.proofs.Common.{◌≡◌, refl, sym, subst, inl, inr, arith}
 use Rattle.command_words.specs.Parts.{Words}
 use Rattle.pb_base.specs.declared.answer.Fail.TheVariants as fails
 use Rattle.desk_run.specs.declared.end.DeskEnd.TheVariants.{NotStarted}
@@ -7,17 +7,17 @@ use Rattle.book_commands.specs.Due.{no_memory}
 use Rattle.book_commands.specs.Inputs.{Inputs}
 use Rattle.book_commands.specs.RunReply.{memory_reply}
 use Rattle.book_commands.specs.Tells.{Outputs, IsWritten}
-use Rattle.book_commands.proofs.DueLaws.{KeepsFiles-same, LosesFront-none}
+use Rattle.book_commands.proofs.DueLaws.{LosesFront-none}
+use Rattle.book_commands.proofs.Promises.{lawful}
 use Rattle.book_commands.specs.declared.run_status.RunStatus.{RunStatus}
 use Rattle.commands.specs.Outside.{KeeperTold, DoorSaid, Outside}
 use Rattle.commands.specs.Rejudged.{unjudged}
-use Rattle.commands.specs.Service.{Service}
-use Rattle.commands.specs.Serves.{unstarted, RunsService}
-use Rattle.commands.specs.Does.{AnswersUsage, DoesTask, Does}
-use Rattle.commands.specs.Words.{Asks, AsksNothing}
-use Rattle.commands.specs.declared.task.Task.{Task}
-use Rattle.commands.specs.declared.task.Task.TheVariants.{Book, Desk, Serve, Rejudge, Sample}
-use Rattle.commands.proofs.Tasks.{one_task}
+use Rattle.commands.specs.Serves.{unstarted}
+use Rattle.commands.specs.Does.{AnswersMemory, AnswersUsage, DoesTask, Does, ReadsNothing}
+use Rattle.command_words.specs.Meaning.{Asks, AsksNothing}
+use Rattle.command_words.specs.declared.task.Task.{Task}
+use Rattle.command_words.specs.declared.task.Task.TheVariants.{Book, Desk, Serve, Rejudge, Sample}
+use Rattle.command_words.proofs.Meanings.{one_task}
 
 pub Does-of_task : (words : Words) (task : Task) (before after : Outside) (status : RunStatus) → Asks words task
     → DoesTask task before after status → Does words before after status
@@ -38,7 +38,7 @@ wanting (Book command) reads kept door writes writes' status h = record {
   due = no_memory (LosesFront-none reads.source.left) refl;
   told = inl h;
   source_later = record { never_falls = omega arith; kept = λ k. k };
-  files_kept = KeepsFiles-same command reads.files;
+  files_kept = (lawful command).same_files reads.files;
   kept = refl;
   door = refl;
 }
@@ -71,15 +71,17 @@ wanting (Rejudge r) reads kept door writes writes' status h = record {
 wanting (Sample size) reads kept door writes writes' status h =
     record { tells = record { reply = memory_reply; due = inr refl; told = inl h }; nothing = record { untouched = refl; kept = refl; door = refl } }
 
-pub Does-of_memory : (words : Words) (reads : Inputs) (kept : KeeperTold) (door : DoorSaid) (writes writes' : Outputs) (status : RunStatus) → IsWritten memory_reply writes writes' status
-    → Does words (record { reads = reads; writes = writes; keeper = kept; door = door }) (record { reads = reads; writes = writes'; keeper = kept; door = door }) status
-Does-of_memory words reads kept door writes writes' status h = record {
-  asked = λ task _. wanting task reads kept door writes writes' status h;
-  nothing = λ _. record { told = inr h; nothing = record { untouched = refl; kept = refl; door = refl } };
-}
+same_outside : (before after : Outside) → ReadsNothing before after
+    → after ≡ record { reads = before.reads; writes = after.writes; keeper = before.keeper; door = before.door }
+same_outside before after h = λ i. record { reads = h.untouched i; writes = after.writes; keeper = h.kept i; door = h.door i }
 
--- a service that began where nothing was touched before
-pub Does-of_service : (words : Words) (service : Service) (middle before after : Outside) (status : RunStatus) → Asks words (Serve service)
-    → middle ≡ before → RunsService service middle after status → Does words before after status
-Does-of_service words service middle before after status asks same runs =
-    Does-of_task words (Serve service) before after status asks (subst (λ (o : Outside). RunsService service o after status) same runs)
+wants : (task : Task) (before after : Outside) (status : RunStatus) → AnswersMemory before after status → DoesTask task before after status
+wants task before after status h =
+    subst (λ (o : Outside). DoesTask task before o status) (sym (same_outside before after h.nothing))
+    (wanting task before.reads before.keeper before.door before.writes after.writes status h.told)
+
+pub Does-of_memory : (words : Words) (before after : Outside) (status : RunStatus) → AnswersMemory before after status → Does words before after status
+Does-of_memory words before after status h = record {
+  asked = λ task _. wants task before after status h;
+  nothing = λ _. record { told = inr h.told; nothing = h.nothing };
+}

@@ -12,31 +12,32 @@ use Rattle.serve_run.specs.declared.end.ServeEnd.TheVariants.{Closed, NoWorkers,
 use Rattle.desk_run.specs.declared.end.DeskEnd.{DeskEnd}
 use Rattle.desk_run.specs.declared.end.DeskEnd.TheVariants.{NotStarted, Served}
 use Rattle.book_commands.specs.Due.{Due, answer, source_fault, file_fault, no_memory}
-use Rattle.book_commands.specs.Ends.{IsReplyStatus, IsSampleStatus}
+use Rattle.book_commands.specs.Ends.{IsSampleStatus}
 use Rattle.book_commands.specs.RunReply.{RunReply, usage_reply, memory_reply, read_fault_reply}
-use Rattle.book_commands.specs.Size.{Size}
+use Rattle.command_words.specs.Size.{Size}
 use Rattle.book_commands.specs.Tells.{Outputs, IsTold, outputs, Tells}
-use Rattle.book_commands.specs.declared.command.BookCommand.{BookCommand}
+use Rattle.command_words.specs.declared.task.BookCommand.{BookCommand}
 use Rattle.book_commands.specs.declared.object.Object.TheVariants.{Source}
 use Rattle.book_commands.specs.declared.run_status.RunStatus.{RunStatus}
 use Rattle.book_commands.specs.declared.run_status.RunStatus.TheVariants as statuses
-use Rattle.book_commands.proofs.DueLaws.{file_rose}
-use Rattle.book_commands.proofs.Statuses.{replies-kind, sample-kind}
+use Rattle.book_commands.specs.Promises.{promise_of}
+use Rattle.book_commands.proofs.Promises.{lawful}
+use Rattle.book_commands.proofs.Statuses.{sample-kind}
 use Rattle.book_commands.proofs.Told.{IsFailed, Ends-of_tells}
 use Rattle.commands.specs.DeskEnds.{RunsDesk, start_reply}
 use Rattle.commands.specs.Outside.{Outside}
 use Rattle.commands.specs.Rejudged.{RejudgeEnd, unjudged, judged, JudgesBy, RunsRejudge}
-use Rattle.commands.specs.Rejudging.{Rejudging}
-use Rattle.commands.specs.Service.{Service}
+use Rattle.command_words.specs.Rejudging.{Rejudging}
+use Rattle.command_words.specs.Service.{Service}
 use Rattle.commands.specs.Serves.{ServiceEnd, unstarted, served, ServesBy, RunsService, told_of}
 use Rattle.commands.specs.Causes.{IsDeskStatus, IsServiceStatus, IsRejudgeStatus, IsUsageStatus, IsCaused, by_words, by_inputs, by_sink, by_memory, by_reply, by_sample, by_desk, by_door, by_service, by_rejudge}
 use Rattle.commands.specs.Does.{AnswersBook, AnswersSample, AnswersUsage, DoesTask, Does}
-use Rattle.commands.specs.Words.{Asks, AsksNothing}
-use Rattle.commands.specs.declared.task.Task.{Task}
-use Rattle.commands.specs.declared.task.Task.TheVariants.{Book, Desk, Serve, Rejudge, Sample}
+use Rattle.command_words.specs.Meaning.{Asks, AsksNothing}
+use Rattle.command_words.specs.declared.task.Task.{Task}
+use Rattle.command_words.specs.declared.task.Task.TheVariants.{Book, Desk, Serve, Rejudge, Sample}
 use Rattle.commands.proofs.DeskTold.{Ran, ToldFrom, same_count, start_status}
 use Rattle.commands.proofs.Rejudges.{reply_status}
-use Rattle.commands.proofs.Tasks.{asked_or_nothing}
+use Rattle.command_words.proofs.Meanings.{asked_or_nothing}
 
 -- a command that was answered
 by_told : (words : Words) (command : BookCommand) (before after : Outside) (status : RunStatus) (reply : RunReply) → Asks words (Book command)
@@ -49,10 +50,10 @@ by_told words command before after status reply asked (answer input read replies
   read = read;
   replies = replies;
   told = told;
-  statuses = subst (IsReplyStatus command) (sym told.ends) (replies-kind command input before.reads.files after.reads.files reply replies);
+  statuses = subst (promise_of command).is_status (sym told.ends) ((lawful command).statuses input before.reads.files after.reads.files reply replies);
 })
 by_told words command before after status reply asked (source_fault fails same is) told = by_inputs (told.ends ∙ ap (λ (r : RunReply). r.status) is) (inl fails.fault)
-by_told words command before after status reply asked (file_fault input read fails is) told = by_inputs (told.ends ∙ ap (λ (r : RunReply). r.status) is) (inr (file_rose command input before.reads.files after.reads.files fails))
+by_told words command before after status reply asked (file_fault input read fails is) told = by_inputs (told.ends ∙ ap (λ (r : RunReply). r.status) is) (inr ((lawful command).file_rose input before.reads.files after.reads.files fails))
 by_told words command before after status reply asked (no_memory front is) told = by_memory (told.ends ∙ ap (λ (r : RunReply). r.status) is)
 
 of_book : (words : Words) (command : BookCommand) (before after : Outside) (status : RunStatus) → Asks words (Book command)

@@ -1,18 +1,18 @@
 -- A check or a proof whose budget is ample leaves no question.
 use Rattle.std.proofs.Common.{◌≡◌, ◌∙◌, ℕ, List, sym, subst}
 use Rattle.command_words.specs.Parts.{Words}
-use Rattle.book_commands.specs.Ample.{IsAmpleCommand}
-use Rattle.book_commands.specs.declared.command.BookCommand.{BookCommand}
+use Rattle.book_commands.specs.Promises.{promise_of}
+use Rattle.command_words.specs.declared.task.BookCommand.{BookCommand}
 use Rattle.book_commands.specs.declared.run_status.RunStatus.{RunStatus}
 use Rattle.book_commands.specs.declared.run_status.RunStatus.TheVariants as statuses
-use Rattle.book_commands.proofs.Decided.{command-decided}
+use Rattle.book_commands.proofs.Promises.{lawful}
 use Rattle.book_commands.proofs.Valid.{same_input}
 use Rattle.commands.specs.Ample.{AskAmple}
 use Rattle.commands.specs.Causes.{GivesReply, IsCaused, by_words, by_inputs, by_sink, by_memory, by_reply, by_sample, by_desk, by_door, by_service, by_rejudge}
 use Rattle.commands.specs.Outside.{Outside}
-use Rattle.commands.specs.Words.{Asks}
-use Rattle.commands.specs.declared.task.Task.TheVariants.{Book, Desk, Serve, Rejudge, Sample}
-use Rattle.commands.proofs.Tasks.{one_task}
+use Rattle.command_words.specs.Meaning.{Asks}
+use Rattle.command_words.specs.declared.task.Task.TheVariants.{Book, Desk, Serve, Rejudge, Sample}
+use Rattle.command_words.proofs.Meanings.{one_task}
 use Rattle.commands.proofs.Releasable.{same_command}
 
 reply_decided : (words : Words) (before after : Outside) (status : RunStatus) → AskAmple words before → GivesReply words before after status
@@ -20,8 +20,8 @@ reply_decided : (words : Words) (before after : Outside) (status : RunStatus) �
 reply_decided words before after status asks h left =
     let same : asks.command ≡ h.command = same_command asks.command h.command (one_task words (Book asks.command) (Book h.command) asks.asked h.asked) in
     let read : asks.input ≡ h.input = same_input before.reads.source.left after.reads.source.left asks.input h.input asks.given h.read.text in
-    command-decided h.command h.input before.reads.files after.reads.files h.reply
-    (subst (λ (i : List ℕ). IsAmpleCommand h.command i) read (subst (λ (c : BookCommand). IsAmpleCommand c asks.input) same asks.ample))
+    (lawful h.command).decided h.input before.reads.files after.reads.files h.reply
+    (subst (λ (i : List ℕ). (promise_of h.command).is_ample i) read (subst (λ (c : BookCommand). (promise_of c).is_ample asks.input) same asks.ample))
     h.replies (sym left ∙ h.told.ends)
 
 pub IsCaused-decided : (words : Words) (before after : Outside) (status : RunStatus) → IsCaused words before after status → AskAmple words before

@@ -1,22 +1,19 @@
 -- Where neither the source nor the keeper fails, a desk with right rows and a stream of whole messages serves its link to the end,
 -- or the sink lacks room, or memory is wanting.
 use Rattle.std.proofs.Common.{◌≡◌, ◌<◌, ◌∙◌, ℕ, true, false, List, length, refl, sym, inl, inr}
-use Rattle.std.specs.Prelude.{◌⊎◌, Option, Some, None, IfSome, IsSomeAnd}
+use Rattle.std.specs.Prelude.{◌⊎◌, IfSome}
 use Rattle.pb_base.specs.declared.answer.Fail.TheVariants.{Refused, Memory as NoMemory}
 use Rattle.pb_outside.specs.Faults.{Faults, Fails}
-use Rattle.http_wire.specs.Items.{ended, refused, cut, closed}
-use Rattle.http_wire.specs.declared.message.Message.{Message}
-use Rattle.keeper.specs.Rows.{Kept, begun}
 use Rattle.order_desk.specs.declared.start.StartFault.TheVariants.{BadRow, Store}
-use Rattle.order_desk.specs.RightRows.{first_bad}
 use Rattle.order_desk.specs.Tables.{State}
 use Rattle.answering.specs.Hand.{Hand}
-use Rattle.session.specs.Reading.{Stop, whole, unread, wanting, Reads}
-use Rattle.session.specs.Session.{IsDue, StopsAt}
+use Rattle.session.specs.Reading.{Stop}
+use Rattle.session.specs.Session.{IsDue}
 use Rattle.session.specs.declared.end.SessionEnd.TheVariants.{Done, Broken, ReadFault, WriteFault, Memory}
 use Rattle.session.specs.declared.end.WriteFault.{WriteFault as Unwritten}
 use Rattle.desk_run.specs.DeskRun.{DeskOutside, IsDeskRun, IsStarted, hand_at}
-use Rattle.desk_run.specs.Sure.{HasWholeMessages, IsDoneOrMemory, IsOrderly}
+use Rattle.desk_run.specs.Sure.{IsDoneOrMemory, IsOrderly}
+use Rattle.desk_run.proofs.Sure.{no_bad_row, not_broken}
 use Rattle.desk_run.specs.declared.end.DeskEnd.{DeskEnd}
 use Rattle.desk_run.specs.declared.end.DeskEnd.TheVariants.{NotStarted, Served}
 
@@ -35,21 +32,6 @@ pub record IsShort (how : DeskEnd) (before : DeskOutside) : Type 0 where
 -- what is ruled out doesn't come
 pub never_fails : (before after : Faults) → before.faultless ≡ true → Fails before after → ⊥
 never_fails before after faultless fails = let clash : true ≡ false = sym faultless ∙ fails.possible in cc
-
-pub no_bad_row : (rows : Option Kept) (place : ℕ × ℕ) → IsSomeAnd rows (λ r. first_bad (begun r) ≡ None)
-    → IfSome rows (λ r. first_bad (begun r) ≡ Some place) → ⊥
-no_bad_row None place right bad = right
-no_bad_row (Some r) place right bad = let clash : None ≡ Some place = sym right ∙ bad in cc
-
-not_broken : (stop : Stop) (left : Option (List ℕ)) (messages : List Message) → StopsAt Broken stop → IsSomeAnd left HasWholeMessages
-    → IfSome left (λ s. Reads stop s messages) → ⊥
-not_broken stop None messages stops whole_messages read = whole_messages
-not_broken (whole ended) (Some s) messages stops whole_messages read = stops
-not_broken (whole (refused status)) (Some s) messages stops whole_messages read = whole_messages messages (refused status) read
-not_broken (whole (cut head)) (Some s) messages stops whole_messages read = whole_messages messages (cut head) read
-not_broken (whole closed) (Some s) messages stops whole_messages read = stops
-not_broken (unread head) (Some s) messages stops whole_messages read = stops
-not_broken (wanting head) (Some s) messages stops whole_messages read = stops
 
 pub sure_or_short : (how : DeskEnd) (before after : DeskOutside) → IsOrderly before → before.link.input.faults.faultless ≡ true
     → before.faults.faultless ≡ true → IsDeskRun how before after → IsDoneOrMemory how ⊎ IsShort how before

@@ -1,5 +1,3 @@
-pub mod Ranges
-pub mod Tasks
 pub mod Stocked
 pub mod Rejudges
 pub mod Told

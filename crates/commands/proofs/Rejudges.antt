@@ -8,7 +8,7 @@ use Rattle.book_commands.specs.RunReply.{RunReply, due_of, memory_reply}
 use Rattle.book_commands.specs.declared.run_status.RunStatus.{RunStatus}
 use Rattle.book_commands.specs.declared.run_status.RunStatus.TheVariants as statuses
 use Rattle.commands.specs.Rejudged.{RepliesBy, RepliesToRejudge}
-use Rattle.commands.specs.Rejudging.{Rejudging}
+use Rattle.command_words.specs.Rejudging.{Rejudging}
 
 by_book : (book : Option KeptBook) (t : Tables) (reply : RunReply) (status : RunStatus) → RepliesBy book t reply → status ≡ reply.status
     → (status ≡ statuses.Done) ⊎ (status ≡ statuses.Faulty)

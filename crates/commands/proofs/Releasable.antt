@@ -12,23 +12,22 @@ use Rattle.desk_run.specs.declared.end.DeskEnd.TheVariants.{NotStarted, Served}
 use Rattle.desk_run.proofs.Released.{run_released, told_released}
 use Rattle.book_commands.specs.Checks.{IsUnreleasable}
 use Rattle.book_commands.specs.Inputs.{input_limit}
-use Rattle.book_commands.specs.Replies.{asks_check, asks_release}
-use Rattle.book_commands.specs.declared.command.BookCommand.{BookCommand}
+use Rattle.book_commands.specs.Promises.{promise_of}
+use Rattle.command_words.specs.declared.task.BookCommand.{BookCommand}
 use Rattle.book_commands.specs.declared.run_status.RunStatus.{RunStatus}
 use Rattle.book_commands.specs.declared.run_status.RunStatus.TheVariants as statuses
-use Rattle.book_commands.proofs.Blocked.{command-blocked}
-use Rattle.book_commands.proofs.Releasable.{command-releasable}
+use Rattle.book_commands.proofs.Promises.{lawful}
 use Rattle.commands.specs.DeskEnds.{desk_outside, RunsDesk}
 use Rattle.commands.specs.Outside.{Outside}
 use Rattle.commands.specs.Causes.{GivesReply, IsCaused, by_words, by_inputs, by_sink, by_memory, by_reply, by_sample, by_desk, by_door, by_service, by_rejudge}
 use Rattle.commands.specs.Does.{Does}
-use Rattle.commands.specs.Service.{Service}
+use Rattle.command_words.specs.Service.{Service}
 use Rattle.commands.specs.Serves.{ServiceEnd, unstarted, served, ServesBy, RunsService}
 use Rattle.commands.specs.Released.{AskRelease, AskCheck, AskDesk, AskService, IsReleasableInput, IsBlockedInput, KeepsBooks, KeepsReleased, KeepsServed, ServesReleased}
-use Rattle.commands.specs.Words.{Asks}
-use Rattle.commands.specs.declared.task.Task.TheVariants.{Book, Desk, Serve, Rejudge, Sample}
+use Rattle.command_words.specs.Meaning.{Asks}
+use Rattle.command_words.specs.declared.task.Task.TheVariants.{Book, Desk, Serve, Rejudge, Sample}
 use Rattle.commands.proofs.DeskTold.{Ran, ToldFrom, same_reads, unstarted_status}
-use Rattle.commands.proofs.Tasks.{one_task}
+use Rattle.command_words.proofs.Meanings.{one_task}
 
 of_input : (IsRight : Contents → Type 0) (left left' : Option (List ℕ)) (input : List ℕ) → ReadsUpTo input_limit left left' input
     → IsOkAnd (book_of input) IsRight → IfSome left (λ all. IsOkAnd (book_of (take input_limit all)) IsRight)
@@ -44,16 +43,16 @@ done_reply : (words : Words) (before after : Outside) (status : RunStatus) → s
 done_reply words before after status done asks h =
     let same : asks.command ≡ h.command = same_command asks.command h.command (one_task words (Book asks.command) (Book h.command) asks.asked h.asked) in
     of_input IsReleasable before.reads.source.left after.reads.source.left h.input h.read.text
-    (command-releasable h.command h.input before.reads.files after.reads.files h.reply
-    (subst (λ (c : BookCommand). IsTrue (asks_release c)) same asks.whether) h.replies (sym done ∙ h.told.ends))
+    ((lawful h.command).releasable h.input before.reads.files after.reads.files h.reply
+    (subst (λ (c : BookCommand). IsTrue (promise_of c).tells_release) same asks.whether) h.replies (sym done ∙ h.told.ends))
 
 refused_reply : (words : Words) (before after : Outside) (status : RunStatus) → status ≡ statuses.Refused → AskCheck words
     → GivesReply words before after status → IsBlockedInput before.reads.source.left
 refused_reply words before after status refused asks h =
     let same : asks.command ≡ h.command = same_command asks.command h.command (one_task words (Book asks.command) (Book h.command) asks.asked h.asked) in
     of_input IsUnreleasable before.reads.source.left after.reads.source.left h.input h.read.text
-    (command-blocked h.command h.input before.reads.files after.reads.files h.reply
-    (subst (λ (c : BookCommand). IsTrue (asks_check c)) same asks.what) h.replies (sym refused ∙ h.told.ends))
+    ((lawful h.command).unreleasable h.input before.reads.files after.reads.files h.reply
+    (subst (λ (c : BookCommand). IsTrue (promise_of c).tells_refusal) same asks.what) h.replies (sym refused ∙ h.told.ends))
 
 -- words that ask of a book have no other cause of such a status than the reply
 by_reply_alone : (words : Words) (command : BookCommand) (before after : Outside) (status : RunStatus) (P : Type 0) → Asks words (Book command)

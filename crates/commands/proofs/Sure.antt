@@ -14,37 +14,38 @@ use Rattle.serve_run.specs.declared.end.ServeEnd.TheVariants.{Closed, NoWorkers,
 use Rattle.session.specs.declared.end.SessionEnd.TheVariants.{Done, WriteFault, Memory}
 use Rattle.desk_run.specs.DeskRun.{IsStarted}
 use Rattle.desk_run.specs.Sure.{IsDoneOrMemory}
-use Rattle.desk_run.proofs.Sure.{run_unfailing}
+use Rattle.desk_run.proofs.Sure.{no_bad_row, run_unfailing}
 use Rattle.desk_run.specs.declared.end.DeskEnd.{DeskEnd}
 use Rattle.desk_run.specs.declared.end.DeskEnd.TheVariants.{NotStarted, Served}
 use Rattle.book_commands.specs.Due.{Due, answer, source_fault, file_fault, no_memory}
-use Rattle.book_commands.specs.Ends.{EndsCommand, EndsSample}
+use Rattle.book_commands.specs.Ends.{EndsSample}
 use Rattle.book_commands.specs.Inputs.{Inputs, ReadsInput, FailsAtInput}
-use Rattle.book_commands.specs.Replies.{FailsAtFile}
+use Rattle.book_commands.specs.Promises.{promise_of}
 use Rattle.book_commands.specs.RunReply.{RunReply, memory_reply, memory_text}
 use Rattle.book_commands.specs.Sample.{RepliesToSample}
-use Rattle.book_commands.specs.Size.{Size}
+use Rattle.command_words.specs.Size.{Size}
 use Rattle.book_commands.specs.Tells.{Outputs, IsTold, IsWritten, outputs, Tells}
-use Rattle.book_commands.specs.declared.command.BookCommand.{BookCommand}
+use Rattle.command_words.specs.declared.task.BookCommand.{BookCommand}
 use Rattle.book_commands.specs.declared.log.Note.{Note}
 use Rattle.book_commands.specs.declared.run_status.RunStatus.{RunStatus}
 use Rattle.book_commands.specs.declared.run_status.RunStatus.TheVariants as statuses
-use Rattle.book_commands.proofs.DueLaws.{file_rose}
+use Rattle.book_commands.proofs.Lawful.{no_fault, valid_answer}
+use Rattle.book_commands.proofs.Promises.{lawful}
 use Rattle.book_commands.proofs.Statuses.{sample-answered}
 use Rattle.book_commands.proofs.Told.{LacksRoomFor, Ends-of_tells, told_room, told_or_lacks, written_or_lacks}
-use Rattle.book_commands.proofs.Valid.{same_input, valid_answer, no_file_fault}
+use Rattle.book_commands.proofs.Valid.{same_input}
 use Rattle.commands.specs.Complete.{IsValidRead, IsValidTask, IsValidInput, CannotFailToRead, CannotFailToServe, CannotFailToOpen, CannotFailAt, CannotFail, NoCountRose, EndsNoted, EndsTask, IsAnswered, IsDueText, of_reply, of_sample, of_link, of_service, of_rejudge, of_memory, LacksRoom}
 use Rattle.commands.specs.DeskEnds.{RunsDesk, desk_outside}
 use Rattle.commands.specs.Does.{AnswersBook, AnswersSample, DoesTask, Does}
 use Rattle.commands.specs.Outside.{Outside}
 use Rattle.commands.specs.Rejudged.{RejudgeEnd, unjudged, judged, JudgesBy, RepliesToRejudge}
-use Rattle.commands.specs.Rejudging.{Rejudging}
-use Rattle.commands.specs.Service.{Service}
+use Rattle.command_words.specs.Rejudging.{Rejudging}
+use Rattle.command_words.specs.Service.{Service}
 use Rattle.commands.specs.Serves.{ServiceEnd, unstarted, served, ServesBy, RunsService}
-use Rattle.commands.specs.Words.{Asks}
-use Rattle.commands.specs.declared.task.Task.{Task}
-use Rattle.commands.specs.declared.task.Task.TheVariants.{Book, Desk, Serve, Rejudge, Sample}
-use Rattle.commands.proofs.DeskSure.{IsShort, sure_or_short, never_fails, no_bad_row}
+use Rattle.command_words.specs.Meaning.{Asks}
+use Rattle.command_words.specs.declared.task.Task.{Task}
+use Rattle.command_words.specs.declared.task.Task.TheVariants.{Book, Desk, Serve, Rejudge, Sample}
+use Rattle.commands.proofs.DeskSure.{IsShort, sure_or_short, never_fails}
 use Rattle.commands.proofs.DeskTold.{Ran, ToldFrom, same_sink, desk_rose}
 use Rattle.commands.proofs.Rejudges.{reply_status}
 
@@ -72,7 +73,7 @@ lacks words before after status text due h = record { ends = h.ends; text = text
 -- what a command reads from doesn't fail
 record FailsNowhere (command : BookCommand) (before after : Inputs) : Type 0 where
   pub source : FailsAtInput before.source after.source → ⊥
-  pub files : (input : List ℕ) → ReadsInput before.source after.source input → FailsAtFile command input before.files after.files → ⊥
+  pub files : (input : List ℕ) → ReadsInput before.source after.source input → (promise_of command).fails_at_file input before.files after.files → ⊥
 
 -- a reply to a valid command was told
 told_answer : (command : BookCommand) (before after : Outside) (status : RunStatus) (reply : RunReply) → IsValidRead command before.reads
@@ -80,8 +81,8 @@ told_answer : (command : BookCommand) (before after : Outside) (status : RunStat
     → IsTold reply before.writes after.writes status → EndsAt (Book command) before after status
 told_answer command before after status reply v nowhere (answer read reads replies) told =
     let same = same_input before.reads.source.left after.reads.source.left v.input read v.given reads.text in
-    inl (noted (EndsCommand command) reply before after status
-    (valid_answer command v.input read before.reads.files after.reads.files reply same v.valid replies) told)
+    inl (noted (promise_of command).is_answer reply before after status
+    (valid_answer (promise_of command) v.input read before.reads.files after.reads.files reply (lawful command) same v.valid replies) told)
 told_answer command before after status reply v nowhere (source_fault fails same is) told = absurd (nowhere.source fails)
 told_answer command before after status reply v nowhere (file_fault read reads fails is) told = absurd (nowhere.files read reads fails)
 told_answer command before after status reply v nowhere (no_memory front is) told = inr (told.ends ∙ ap (λ (r : RunReply). r.status) is)
@@ -107,7 +108,7 @@ sure_reads : (command : BookCommand) (before after : Inputs) → IsValidRead com
 sure_reads command before after v calls = record {
   source = λ fails. let clash : true ≡ false = sym calls.source ∙ fails.fault.possible in cc;
   files = λ read reads fails.
-      no_file_fault command v.input read before.files after.files (same_input before.source.left after.source.left v.input read v.given reads.text)
+      no_fault (promise_of command) v.input read before.files after.files (lawful command) (same_input before.source.left after.source.left v.input read v.given reads.text)
       v.valid calls.files fails;
 }
 
@@ -304,7 +305,7 @@ Does-sure words before after status does s =
 unrisen_reads : (command : BookCommand) (before after : Outside) → NoCountRose before after → FailsNowhere command before.reads after.reads
 unrisen_reads command before after none = record {
   source = λ fails. none.source fails.fault.rose;
-  files = λ read reads fails. none.files (file_rose command read before.reads.files after.reads.files fails);
+  files = λ read reads fails. none.files ((lawful command).file_rose read before.reads.files after.reads.files fails);
 }
 
 unfailing_book : (command : BookCommand) (before after : Outside) (status : RunStatus) → IsValidRead command before.reads → NoCountRose before after

@@ -22,11 +22,11 @@ use Rattle.book_commands.specs.declared.run_status.RunStatus.{RunStatus}
 use Rattle.commands.specs.DeskEnds.{RunsDesk, desk_outside}
 use Rattle.commands.specs.Does.{Does}
 use Rattle.commands.specs.Outside.{Outside}
-use Rattle.commands.specs.Service.{Service}
+use Rattle.command_words.specs.Service.{Service}
 use Rattle.commands.specs.Serves.{ServiceEnd, unstarted, served, ServesBy}
 use Rattle.commands.specs.Released.{AskDesk, AskService}
 use Rattle.commands.specs.Traded.{TradesBy, Trades, DealsLinks, HaveTradedPorts, HasServedTrade, TradesServed, ServesTrades}
-use Rattle.commands.specs.declared.task.Task.TheVariants.{Desk, Serve}
+use Rattle.command_words.specs.declared.task.Task.TheVariants.{Desk, Serve}
 use Rattle.commands.proofs.DeskTold.{Ran, ToldFrom, same_reads, unstarted_status}
 
 by_end : (how : DeskEnd) (before after : Outside) (middle : SinkTold) (status : RunStatus) → Ran how before after middle

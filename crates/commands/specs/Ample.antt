@@ -1,12 +1,12 @@
 -- Which checks and proofs leave no question.
 use Rattle.std.specs.Prelude.{◌≡◌, ℕ, List, IsSomeAnd, take}
 use Rattle.command_words.specs.Parts.{Words}
-use Rattle.book_commands.specs.Ample.{IsAmpleCommand}
+use Rattle.book_commands.specs.Promises.{promise_of}
 use Rattle.book_commands.specs.Inputs.{input_limit}
-use Rattle.book_commands.specs.declared.command.BookCommand.{BookCommand}
+use Rattle.command_words.specs.declared.task.BookCommand.{BookCommand}
 use Rattle.commands.specs.Outside.{Outside}
-use Rattle.commands.specs.Words.{Asks}
-use Rattle.commands.specs.declared.task.Task.TheVariants.{Book}
+use Rattle.command_words.specs.Meaning.{Asks}
+use Rattle.command_words.specs.declared.task.Task.TheVariants.{Book}
 
 -- the words ask for a check or a proof whose budget is above 3 to the power of the number of variables of the slice, on each day
 -- of the term of the book that is read
@@ -15,4 +15,4 @@ pub record AskAmple (words : Words) (before : Outside) : Type 0 where
   pub asked : Asks words (Book command)
   pub input : List ℕ
   pub given : IsSomeAnd before.reads.source.left (λ all. input ≡ take input_limit all)
-  pub ample : IsAmpleCommand command input
+  pub ample : (promise_of command).is_ample input

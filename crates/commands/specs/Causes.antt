@@ -6,26 +6,26 @@ use Rattle.command_words.specs.Parts.{Words}
 use Rattle.session.specs.declared.end.SessionEnd.TheVariants.{Done, Broken}
 use Rattle.desk_run.specs.declared.end.DeskEnd.{DeskEnd}
 use Rattle.desk_run.specs.declared.end.DeskEnd.TheVariants.{NotStarted, Served}
-use Rattle.book_commands.specs.Ends.{IsReplyStatus, IsSampleStatus}
+use Rattle.book_commands.specs.Ends.{IsSampleStatus}
 use Rattle.book_commands.specs.Inputs.{Inputs, ReadsInput}
-use Rattle.book_commands.specs.Replies.{RepliesTo}
+use Rattle.book_commands.specs.Promises.{promise_of}
 use Rattle.book_commands.specs.RunReply.{RunReply}
 use Rattle.book_commands.specs.Sample.{RepliesToSample}
-use Rattle.book_commands.specs.Size.{Size}
+use Rattle.command_words.specs.Size.{Size}
 use Rattle.book_commands.specs.Tells.{IsTold}
-use Rattle.book_commands.specs.declared.command.BookCommand.{BookCommand}
+use Rattle.command_words.specs.declared.task.BookCommand.{BookCommand}
 use Rattle.book_commands.specs.declared.run_status.RunStatus.{RunStatus}
 use Rattle.book_commands.specs.declared.run_status.RunStatus.TheVariants as statuses
 use Rattle.commands.specs.DeskEnds.{RunsDesk}
 use Rattle.commands.specs.Outside.{Outside}
 use Rattle.commands.specs.Rejudged.{RejudgeEnd, unjudged, judged, RunsRejudge}
-use Rattle.commands.specs.Rejudging.{Rejudging}
-use Rattle.commands.specs.Service.{Service}
+use Rattle.command_words.specs.Rejudging.{Rejudging}
+use Rattle.command_words.specs.Service.{Service}
 use Rattle.commands.specs.Serves.{ServiceEnd, unstarted, served, RunsService}
 use Rattle.serve_run.specs.declared.work_end.WorkEnd.TheVariants.{Over}
 use Rattle.serve_run.specs.declared.end.ServeEnd.TheVariants.{Worked}
-use Rattle.commands.specs.Words.{Asks, AsksNothing}
-use Rattle.commands.specs.declared.task.Task.TheVariants.{Book, Desk, Serve, Rejudge, Sample}
+use Rattle.command_words.specs.Meaning.{Asks, AsksNothing}
+use Rattle.command_words.specs.declared.task.Task.TheVariants.{Book, Desk, Serve, Rejudge, Sample}
 
 -- the text, the notes and the status are those of a reply to the words and to what was read
 pub record GivesReply (words : Words) (before after : Outside) (status : RunStatus) : Type 0 where
@@ -34,9 +34,9 @@ pub record GivesReply (words : Words) (before after : Outside) (status : RunStat
   pub reply : RunReply
   pub asked : Asks words (Book command)
   pub read : ReadsInput before.reads.source after.reads.source input
-  pub replies : RepliesTo command input before.reads.files after.reads.files reply
+  pub replies : (promise_of command).replies input before.reads.files after.reads.files reply
   pub told : IsTold reply before.writes after.writes status
-  pub statuses : IsReplyStatus command status
+  pub statuses : (promise_of command).is_status status
 
 -- they are those of a reply to the words alone
 pub record GivesSample (words : Words) (before after : Outside) (status : RunStatus) : Type 0 where

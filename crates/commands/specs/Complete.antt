@@ -17,25 +17,25 @@ use Rattle.session.specs.Session.{IsDue}
 use Rattle.desk_run.specs.DeskRun.{IsStarted, hand_at}
 use Rattle.desk_run.specs.Sure.{IsOrderly}
 use Rattle.book_commands.specs.Due.{Due}
-use Rattle.book_commands.specs.Ends.{EndsCommand, EndsSample}
+use Rattle.book_commands.specs.Ends.{EndsSample}
 use Rattle.book_commands.specs.Inputs.{Inputs, input_limit}
-use Rattle.book_commands.specs.Replies.{IsValidCommand}
+use Rattle.book_commands.specs.Promises.{promise_of}
 use Rattle.book_commands.specs.RunReply.{RunReply, memory_text}
 use Rattle.book_commands.specs.Sample.{RepliesToSample}
-use Rattle.book_commands.specs.Size.{Size}
-use Rattle.book_commands.specs.declared.command.BookCommand.{BookCommand}
+use Rattle.command_words.specs.Size.{Size}
+use Rattle.command_words.specs.declared.task.BookCommand.{BookCommand}
 use Rattle.book_commands.specs.declared.log.Note.{Note}
 use Rattle.book_commands.specs.declared.run_status.RunStatus.{RunStatus}
 use Rattle.book_commands.specs.declared.run_status.RunStatus.TheVariants as statuses
 use Rattle.commands.specs.DeskEnds.{desk_outside}
 use Rattle.commands.specs.Outside.{Outside}
 use Rattle.commands.specs.Rejudged.{RepliesToRejudge}
-use Rattle.commands.specs.Rejudging.{Rejudging}
-use Rattle.commands.specs.Service.{Service}
+use Rattle.command_words.specs.Rejudging.{Rejudging}
+use Rattle.command_words.specs.Service.{Service}
 use Rattle.commands.specs.Serves.{counts_text}
-use Rattle.commands.specs.Words.{Asks}
-use Rattle.commands.specs.declared.task.Task.{Task}
-use Rattle.commands.specs.declared.task.Task.TheVariants.{Book, Desk, Serve, Rejudge, Sample}
+use Rattle.command_words.specs.Meaning.{Asks}
+use Rattle.command_words.specs.declared.task.Task.{Task}
+use Rattle.command_words.specs.declared.task.Task.TheVariants.{Book, Desk, Serve, Rejudge, Sample}
 
 -- ---- what is handed in
 
@@ -43,7 +43,7 @@ use Rattle.commands.specs.declared.task.Task.TheVariants.{Book, Desk, Serve, Rej
 pub record IsValidRead (command : BookCommand) (reads : Inputs) : Type 0 where
   pub input : List ℕ
   pub given : IsSomeAnd reads.source.left (λ all. input ≡ take input_limit all)
-  pub valid : IsValidCommand command input reads.files.files
+  pub valid : (promise_of command).is_valid input reads.files.files
 
 -- of a desk, the rows are right, and nothing in the stream is refused or cut; of a service and of a
 -- judging of kept orders the rows are right; a sample reads nothing
@@ -105,7 +105,7 @@ pub record EndsNoted (IsEnd : RunStatus → List Note → Type 0) (before after 
 -- link come to their end, and so do the ports of a service; kept orders are judged again, or there is no book of that number; a
 -- sample comes to its end or leaves a question
 abbrev pub EndsTask : Task → Outside → Outside → RunStatus → Type 0
-EndsTask (Book command) before after status = EndsNoted (EndsCommand command) before after status
+EndsTask (Book command) before after status = EndsNoted (promise_of command).is_answer before after status
 EndsTask (Desk store) before after status = status ≡ statuses.Done
 EndsTask (Serve service) before after status = status ≡ statuses.Done
 EndsTask (Rejudge r) before after status = (status ≡ statuses.Done) ⊎ (status ≡ statuses.Faulty)

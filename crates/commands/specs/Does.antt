@@ -5,20 +5,20 @@ use Rattle.std.specs.Prelude.{◌≡◌, ◌⊎◌}
 use Rattle.pb_outside.specs.Faults.{IsLater}
 use Rattle.command_words.specs.Parts.{Words}
 use Rattle.book_commands.specs.Due.{Due}
-use Rattle.book_commands.specs.Replies.{KeepsFiles}
+use Rattle.book_commands.specs.Promises.{promise_of}
 use Rattle.book_commands.specs.RunReply.{RunReply, usage_reply, memory_reply}
 use Rattle.book_commands.specs.Sample.{RepliesToSample}
-use Rattle.book_commands.specs.Size.{Size}
-use Rattle.book_commands.specs.Tells.{Outputs, Tells}
-use Rattle.book_commands.specs.declared.command.BookCommand.{BookCommand}
+use Rattle.command_words.specs.Size.{Size}
+use Rattle.book_commands.specs.Tells.{Outputs, IsWritten, Tells}
+use Rattle.command_words.specs.declared.task.BookCommand.{BookCommand}
 use Rattle.book_commands.specs.declared.run_status.RunStatus.{RunStatus}
 use Rattle.commands.specs.DeskEnds.{RunsDesk}
 use Rattle.commands.specs.Outside.{Outside}
 use Rattle.commands.specs.Rejudged.{RunsRejudge}
 use Rattle.commands.specs.Serves.{RunsService}
-use Rattle.commands.specs.Words.{Asks, AsksNothing}
-use Rattle.commands.specs.declared.task.Task.{Task}
-use Rattle.commands.specs.declared.task.Task.TheVariants.{Book, Desk, Serve, Rejudge, Sample}
+use Rattle.command_words.specs.Meaning.{Asks, AsksNothing}
+use Rattle.command_words.specs.declared.task.Task.{Task}
+use Rattle.command_words.specs.declared.task.Task.TheVariants.{Book, Desk, Serve, Rejudge, Sample}
 
 -- a command was answered: its reply is due, and was told; neither the keeper nor the door was touched
 pub record AnswersBook (command : BookCommand) (before after : Outside) (status : RunStatus) : Type 0 where
@@ -26,7 +26,7 @@ pub record AnswersBook (command : BookCommand) (before after : Outside) (status 
   pub due : Due command before.reads after.reads reply
   pub told : Tells reply before.writes after.writes status
   pub source_later : IsLater before.reads.source.faults after.reads.source.faults
-  pub files_kept : KeepsFiles command before.reads.files after.reads.files
+  pub files_kept : (promise_of command).keeps_files before.reads.files after.reads.files
   pub kept : after.keeper ≡ before.keeper
   pub door : after.door ≡ before.door
 
@@ -41,9 +41,9 @@ pub record AnswersUsage (before after : Outside) (status : RunStatus) : Type 0 w
   pub told : Tells usage_reply before.writes after.writes status
   pub nothing : ReadsNothing before after
 
--- the words could not be had, for want of memory
+-- memory was wanting before anything was read
 pub record AnswersMemory (before after : Outside) (status : RunStatus) : Type 0 where
-  pub told : Tells memory_reply before.writes after.writes status
+  pub told : IsWritten memory_reply before.writes after.writes status
   pub nothing : ReadsNothing before after
 
 -- the reply to a sample was told, or memory was wanting

@@ -1,6 +1,4 @@
 pub mod Words
-pub mod Service
-pub mod Rejudging
 pub mod Outside
 pub mod Begun
 pub mod DeskEnds

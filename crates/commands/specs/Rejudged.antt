@@ -24,7 +24,7 @@ use Rattle.book_commands.specs.declared.run_status.RunStatus.{RunStatus}
 use Rattle.book_commands.specs.declared.run_status.RunStatus.TheVariants as statuses
 use Rattle.commands.specs.DeskEnds.{desk_outside}
 use Rattle.commands.specs.Outside.{Outside}
-use Rattle.commands.specs.Rejudging.{Rejudging}
+use Rattle.command_words.specs.Rejudging.{Rejudging}
 use Rattle.commands.specs.Serves.{HasNotServed}
 
 -- ---- what is judged, and what is told of it

@@ -8,28 +8,28 @@ use Rattle.desk_run.specs.declared.end.DeskEnd.{DeskEnd}
 use Rattle.desk_run.specs.declared.end.DeskEnd.TheVariants.{NotStarted, Served}
 use Rattle.book_commands.specs.Checks.{IsUnreleasable}
 use Rattle.book_commands.specs.Inputs.{input_limit}
-use Rattle.book_commands.specs.Replies.{asks_check, asks_release}
-use Rattle.book_commands.specs.declared.command.BookCommand.{BookCommand}
+use Rattle.book_commands.specs.Promises.{promise_of}
+use Rattle.command_words.specs.declared.task.BookCommand.{BookCommand}
 use Rattle.book_commands.specs.declared.run_status.RunStatus.{RunStatus}
 use Rattle.book_commands.specs.declared.run_status.RunStatus.TheVariants as statuses
 use Rattle.commands.specs.DeskEnds.{RunsDesk}
 use Rattle.commands.specs.Outside.{Outside}
-use Rattle.commands.specs.Service.{Service}
+use Rattle.command_words.specs.Service.{Service}
 use Rattle.commands.specs.Serves.{ServiceEnd, unstarted, served, RunsService}
-use Rattle.commands.specs.Words.{Asks}
-use Rattle.commands.specs.declared.task.Task.TheVariants.{Book, Desk, Serve}
+use Rattle.command_words.specs.Meaning.{Asks}
+use Rattle.command_words.specs.declared.task.Task.TheVariants.{Book, Desk, Serve}
 
 -- the words ask whether the book can be released
 pub record AskRelease (words : Words) : Type 0 where
   pub command : BookCommand
   pub asked : Asks words (Book command)
-  pub whether : IsTrue (asks_release command)
+  pub whether : IsTrue (promise_of command).tells_release
 
 -- the words ask what keeps the book from its release
 pub record AskCheck (words : Words) : Type 0 where
   pub command : BookCommand
   pub asked : Asks words (Book command)
-  pub what : IsTrue (asks_check command)
+  pub what : IsTrue (promise_of command).tells_refusal
 
 -- the input is a book that can be released: on every day of its term some set of codes is good, and every good set
 -- selects one variant at each mandatory position and nowhere two

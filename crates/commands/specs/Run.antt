@@ -10,7 +10,7 @@ use Rattle.commands.specs.Does.{Does}
 use Rattle.commands.specs.Outside.{Outside}
 use Rattle.commands.specs.Released.{AskRelease, AskCheck, AskDesk, AskService, IsReleasableInput, IsBlockedInput, KeepsReleased, ServesReleased}
 use Rattle.commands.specs.Traded.{Trades, ServesTrades}
-use Rattle.commands.specs.Words.{AsksNothing}
+use Rattle.command_words.specs.Meaning.{AsksNothing}
 
 pub record IsRun (words : Words) (before after : Outside) (status : RunStatus) : Type 0 where
   -- what the words ask was done: what was read, what was written, and what was left untouched

@@ -31,7 +31,7 @@ use Rattle.book_commands.specs.declared.run_status.RunStatus.{RunStatus}
 use Rattle.book_commands.specs.declared.run_status.RunStatus.TheVariants as statuses
 use Rattle.commands.specs.DeskEnds.{EndsStart, desk_outside}
 use Rattle.commands.specs.Outside.{Outside}
-use Rattle.commands.specs.Service.{Service}
+use Rattle.command_words.specs.Service.{Service}
 
 -- ---- what is told
 

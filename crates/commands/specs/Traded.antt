@@ -28,10 +28,10 @@ use Rattle.commands.specs.DeskEnds.{RunsDesk, EndsSession, desk_outside}
 use Rattle.commands.specs.Outside.{Outside}
 use Rattle.command_words.specs.Parts.{Words}
 use Rattle.commands.specs.Released.{IsUnstarted}
-use Rattle.commands.specs.Service.{Service}
+use Rattle.command_words.specs.Service.{Service}
 use Rattle.commands.specs.Serves.{ServiceEnd, unstarted, served, RunsService}
-use Rattle.commands.specs.Words.{Asks}
-use Rattle.commands.specs.declared.task.Task.TheVariants.{Serve}
+use Rattle.command_words.specs.Meaning.{Asks}
+use Rattle.command_words.specs.declared.task.Task.TheVariants.{Serve}
 
 -- nobody else makes steps of the desk; the sink stood in the middle when the session was over
 pub record HasTraded (end : SessionEnd) (before after : Outside) (status : RunStatus) : Type 0 where

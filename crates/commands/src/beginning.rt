@@ -1,143 +1,103 @@
 //! What a run does without waiting: all but a service.
 ghost use Rattle.std.specs.Prelude.{◌≡◌, ℕ, List, Some};
+ghost use Rattle.command_words.specs.Meaning.{Asks};
 ghost use Rattle.command_words.specs.Prepared.{texts_of};
-ghost use Rattle.book_commands.specs.Tells.{outputs};
+ghost use Rattle.command_words.specs.declared.task.Task.TheVariants.{Serve};
 ghost use Rattle.commands.specs.Begun.{IfEnded, IfService};
-ghost use Rattle.commands.specs.Outside.{DoorSaid, KeeperTold, keeps, outside};
-ghost use Rattle.commands.specs.Does.{AnswersBook, TellsSample, DoesTask};
+ghost use Rattle.commands.specs.Does.{AnswersBook, AnswersSample, DoesTask};
+ghost use Rattle.commands.specs.Outside.{KeeperTold, channels_seen, seen};
 ghost use Rattle.commands.specs.Run.{IsRun};
-ghost use Rattle.commands.specs.Words.{Asks, NamesStore, store_of};
-ghost use Rattle.commands.specs.declared.task.Task.TheVariants.{Serve};
+ghost use Rattle.commands.specs.Words.{NamesStore, store_of};
 
 use crate::begun::Begun;
 use crate::desk::run_store;
 use crate::judging::run_rejudge;
 use crate::run_end::RunEnd;
-use crate::task::Task;
-use crate::words::task_in;
-use answering::Gate;
-use book_commands::{
-    BookCommand, RunLog, RunStatus, SampleSize, due_reply, sample_reply, tell_made, tell_usage,
-    tell_want_of_memory,
-};
+use crate::usage::{tell_no_form, tell_no_memory};
+use crate::world::{Channels, World};
+use book_commands::{RunStatus, due_reply, sample_reply, tell_made};
+use command_words::{BookCommand, SampleSize, Task, task_of};
 use keeper::Keeper;
 use pb_base::Memory;
+use pb_door::Door;
+use answering::Gate;
 use pb_outside::{Files, Sink, Source};
 use std::alloc::Global;
 use std::thread::Threads;
 
-/// Does what the words ask, unless it is a service, which it gives back with the keeper. It waits for nobody, so it returns
-/// whatever the words are. The door isn't touched, whatever it tells. The keeper may begin by the store's name in the words.
-pub fn begin<R: Threads + Sync, S: Source, K: Sink, F: Files, P: Keeper, G: Gate>(
+/// Does what the words ask, unless it is a service, which it gives back with the world. It waits for nobody, so it returns
+/// whatever the words are. The keeper may begin by the store's name in the words.
+pub fn begin<R: Threads + Sync, S: Source, K: Sink, F: Files, P: Keeper, D: Door, G: Gate>(
     rt: &R,
     alloc: Global,
     words: &[String],
-    source: &mut S,
-    sink: &mut K,
-    files: &mut F,
-    keeper: P,
+    world: World<S, K, F, P, D>,
     gate: &G,
-    log: &mut RunLog,
-) -> Begun<P>
-    requires named { (store : List ℕ) → NamesStore (texts_of words.now) store → P.may_begin keeper store }
-    ensures ended { IfEnded result (λ end. (door : DoorSaid) →
-        let kept = keeps (P.told keeper) (P.failures keeper) in
-        let kept' = keeps (P.told end.keeper) (P.failures end.keeper) in
-        let before = outside (S.input source.old) (F.told files.old) (K.output sink.old) log.old kept door in
-        let after = outside (S.input source.new) (F.told files.new) (K.output sink.new) log.new kept' door in
-        IsRun (texts_of words.now) before after end.status) }
-    ensures asked { IfService result (λ service kept. Asks (texts_of words.now) (Serve service)) }
-    ensures startable { IfService result (λ service kept. P.may_begin kept service.store) }
-    ensures untouched { IfService result (λ service kept'. (door : DoorSaid) →
-        let kept = keeps (P.told keeper) (P.failures keeper) in
-        let kept'' = keeps (P.told kept') (P.failures kept') in
-        let before = outside (S.input source.old) (F.told files.old) (K.output sink.old) log.old kept door in
-        let after = outside (S.input source.new) (F.told files.new) (K.output sink.new) log.new kept'' door in
-        after ≡ before) }
+) -> Begun<World<S, K, F, P, D>>
+    requires named { (store : List ℕ) → NamesStore (texts_of words.now) store → P.may_begin world.keeper store }
+    ensures ended { let sees = seen S.input K.output F.told P.told P.failures D.told D.faultless in
+        IfEnded result (λ end. IsRun (texts_of words.now) (sees world) (sees end.world) end.status) }
+    ensures asked { IfService result (λ service left. Asks (texts_of words.now) (Serve service)) }
+    ensures startable { IfService result (λ service left. P.may_begin left.keeper service.store) }
+    ensures untouched { IfService result (λ service left. left ≡ world) }
 {
-    match task_in(alloc, words) {
-        Ok(Some(task)) => { do_task(rt, alloc, task, source, sink, files, keeper, gate, log) }
-        Ok(None) => Begun::Ended(RunEnd {
-            status: tell_usage(sink, log),
-            keeper,
-        }),
-        Err(Memory) => Begun::Ended(RunEnd {
-            status: tell_want_of_memory(sink, log),
-            keeper,
-        }),
+    match task_of(alloc, words) {
+        Ok(Some(task)) => do_task(rt, alloc, task, world, gate),
+        Ok(None) => Begun::Ended(tell_no_form(world)),
+        Err(Memory) => Begun::Ended(tell_no_memory(world)),
     }
 }
 
-fn do_task<R: Threads + Sync, S: Source, K: Sink, F: Files, P: Keeper, G: Gate>(
+fn do_task<R: Threads + Sync, S: Source, K: Sink, F: Files, P: Keeper, D: Door, G: Gate>(
     rt: &R,
     alloc: Global,
     task: Task,
-    source: &mut S,
-    sink: &mut K,
-    files: &mut F,
-    keeper: P,
+    mut world: World<S, K, F, P, D>,
     gate: &G,
-    log: &mut RunLog,
-) -> Begun<P>
-    requires named { (store : List ℕ) → store_of task ≡ Some store → P.may_begin keeper store }
-    ensures ended { IfEnded result (λ end. (door : DoorSaid) →
-        let kept = keeps (P.told keeper) (P.failures keeper) in
-        let kept' = keeps (P.told end.keeper) (P.failures end.keeper) in
-        let before = outside (S.input source.old) (F.told files.old) (K.output sink.old) log.old kept door in
-        let after = outside (S.input source.new) (F.told files.new) (K.output sink.new) log.new kept' door in
-        DoesTask task before after end.status) }
-    ensures asked { IfService result (λ service kept. task ≡ Serve service) }
-    ensures startable { IfService result (λ service kept. P.may_begin kept service.store) }
-    ensures untouched { IfService result (λ service kept'. (door : DoorSaid) →
-        let kept = keeps (P.told keeper) (P.failures keeper) in
-        let kept'' = keeps (P.told kept') (P.failures kept') in
-        let before = outside (S.input source.old) (F.told files.old) (K.output sink.old) log.old kept door in
-        let after = outside (S.input source.new) (F.told files.new) (K.output sink.new) log.new kept'' door in
-        after ≡ before) }
+) -> Begun<World<S, K, F, P, D>>
+    requires named { (store : List ℕ) → store_of task ≡ Some store → P.may_begin world.keeper store }
+    ensures ended { let sees = seen S.input K.output F.told P.told P.failures D.told D.faultless in
+        IfEnded result (λ end. DoesTask task (sees world) (sees end.world) end.status) }
+    ensures asked { IfService result (λ service left. task ≡ Serve service) }
+    ensures startable { IfService result (λ service left. P.may_begin left.keeper service.store) }
+    ensures untouched { IfService result (λ service left. left ≡ world) }
 {
     match task {
-        Task::Book(command) => Begun::Ended(RunEnd {
-            status: answer(alloc, &command, source, sink, files, log),
-            keeper,
-        }),
-        Task::Desk { store } => {
-            Begun::Ended(run_store(alloc, &store, source, sink, keeper, gate, log))
+        Task::Book(command) => {
+            let status = answer(alloc, &command, &mut world.channels);
+            Begun::Ended(RunEnd { status, world })
         }
-        Task::Serve(service) => Begun::Awaited(service, keeper),
-        Task::Rejudge(asked) => { Begun::Ended(run_rejudge(rt, alloc, &asked, sink, keeper, log)) }
-        Task::Sample(size) => Begun::Ended(RunEnd {
-            status: tell_sample(alloc, &size, sink, log),
-            keeper,
-        }),
+        Task::Desk { store } => Begun::Ended(run_store(alloc, &store, world, gate)),
+        Task::Serve(service) => Begun::Awaited(service, world),
+        Task::Rejudge(asked) => Begun::Ended(run_rejudge(rt, alloc, &asked, world)),
+        Task::Sample(size) => {
+            let status = tell_sample(alloc, &size, &mut world.channels);
+            Begun::Ended(RunEnd { status, world })
+        }
     }
 }
 
-// Whatever the keeper and the door tell, which are not touched.
-fn answer<S: Source, K: Sink, F: Files>(
+// Whatever the keeper tells, which is not touched.
+fn answer<S: Source, K: Sink, F: Files, D: Door>(
     alloc: Global,
     command: &BookCommand,
-    source: &mut S,
-    sink: &mut K,
-    files: &mut F,
-    log: &mut RunLog,
+    channels: &mut Channels<S, K, F, D>,
 ) -> RunStatus
-    ensures { (kept : KeeperTold) → (door : DoorSaid) →
-        let before = outside (S.input source.old) (F.told files.old) (K.output sink.old) log.old kept door in
-        let after = outside (S.input source.new) (F.told files.new) (K.output sink.new) log.new kept door in
-        AnswersBook command.now before after result }
+    ensures { (kept : KeeperTold) → let sees = channels_seen S.input K.output F.told D.told D.faultless kept in
+        AnswersBook command.now (sees channels.old) (sees channels.new) result }
 {
-    tell_made(due_reply(alloc, command, source, files), sink, log)
+    let reply = due_reply(alloc, command, &mut channels.source, &mut channels.files);
+    tell_made(reply, &mut channels.sink, &mut channels.log)
 }
 
-fn tell_sample<K: Sink>(
+fn tell_sample<S: Source, K: Sink, F: Files, D: Door>(
     alloc: Global,
     size: &SampleSize,
-    sink: &mut K,
-    log: &mut RunLog,
+    channels: &mut Channels<S, K, F, D>,
 ) -> RunStatus
-    ensures { let before = outputs (K.output sink.old) log.old in
-        let after = outputs (K.output sink.new) log.new in
-        TellsSample size.now before after result }
+    ensures { (kept : KeeperTold) → let sees = channels_seen S.input K.output F.told D.told D.faultless kept in
+        AnswersSample size.now (sees channels.old) (sees channels.new) result }
 {
-    tell_made(sample_reply(alloc, size), sink, log)
+    let reply = sample_reply(alloc, size);
+    tell_made(reply, &mut channels.sink, &mut channels.log)
 }

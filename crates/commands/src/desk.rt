@@ -1,47 +1,53 @@
 //! The run of a desk over the source and the sink of a run.
 ghost use Rattle.std.specs.Prelude.{◌≡◌, IfOk};
-ghost use Rattle.pb_outside.specs.Files.{FilesTold};
 ghost use Rattle.book_commands.specs.Tells.{outputs};
 ghost use Rattle.commands.specs.DeskEnds.{EndsDesk, EndsSession, EndsStart, RunsDesk, start_reply};
-ghost use Rattle.commands.specs.Outside.{DoorSaid, keeps, outside};
+ghost use Rattle.commands.specs.Outside.{seen};
 
 use crate::run_end::RunEnd;
-use answering::Gate;
+use crate::world::World;
 use book_commands::{
     Object, RunLog, RunReply, RunStatus, note_write_fault, tell_made, tell_want_of_memory,
 };
 use command_words::FileName;
-use desk_run::{DeskEnd, run_desk};
+use desk_run::{DeskEnd, DeskRun, run_desk};
 use keeper::Keeper;
 use order_desk::StartFault;
 use pb_base::{Fail, Memory};
-use pb_outside::{Sink, Source};
+use pb_door::Door;
+use answering::Gate;
+use pb_outside::{Files, Sink, Source};
 use session::SessionEnd;
 use std::alloc::Global;
 
 /// Runs a desk over the rows that the keeper has in this store, serves the source and the sink as one link, and tells how that
 /// ended. Files are not touched.
-pub fn run_store<S: Source, K: Sink, P: Keeper, G: Gate>(
+pub fn run_store<S: Source, K: Sink, F: Files, P: Keeper, D: Door, G: Gate>(
     alloc: Global,
     store: &FileName,
-    source: &mut S,
-    sink: &mut K,
-    keeper: P,
+    world: World<S, K, F, P, D>,
     gate: &G,
-    log: &mut RunLog,
-) -> RunEnd<P>
-    requires named { P.may_begin keeper store.now }
-    ensures { (files : FilesTold) → (door : DoorSaid) →
-        let kept = keeps (P.told keeper) (P.failures keeper) in
-        let kept' = keeps (P.told result.keeper) (P.failures result.keeper) in
-        let before = outside (S.input source.old) files (K.output sink.old) log.old kept door in
-        let after = outside (S.input source.new) files (K.output sink.new) log.new kept' door in
-        RunsDesk before after result.status }
+) -> RunEnd<World<S, K, F, P, D>>
+    requires named { P.may_begin world.keeper store.now }
+    ensures { let sees = seen S.input K.output F.told P.told P.failures D.told D.faultless in
+        RunsDesk (sees world) (sees result.world) result.status }
 {
-    let ended = run_desk(alloc, store.as_str(), source, sink, keeper, gate);
+    let World {
+        keeper,
+        mut channels,
+    } = world;
+    let DeskRun { how, keeper } = run_desk(
+        alloc,
+        store.as_str(),
+        &mut channels.source,
+        &mut channels.sink,
+        keeper,
+        gate,
+    );
+    let status = tell_end(alloc, &how, &mut channels.sink, &mut channels.log);
     RunEnd {
-        status: tell_end(alloc, &ended.how, sink, log),
-        keeper: ended.keeper,
+        status,
+        world: World { keeper, channels },
     }
 }
 

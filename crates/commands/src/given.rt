@@ -2,17 +2,15 @@
 ghost use Rattle.std.specs.Prelude.{◌≡◌, ◌≢◌, ℕ, List, IfOk, IfErr};
 ghost use Rattle.std.specs.IoError.{error_kind};
 ghost use Rattle.command_words.specs.Prepared.{texts_of};
-ghost use Rattle.book_commands.specs.RunReply.{usage_reply, memory_reply};
-ghost use Rattle.book_commands.specs.Tells.{outputs, Tells};
-ghost use Rattle.commands.specs.Outside.{keeps, opens, outside};
+ghost use Rattle.commands.specs.Outside.{seen};
 ghost use Rattle.commands.specs.Does.{AnswersUsage, AnswersMemory};
 ghost use Rattle.commands.specs.Run.{IsRun};
 ghost use Rattle.commands.specs.Words.{NamesPort, NamesStore};
 
 use crate::run_end::RunEnd;
 use crate::top_call::run;
-use answering::Gate;
-use book_commands::{RunLog, RunStatus, tell_usage, tell_want_of_memory};
+use crate::usage::{tell_no_form, tell_no_memory};
+use crate::world::World;
 use keeper::Keeper;
 use pb_door::Door;
 use pb_outside::{Files, Sink, Source};
@@ -22,7 +20,7 @@ use std::io::ErrorKind;
 use std::sync::Wait;
 use std::thread::Threads;
 
-/// Does what the given words ask, and gives the status. Where the system can't give them as text, as where a
+/// Does what the given words ask, and gives the status and the world. Where the system can't give them as text, as where a
 /// word isn't UTF-8, they are of no form.
 pub fn run_given<
     R: Threads + Wait + Sync,
@@ -36,63 +34,39 @@ pub fn run_given<
     rt: &R,
     alloc: Global,
     given: io::Result<Vec<String>>,
-    source: &mut S,
-    sink: &mut K,
-    files: &mut F,
-    keeper: P,
-    door: &mut D,
+    world: World<S, K, F, P, D>,
     gate: &G,
-    log: &mut RunLog,
-) -> RunEnd<P>
+) -> RunEnd<World<S, K, F, P, D>>
     requires named { IfOk given (λ words. (store : List ℕ) → NamesStore (texts_of words.items) store
-        → P.may_begin keeper store) }
+        → P.may_begin world.keeper store) }
     requires at_port { IfOk given (λ words. (port : ℕ) → NamesPort (texts_of words.items) port
-        → D.may_listen door.old port) }
-    ensures text { let kept = keeps (P.told keeper) (P.failures keeper) in
-        let kept' = keeps (P.told result.keeper) (P.failures result.keeper) in
-        let door' = opens (D.told door.new) (D.faultless door.new) in
-        let before = outside (S.input source.old) (F.told files.old) (K.output sink.old) log.old kept
-        (opens (D.told door.old) (D.faultless door.old)) in
-        let after = outside (S.input source.new) (F.told files.new) (K.output sink.new) log.new kept' door' in
-        IfOk given (λ words. IsRun (texts_of words.items) before after result.status) }
-    ensures none { let kept = keeps (P.told keeper) (P.failures keeper) in
-        let kept' = keeps (P.told result.keeper) (P.failures result.keeper) in
-        let door' = opens (D.told door.new) (D.faultless door.new) in
-        let before = outside (S.input source.old) (F.told files.old) (K.output sink.old) log.old kept
-        (opens (D.told door.old) (D.faultless door.old)) in
-        let after = outside (S.input source.new) (F.told files.new) (K.output sink.new) log.new kept' door' in
-        let usage = AnswersUsage before after result.status in
+        → D.may_listen world.channels.door port) }
+    ensures text { let sees = seen S.input K.output F.told P.told P.failures D.told D.faultless in
+        IfOk given (λ words. IsRun (texts_of words.items) (sees world) (sees result.world) result.status) }
+    ensures none { let sees = seen S.input K.output F.told P.told P.failures D.told D.faultless in
+        let usage = AnswersUsage (sees world) (sees result.world) result.status in
         IfErr given (λ error. error_kind error ≢ ErrorKind.OutOfMemory → usage) }
-    ensures want { let kept = keeps (P.told keeper) (P.failures keeper) in
-        let kept' = keeps (P.told result.keeper) (P.failures result.keeper) in
-        let door' = opens (D.told door.new) (D.faultless door.new) in
-        let before = outside (S.input source.old) (F.told files.old) (K.output sink.old) log.old kept
-        (opens (D.told door.old) (D.faultless door.old)) in
-        let after = outside (S.input source.new) (F.told files.new) (K.output sink.new) log.new kept' door' in
-        let want = AnswersMemory before after result.status in
+    ensures want { let sees = seen S.input K.output F.told P.told P.failures D.told D.faultless in
+        let want = AnswersMemory (sees world) (sees result.world) result.status in
         IfErr given (λ error. error_kind error ≡ ErrorKind.OutOfMemory → want) }
 {
     match given {
-        Ok(words) => run(
-            rt, alloc, &words, source, sink, files, keeper, door, gate, log,
-        ),
-        Err(error) => RunEnd {
-            status: tell_no_words(&error, sink, log),
-            keeper,
-        },
+        Ok(words) => run(rt, alloc, &words, world, gate),
+        Err(error) => tell_no_words(&error, world),
     }
 }
 
-fn tell_no_words<K: Sink>(error: &io::Error, sink: &mut K, log: &mut RunLog) -> RunStatus
-    ensures none { let before = outputs (K.output sink.old) log.old in
-        let after = outputs (K.output sink.new) log.new in
-        error_kind error.now ≢ ErrorKind.OutOfMemory → Tells usage_reply before after result }
-    ensures want { let before = outputs (K.output sink.old) log.old in
-        let after = outputs (K.output sink.new) log.new in
-        error_kind error.now ≡ ErrorKind.OutOfMemory → Tells memory_reply before after result }
+fn tell_no_words<S: Source, K: Sink, F: Files, P: Keeper, D: Door>(
+    error: &io::Error,
+    world: World<S, K, F, P, D>,
+) -> RunEnd<World<S, K, F, P, D>>
+    ensures none { let sees = seen S.input K.output F.told P.told P.failures D.told D.faultless in
+        error_kind error.now ≢ ErrorKind.OutOfMemory → AnswersUsage (sees world) (sees result.world) result.status }
+    ensures want { let sees = seen S.input K.output F.told P.told P.failures D.told D.faultless in
+        error_kind error.now ≡ ErrorKind.OutOfMemory → AnswersMemory (sees world) (sees result.world) result.status }
 {
     match error.kind() {
-        ErrorKind::OutOfMemory => tell_want_of_memory(sink, log),
-        _ => tell_usage(sink, log),
+        ErrorKind::OutOfMemory => tell_no_memory(world),
+        _ => tell_no_form(world),
     }
 }

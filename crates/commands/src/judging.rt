@@ -1,70 +1,73 @@
 //! The orders that a desk keeps, judged again by one of its books.
 ghost use Rattle.std.specs.Prelude.{◌≡◌, ◌<◌, IfOk};
-ghost use Rattle.pb_outside.specs.Files.{FilesTold};
-ghost use Rattle.pb_outside.specs.Source.{SourceTold};
-ghost use Rattle.commands.specs.Outside.{DoorSaid, KeeperTold, keeps, outside};
+ghost use Rattle.commands.specs.Outside.{KeeperTold, channels_seen, seen};
 ghost use Rattle.commands.specs.Rejudged.{JudgesAgain, RepliesAgain, RepliesToRejudge, RunsRejudge, no_book_reply};
 
 use crate::desk::tell_start;
-use crate::rejudging::Rejudging;
 use crate::run_end::RunEnd;
 use crate::stock::stock_of;
-use book_commands::{RunLog, RunReply, RunStatus, tell_made};
+use crate::world::{Channels, World};
+use book_commands::{RunReply, RunStatus, tell_made};
+use command_words::Rejudging;
 use keeper::Keeper;
 use order_again::{rejudge, stock_text};
 use order_desk::{Desk, NotStarted};
 use pb_base::{Memory, Text};
-use pb_outside::Sink;
+use pb_door::Door;
+use pb_outside::{Files, Sink, Source};
 use release::Released;
 use std::alloc::Global;
 use std::thread::Threads;
 
 /// Starts the desk whose rows the keeper has in this store, judges its orders again by the book, and tells what they come to.
 /// The source, the files and the door are not touched.
-pub fn run_rejudge<R: Threads + Sync, K: Sink, P: Keeper>(
+pub fn run_rejudge<R: Threads + Sync, S: Source, K: Sink, F: Files, P: Keeper, D: Door>(
     rt: &R,
     alloc: Global,
     asked: &Rejudging,
-    sink: &mut K,
-    keeper: P,
-    log: &mut RunLog,
-) -> RunEnd<P>
-    requires named { P.may_begin keeper asked.now.store }
-    ensures { (source : SourceTold) → (files : FilesTold) → (door : DoorSaid) →
-        let kept = keeps (P.told keeper) (P.failures keeper) in
-        let kept' = keeps (P.told result.keeper) (P.failures result.keeper) in
-        let before = outside source files (K.output sink.old) log.old kept door in
-        let after = outside source files (K.output sink.new) log.new kept' door in
-        RunsRejudge asked.now before after result.status }
+    world: World<S, K, F, P, D>,
+) -> RunEnd<World<S, K, F, P, D>>
+    requires named { P.may_begin world.keeper asked.now.store }
+    ensures { let sees = seen S.input K.output F.told P.told P.failures D.told D.faultless in
+        RunsRejudge asked.now (sees world) (sees result.world) result.status }
 {
+    let World {
+        keeper,
+        mut channels,
+    } = world;
     match Desk::start(alloc, keeper, asked.store()) {
-        Ok(desk) => judge_kept(rt, alloc, asked, desk, sink, log),
-        Err(NotStarted { why, keeper }) => RunEnd {
-            status: tell_start(alloc, &why, sink, log),
-            keeper,
-        },
+        Ok(desk) => judge_kept(rt, alloc, asked, desk, channels),
+        Err(NotStarted { why, keeper }) => {
+            let status = tell_start(alloc, &why, &mut channels.sink, &mut channels.log);
+            RunEnd {
+                status,
+                world: World { keeper, channels },
+            }
+        }
     }
 }
 
-// Judges the orders of a desk again, tells what they come to, and finishes the desk.
-fn judge_kept<R: Threads + Sync, K: Sink, P: Keeper>(
+// Judges the orders of a desk again, tells what they come to, and finishes the desk. Whatever its keeper told before.
+fn judge_kept<R: Threads + Sync, S: Source, K: Sink, F: Files, P: Keeper, D: Door>(
     rt: &R,
     alloc: Global,
     asked: &Rejudging,
     desk: Desk<P>,
-    sink: &mut K,
-    log: &mut RunLog,
-) -> RunEnd<P>
-    ensures { (source : SourceTold) → (files : FilesTold) → (kept : KeeperTold) → (door : DoorSaid) →
-        let kept' = keeps (P.told result.keeper) (P.failures result.keeper) in
-        let before = outside source files (K.output sink.old) log.old kept door in
-        let after = outside source files (K.output sink.new) log.new kept' door in
-        JudgesAgain asked.now desk before after result.status }
+    mut channels: Channels<S, K, F, D>,
+) -> RunEnd<World<S, K, F, P, D>>
+    ensures { (kept : KeeperTold) →
+        let sees = seen S.input K.output F.told P.told P.failures D.told D.faultless in
+        let before = channels_seen S.input K.output F.told D.told D.faultless kept channels in
+        JudgesAgain asked.now desk before (sees result.world) result.status }
 {
     let reply = rejudge_reply(rt, alloc, asked, &desk);
+    let status = tell_made(reply, &mut channels.sink, &mut channels.log);
     RunEnd {
-        status: tell_made(reply, sink, log),
-        keeper: desk.finish(),
+        status,
+        world: World {
+            keeper: desk.finish(),
+            channels,
+        },
     }
 }
 

@@ -2,9 +2,9 @@
 
 use book_commands::RunStatus;
 
-/// The status with which the program ends, and the keeper that was handed in.
+/// The status with which the program ends, and the world that was handed in, as the run left it.
 #[derive(Drop)]
-pub struct RunEnd<P> {
+pub struct RunEnd<W> {
     pub status: RunStatus,
-    pub keeper: P,
+    pub world: W,
 }

@@ -1,24 +1,23 @@
 //! The run of a desk whose connections come from a door.
 ghost use Rattle.std.specs.Prelude.{◌≡◌, [], ◌∷◌, ◌++◌, IfOk, OnOk, map};
-ghost use Rattle.pb_outside.specs.Files.{FilesTold};
-ghost use Rattle.pb_outside.specs.Source.{SourceTold};
-ghost use Rattle.commands.specs.Outside.{KeeperTold, keeps, opens, outside};
+ghost use Rattle.commands.specs.Outside.{KeeperTold, channels_seen, seen};
 ghost use Rattle.commands.specs.Serves.{NotesLinks, RunsService, ServesDoor, count_notes, counts_reply, counts_text, door_fault_reply, end_reply, link_notes, port_notes};
 ghost use Rattle.book_commands.specs.declared.log.Note.TheVariants.{Count};
 ghost use Rattle.serve_run.specs.declared.end.ServeEnd.{ServeEnd};
 
 use crate::desk::tell_start;
 use crate::run_end::RunEnd;
-use crate::service::Service;
-use answering::Gate;
+use crate::world::{Channels, World};
 use book_commands::{Note, Object, RunLog, RunReply, RunStatus, tell_made};
+use command_words::Service;
 use desk_run::MOST_STEPS;
 use desk_words::put_number;
 use keeper::Keeper;
 use order_desk::{Desk, DeskCounts, NotStarted};
 use pb_base::{Memory, Text};
 use pb_door::Door;
-use pb_outside::{OutError, Sink};
+use answering::Gate;
+use pb_outside::{Files, OutError, Sink, Source};
 use serve_run::{ServeEnd, Served, WorkEnd, serve};
 use session::SessionEnd;
 use std::alloc::Global;
@@ -27,73 +26,86 @@ use std::thread::Threads;
 
 /// Starts the desk whose rows the keeper has in the service's store, has the workers serve the links of the door, and tells how
 /// that ended. The source and the files are not touched.
-pub fn run_service<R: Threads + Wait + Sync, K: Sink, P: Keeper + Send, D: Door, G: Gate + Sync>(
+pub fn run_service<
+    R: Threads + Wait + Sync,
+    S: Source,
+    K: Sink,
+    F: Files,
+    P: Keeper + Send,
+    D: Door,
+    G: Gate + Sync,
+>(
     rt: &R,
     alloc: Global,
     service: &Service,
-    sink: &mut K,
-    keeper: P,
-    door: &mut D,
+    world: World<S, K, F, P, D>,
     gate: &G,
-    log: &mut RunLog,
-) -> RunEnd<P>
-    requires named { P.may_begin keeper service.now.store }
-    requires at_port { D.may_listen door.old service.now.port }
-    ensures { (source : SourceTold) → (files : FilesTold) →
-        let kept = keeps (P.told keeper) (P.failures keeper) in
-        let kept' = keeps (P.told result.keeper) (P.failures result.keeper) in
-        let door' = opens (D.told door.new) (D.faultless door.new) in
-        let before = outside source files (K.output sink.old) log.old kept
-        (opens (D.told door.old) (D.faultless door.old)) in
-        let after = outside source files (K.output sink.new) log.new kept' door' in
-        RunsService service.now before after result.status }
+) -> RunEnd<World<S, K, F, P, D>>
+    requires named { P.may_begin world.keeper service.now.store }
+    requires at_port { D.may_listen world.channels.door service.now.port }
+    ensures { let sees = seen S.input K.output F.told P.told P.failures D.told D.faultless in
+        RunsService service.now (sees world) (sees result.world) result.status }
 {
+    let World {
+        keeper,
+        mut channels,
+    } = world;
     match Desk::start(alloc, keeper, service.store()) {
-        Ok(desk) => serve_door(rt, alloc, service, desk, sink, door, gate, log),
-        Err(NotStarted { why, keeper }) => RunEnd {
-            status: tell_start(alloc, &why, sink, log),
-            keeper,
-        },
+        Ok(desk) => serve_door(rt, alloc, service, desk, channels, gate),
+        Err(NotStarted { why, keeper }) => {
+            let status = tell_start(alloc, &why, &mut channels.sink, &mut channels.log);
+            RunEnd {
+                status,
+                world: World { keeper, channels },
+            }
+        }
     }
 }
 
-// Serves the door by a desk, tells how that ended, and finishes the desk.
-fn serve_door<R: Threads + Wait + Sync, K: Sink, P: Keeper + Send, D: Door, G: Gate + Sync>(
+// Serves the door by a desk, tells how that ended, and finishes the desk. Whatever its keeper told before.
+fn serve_door<
+    R: Threads + Wait + Sync,
+    S: Source,
+    K: Sink,
+    F: Files,
+    P: Keeper + Send,
+    D: Door,
+    G: Gate + Sync,
+>(
     rt: &R,
     alloc: Global,
     service: &Service,
     desk: Desk<P>,
-    sink: &mut K,
-    door: &mut D,
+    mut channels: Channels<S, K, F, D>,
     gate: &G,
-    log: &mut RunLog,
-) -> RunEnd<P>
-    requires { D.may_listen door.old service.now.port }
-    ensures { (source : SourceTold) → (files : FilesTold) → (kept : KeeperTold) →
-        let kept' = keeps (P.told result.keeper) (P.failures result.keeper) in
-        let door' = opens (D.told door.new) (D.faultless door.new) in
-        let before = outside source files (K.output sink.old) log.old kept
-        (opens (D.told door.old) (D.faultless door.old)) in
-        let after = outside source files (K.output sink.new) log.new kept' door' in
-        (how : ServeEnd) × ServesDoor how desk service.now before after result.status }
+) -> RunEnd<World<S, K, F, P, D>>
+    requires { D.may_listen channels.door service.now.port }
+    ensures { (kept : KeeperTold) →
+        let sees = seen S.input K.output F.told P.told P.failures D.told D.faultless in
+        let before = channels_seen S.input K.output F.told D.told D.faultless kept channels in
+        (how : ServeEnd) × ServesDoor how desk service.now before (sees result.world) result.status }
 {
-    let first = door.faults();
+    let first = channels.door.faults();
     let Served { how, desk, faults } = serve(
         rt,
         alloc,
         desk,
         MOST_STEPS,
-        door,
+        &mut channels.door,
         service.port(),
         service.workers(),
         service.links(),
         gate,
     );
-    note_links(alloc, &faults, log);
-    let reply = end_reply(alloc, how, desk.counts(), first, door.faults());
+    note_links(alloc, &faults, &mut channels.log);
+    let reply = end_reply(alloc, how, desk.counts(), first, channels.door.faults());
+    let status = tell_made(reply, &mut channels.sink, &mut channels.log);
     RunEnd {
-        status: tell_made(reply, sink, log),
-        keeper: desk.finish(),
+        status,
+        world: World {
+            keeper: desk.finish(),
+            channels,
+        },
     }
 }
 

@@ -1,7 +1,7 @@
-//! The top call: words, an input, files and a door in, a text and a status out.
+//! The top call: words and a world in, a status out.
 ghost use Rattle.std.specs.Prelude.{ℕ, List};
 ghost use Rattle.command_words.specs.Prepared.{texts_of};
-ghost use Rattle.commands.specs.Outside.{keeps, opens, outside};
+ghost use Rattle.commands.specs.Outside.{seen};
 ghost use Rattle.commands.specs.Run.{IsRun};
 ghost use Rattle.commands.specs.Words.{NamesPort, NamesStore};
 
@@ -9,8 +9,7 @@ use crate::beginning::begin;
 use crate::begun::Begun;
 use crate::run_end::RunEnd;
 use crate::serving::run_service;
-use answering::Gate;
-use book_commands::RunLog;
+use crate::world::World;
 use keeper::Keeper;
 use pb_door::Door;
 use pb_outside::{Files, Sink, Source};
@@ -18,11 +17,10 @@ use std::alloc::Global;
 use std::sync::Wait;
 use std::thread::Threads;
 
-/// Does what the words ask, and gives the status with which the program ends, and the keeper. `words` are those after the
-/// program's name; the log starts empty. The keeper may begin by the store's name in the words, and need not by another; the door may
-/// listen at their port, and need not at another. Only a
-/// service waits for others, so that of it all is said if it returns; what else the words may ask is done by `begin`, which
-/// returns.
+/// Does what the words ask, and gives the status with which the program ends, and the world. `words` are those after the
+/// program's name. The keeper may begin by the store's name in the words, and need not by another; the door may listen at their
+/// port, and need not at another. Only a service waits for others, so that of it all is said if it returns; what else the words
+/// may ask is done by `begin`, which returns.
 pub fn run<
     R: Threads + Wait + Sync,
     S: Source,
@@ -35,28 +33,16 @@ pub fn run<
     rt: &R,
     alloc: Global,
     words: &[String],
-    source: &mut S,
-    sink: &mut K,
-    files: &mut F,
-    keeper: P,
-    door: &mut D,
+    world: World<S, K, F, P, D>,
     gate: &G,
-    log: &mut RunLog,
-) -> RunEnd<P>
-    requires named { (store : List ℕ) → NamesStore (texts_of words.now) store → P.may_begin keeper store }
-    requires at_port { (port : ℕ) → NamesPort (texts_of words.now) port → D.may_listen door.old port }
-    ensures { let kept = keeps (P.told keeper) (P.failures keeper) in
-        let kept' = keeps (P.told result.keeper) (P.failures result.keeper) in
-        let door' = opens (D.told door.new) (D.faultless door.new) in
-        let before = outside (S.input source.old) (F.told files.old) (K.output sink.old) log.old kept
-        (opens (D.told door.old) (D.faultless door.old)) in
-        let after = outside (S.input source.new) (F.told files.new) (K.output sink.new) log.new kept' door' in
-        IsRun (texts_of words.now) before after result.status }
+) -> RunEnd<World<S, K, F, P, D>>
+    requires named { (store : List ℕ) → NamesStore (texts_of words.now) store → P.may_begin world.keeper store }
+    requires at_port { (port : ℕ) → NamesPort (texts_of words.now) port → D.may_listen world.channels.door port }
+    ensures { let sees = seen S.input K.output F.told P.told P.failures D.told D.faultless in
+        IsRun (texts_of words.now) (sees world) (sees result.world) result.status }
 {
-    match begin(rt, alloc, words, source, sink, files, keeper, gate, log) {
+    match begin(rt, alloc, words, world, gate) {
         Begun::Ended(end) => end,
-        Begun::Awaited(service, keeper) => {
-            run_service(rt, alloc, &service, sink, keeper, door, gate, log)
-        }
+        Begun::Awaited(service, left) => run_service(rt, alloc, &service, left, gate),
     }
 }

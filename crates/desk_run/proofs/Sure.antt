@@ -1,9 +1,9 @@
--- Where nothing fails, right rows and a stream of whole messages are served to the end, memory allowing.
-use Rattle.std.proofs.Common.{◌≡◌, ◌<◌, ◌≤◌, ◌∙◌, ℕ, true, false, List, length, refl, sym, inl, inr, arith}
+-- Where no count rose, right rows and a stream of whole messages are served to the end, memory allowing.
+use Rattle.std.proofs.Common.{◌≡◌, ◌∙◌, ℕ, List, refl, sym, inl, inr}
 use Rattle.std.specs.Prelude.{Option, Some, None, IfSome, IsSomeAnd}
 use Rattle.pb_base.specs.declared.answer.Fail.{Fail}
 use Rattle.pb_base.specs.declared.answer.Fail.TheVariants.{Refused, Memory as NoMemory}
-use Rattle.pb_outside.specs.Faults.{Faults, Fails}
+use Rattle.pb_outside.specs.Faults.{Fails}
 use Rattle.pb_outside.specs.Sink.{Refuses}
 use Rattle.http_wire.specs.Items.{ended, refused, cut, closed}
 use Rattle.http_wire.specs.declared.message.Message.{Message}
@@ -18,7 +18,7 @@ use Rattle.session.specs.Session.{IsDue, StopsAt}
 use Rattle.session.specs.declared.end.SessionEnd.{SessionEnd}
 use Rattle.session.specs.declared.end.SessionEnd.TheVariants.{Done, Broken, ReadFault, WriteFault, Memory}
 use Rattle.desk_run.specs.DeskRun.{DeskOutside, IsDeskRun, IsNotStarted, IsServed, IsStarted, hand_at}
-use Rattle.desk_run.specs.Sure.{FitsDue, HasWholeMessages, IsDoneOrMemory, IsOrderly, IsSure, IsUnfailing}
+use Rattle.desk_run.specs.Sure.{HasWholeMessages, IsDoneOrMemory, IsOrderly, IsUnfailing}
 use Rattle.desk_run.specs.declared.end.DeskEnd.{DeskEnd}
 use Rattle.desk_run.specs.declared.end.DeskEnd.TheVariants.{NotStarted, Served}
 
@@ -29,7 +29,7 @@ record FailsNowhere (before after : DeskOutside) : Type 0 where
   pub sink : (old : State) (stop : Stop) (out : List ℕ) (new : Hand) → IsStarted before old
       → IsDue stop before.link.input.left (hand_at old) out new → Refuses out before.link.output after.link.output → ⊥
 
-no_bad_row : (rows : Option Kept) (place : ℕ × ℕ) → IsSomeAnd rows (λ r. first_bad (begun r) ≡ None)
+pub no_bad_row : (rows : Option Kept) (place : ℕ × ℕ) → IsSomeAnd rows (λ r. first_bad (begun r) ≡ None)
     → IfSome rows (λ r. first_bad (begun r) ≡ Some place) → ⊥
 no_bad_row None place right bad = right
 no_bad_row (Some r) place right bad = let clash : None ≡ Some place = sym right ∙ bad in cc
@@ -40,7 +40,7 @@ not_started (Refused (BadRow table place)) before after orderly nowhere is = abs
 not_started (Refused (Store first last)) before after orderly nowhere is = absurd (nowhere.keeper is.cause.fails)
 not_started NoMemory before after orderly nowhere is = inr (inr refl)
 
-not_broken : (stop : Stop) (left : Option (List ℕ)) (messages : List Message) → StopsAt Broken stop → IsSomeAnd left HasWholeMessages
+pub not_broken : (stop : Stop) (left : Option (List ℕ)) (messages : List Message) → StopsAt Broken stop → IsSomeAnd left HasWholeMessages
     → IfSome left (λ s. Reads stop s messages) → ⊥
 not_broken stop None messages stops whole_messages read = whole_messages
 not_broken (whole ended) (Some s) messages stops whole_messages read = stops
@@ -65,26 +65,6 @@ served Memory before after orderly nowhere is = inr (inl refl)
 run_served : (how : DeskEnd) (before after : DeskOutside) → IsOrderly before → FailsNowhere before after → IsDeskRun how before after → IsDoneOrMemory how
 run_served (NotStarted why) before after orderly nowhere is = not_started why before after orderly nowhere is
 run_served (Served end) before after orderly nowhere is = served end before after orderly nowhere is
-
--- what is ruled out doesn't come
-never_fails : (before after : Faults) → before.faultless ≡ true → Fails before after → ⊥
-never_fails before after faultless fails = let clash : true ≡ false = sym faultless ∙ fails.possible in cc
-
-has_room : (before : DeskOutside) (room : Option ℕ) (old : State) (stop : Stop) (out : List ℕ) (new : Hand) → IsSomeAnd room (FitsDue before)
-    → IsStarted before old → IsDue stop before.link.input.left (hand_at old) out new → IfSome room (λ bytes. bytes < length out) → ⊥
-has_room before None old stop out new fits started due small = fits
-has_room before (Some bytes) old stop out new fits started due small =
-    let enough : length out ≤ bytes = fits old stop out new started due in
-    omega (arith, enough, small)
-
-pub run_sure : (how : DeskEnd) (before after : DeskOutside) → IsDeskRun how before after → IsSure before → IsDoneOrMemory how
-run_sure how before after is sure =
-    run_served how before after sure.orderly (record {
-      keeper = never_fails before.faults after.faults sure.keeper;
-      source = never_fails before.link.input.faults after.link.input.faults sure.source;
-      sink = λ old stop out new started due refuses.
-          has_room before before.link.output.room old stop out new sure.room started due refuses.no_room;
-    }) is
 
 pub run_unfailing : (how : DeskEnd) (before after : DeskOutside) → IsDeskRun how before after → IsOrderly before → IsUnfailing before after
     → IsDoneOrMemory how

@@ -3,8 +3,6 @@ ghost use Rattle.answering.specs.LaterHand.{IsLaterHand};
 ghost use Rattle.session.specs.Dealing.{HasDealt};
 ghost use Rattle.session.specs.Session.{told};
 ghost use Rattle.desk_run.specs.DeskRun.{IsDeskRun, ServesLink, outside};
-ghost use Rattle.desk_run.specs.Released.{HasReleasedBooks};
-ghost use Rattle.desk_run.specs.Sure.{IsDoneOrMemory, IsOrderly, IsSure, IsUnfailing};
 
 use crate::end::{DeskEnd, DeskRun};
 use crate::halves::Halves;
@@ -29,39 +27,9 @@ pub fn run_desk<S: Source, K: Sink, P: Keeper, G: Gate>(
     gate: &G,
 ) -> DeskRun<P>
     requires { P.may_begin keeper store.now }
-    ensures runs { let link = told (S.input source.old) (K.output sink.old) in
-        let link' = told (S.input source.new) (K.output sink.new) in
-        let before = outside link (P.told keeper) (P.failures keeper) in
-        let after = outside link' (P.told result.keeper) (P.failures result.keeper) in
-        IsDeskRun result.how before after }
-    ensures released { HasReleasedBooks result.how (P.told result.keeper) }
-    // Where no call fails from here on, right rows and a stream of whole messages are served to the end, memory allowing.
-    ensures complete { let link = told (S.input source.old) (K.output sink.old) in
-        let before = outside link (P.told keeper) (P.failures keeper) in
-        IsSure before → IsDoneOrMemory result.how }
-    // The same where no count rose.
-    ensures unfailing { let link = told (S.input source.old) (K.output sink.old) in
-        let link' = told (S.input source.new) (K.output sink.new) in
-        let before = outside link (P.told keeper) (P.failures keeper) in
-        let after = outside link' (P.told result.keeper) (P.failures result.keeper) in
-        IsOrderly before → IsUnfailing before after → IsDoneOrMemory result.how }
-{
-    start_and_serve(alloc, store, source, sink, keeper, gate)
-}
-
-fn start_and_serve<S: Source, K: Sink, P: Keeper, G: Gate>(
-    alloc: Global,
-    store: &str,
-    source: &mut S,
-    sink: &mut K,
-    keeper: P,
-    gate: &G,
-) -> DeskRun<P>
-    requires { P.may_begin keeper store.now }
-    ensures { let link = told (S.input source.old) (K.output sink.old) in
-        let link' = told (S.input source.new) (K.output sink.new) in
-        let before = outside link (P.told keeper) (P.failures keeper) in
-        let after = outside link' (P.told result.keeper) (P.failures result.keeper) in
+    ensures { let before = outside (told (S.input source.old) (K.output sink.old)) (P.told keeper) (P.failures keeper) in
+        let link = told (S.input source.new) (K.output sink.new) in
+        let after = outside link (P.told result.keeper) (P.failures result.keeper) in
         IsDeskRun result.how before after }
 {
     match Desk::start(alloc, keeper, store) {
@@ -87,10 +55,9 @@ fn serve<S: Source, K: Sink, P: Keeper, G: Gate>(
     sink: &mut K,
     gate: &G,
 ) -> (SessionEnd, P)
-    ensures { let link = told (S.input source.old) (K.output sink.old) in
-        let link' = told (S.input source.new) (K.output sink.new) in
-        let after = outside link' (P.told result.1) (P.failures result.1) in
-        ServesLink desk result.0 link after }
+    ensures { let link = told (S.input source.new) (K.output sink.new) in
+        let after = outside link (P.told result.1) (P.failures result.1) in
+        ServesLink desk result.0 (told (S.input source.old) (K.output sink.old)) after }
 {
     let mut turns = Alone::new(desk, MOST_STEPS);
     let end = serve_ends(alloc, source, sink, &mut turns, gate);

@@ -1,7 +1,7 @@
 //! Words of commands that no run shows: those of `serve`, `compare` and `rejudge` at the limits of their numbers, the largest sample, and the budget where no word names one.
 
-use command_words::{Command, Usage, command_of};
-use pb_base::{Fail as Refusal, Memory, Text};
+use command_words::{BookCommand, Rejudging, Service, Task, task_of};
+use pb_base::{Memory, Text};
 use std::alloc::Global;
 use std::process::Abort;
 use std::test::Fail;
@@ -60,45 +60,52 @@ fn put_named(text: &mut Text, word: &str, name: &str, numbers: &[u32]) -> Result
     put_numbers(text, name, numbers)
 }
 
-fn put_command(text: &mut Text, command: &Command) -> Result<(), Memory> {
+fn put_command(text: &mut Text, command: &BookCommand) -> Result<(), Memory> {
     match command {
-        Command::Check { budget } => put_numbers(text, "check", &[*budget]),
-        Command::Prove { budget } => put_numbers(text, "prove", &[*budget]),
-        Command::Sample {
-            start,
-            codes,
-            orders,
-        } => put_numbers(text, "sample", &[*start, *codes, *orders]),
-        Command::Serve {
-            store,
-            port,
-            workers,
-            links,
-        } => put_named(
-            text,
-            "serve",
-            store.as_str(),
-            &[u32::from(*port), *workers, *links],
-        ),
-        Command::Supplements { budget } => put_numbers(text, "supplements", &[*budget]),
-        Command::Compare { day, file, budget } => {
-            put_named(text, "compare", file.as_str(), &[*day, *budget])
+        BookCommand::Check { budget } => put_numbers(text, "check", &[budget.clauses()]),
+        BookCommand::Prove { budget } => put_numbers(text, "prove", &[budget.clauses()]),
+        BookCommand::Supplements { budget } => {
+            put_numbers(text, "supplements", &[budget.clauses()])
         }
-        Command::Rejudge {
-            store,
-            book,
-            workers,
-        } => put_named(text, "rejudge", store.as_str(), &[*book, *workers]),
+        BookCommand::Compare { day, file, budget } => {
+            put_named(text, "compare", file.as_str(), &[*day, budget.clauses()])
+        }
         _ => text.put(b"another"),
+    }
+}
+
+fn put_service(text: &mut Text, service: &Service) -> Result<(), Memory> {
+    let port = u32::from(service.port());
+    let numbers = [port, service.workers(), service.links()];
+    put_named(text, "serve", service.store(), &numbers)
+}
+
+fn put_rejudging(text: &mut Text, asked: &Rejudging) -> Result<(), Memory> {
+    put_named(
+        text,
+        "rejudge",
+        asked.store(),
+        &[asked.book(), asked.workers()],
+    )
+}
+
+fn put_task(text: &mut Text, task: &Task) -> Result<(), Memory> {
+    match task {
+        Task::Book(command) => put_command(text, command),
+        Task::Serve(service) => put_service(text, service),
+        Task::Rejudge(asked) => put_rejudging(text, asked),
+        Task::Sample(size) => {
+            put_numbers(text, "sample", &[size.start(), size.codes(), size.orders()])
+        }
+        Task::Desk { store: _ } => text.put(b"another"),
     }
 }
 
 // Puts what words ask for behind a text.
 fn put_asked(alloc: Global, text: &mut Text, words: &[String]) -> Result<(), Memory> {
-    match command_of(alloc, words) {
-        Ok(command) => put_command(text, &command),
-        Err(Refusal::Refused(Usage)) => text.put(b"usage"),
-        Err(Refusal::Memory) => Err(Memory),
+    match task_of(alloc, words)? {
+        Some(task) => put_task(text, &task),
+        None => text.put(b"usage"),
     }
 }
 

@@ -1,2 +1,1 @@
-pub mod StoreName
 pub mod Store

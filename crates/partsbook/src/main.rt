@@ -2,7 +2,6 @@
 #![tactic(auto)]
 
 mod store;
-mod store_name;
 
 ghost use Rattle.std.specs.Prelude.{◌≡◌, ℕ, List, IfOk};
 ghost use Rattle.std.specs.Process.{exit_status};
@@ -10,13 +9,10 @@ ghost use Rattle.book_commands.specs.Numbers.{status_number};
 ghost use Rattle.command_words.specs.Prepared.{texts_of};
 ghost use Rattle.commands.specs.Words.{NamesStore};
 
-use crate::store::Store;
-use crate::store_name::store_of;
-use answering::NoGate;
-use commands::{RunEnd, RunLog, RunStatus, run_given};
-use journal_keeper::{FileDisk, JournalKeeper};
+use crate::store::{FileStore, Store};
+use commands::{Channels, RunEnd, RunLog, RunStatus, World, run_given};
 use keeper::Keeper;
-use keeper_sql::FileKeeper;
+use answering::NoGate;
 use pb_outside::{StreamSink, StreamSource, SystemFiles};
 use std::alloc::Global;
 use std::net::{Net, TcpListener, TcpStream};
@@ -27,30 +23,10 @@ use std::thread::Threads;
 use std::{env, io};
 use tcp_door::TcpDoor;
 
-// A file of SQLite, or a journal in a file.
-type FileStore = Store<FileKeeper, JournalKeeper<FileDisk>>;
-
 fn main(rt: HostRuntime) -> ExitCode {
-    let Given { words, journal } = read_given(&rt);
-    closed(run_with(&rt, rt.alloc(), words, keeper_of(rt, journal)))
-}
-
-// The words after the program's name, and the name of the journal where they name one.
-struct Given {
-    words: io::Result<Vec<String>>,
-    journal: Option<String>,
-}
-
-// Where the name finds no memory, the words are refused for it.
-fn read_given(rt: &HostRuntime) -> Given {
-    let words = given_words(rt);
-    match journal_path(rt, &words) {
-        Ok(journal) => Given { words, journal },
-        Err(error) => Given {
-            words: Err(error),
-            journal: None,
-        },
-    }
+    let words = given_words(&rt);
+    let (status, store) = run_with(&rt, rt.alloc(), words, Store::Unopened(rt));
+    closed(status, store)
 }
 
 // The status, as the system takes it.
@@ -67,33 +43,10 @@ fn given_words(rt: &HostRuntime) -> io::Result<Vec<String>> {
     Ok(words.collect(rt.alloc())?)
 }
 
-// A copy of the store's name, where the store is a journal.
-fn journal_path(rt: &HostRuntime, given: &io::Result<Vec<String>>) -> io::Result<Option<String>> {
-    let Ok(words) = given else {
-        return Ok(None);
-    };
-    match store_of(words) {
-        Some(name) if name.ends_with(".journal") => {
-            Ok(Some(String::from_str(rt.alloc(), name)?))
-        }
-        _ => Ok(None),
-    }
-}
-
 // The status of a run, whose store is closed.
-fn closed(end: RunEnd<FileStore>) -> ExitCode {
-    close(end.keeper);
-    exit_code(end.status)
-}
-
-// The keeper of the journal of this path, or of a file of SQLite where there is none.
-fn keeper_of(rt: HostRuntime, journal: Option<String>) -> FileStore
-    ensures { (name : List ℕ) → ⟦<FileStore as Keeper>⟧.may_begin result name }
-{
-    match journal {
-        Some(path) => Store::Journal(JournalKeeper::new(rt.alloc(), FileDisk::new(rt, path))),
-        None => Store::Sql(FileKeeper::new(rt)),
-    }
+fn closed(status: RunStatus, store: FileStore) -> ExitCode {
+    close(store);
+    exit_code(status)
 }
 
 // What a store that can't be closed has in its log is there for the next run, so the status stays what it is.
@@ -103,32 +56,26 @@ fn close(store: FileStore) {
             let _closed = keeper.close();
         }
         Store::Journal(_keeper) => {}
+        Store::Unopened(_rt) => {}
     }
 }
 
-// Runs between the streams and over the files and the ports of the system.
+// Runs between the streams and over the files and the ports of the system, and gives the status and the keeper.
 fn run_with<
     R: Runtime + Net<Listener = TcpListener, Stream = TcpStream> + Threads + Wait + Sync,
     P: Keeper + Send,
->(rt: &R, alloc: Global, words: io::Result<Vec<String>>, keeper: P) -> RunEnd<P>
+>(rt: &R, alloc: Global, words: io::Result<Vec<String>>, keeper: P) -> (RunStatus, P)
     requires { IfOk words (λ words. (store : List ℕ) → NamesStore (texts_of words.items) store
         → P.may_begin keeper store) }
 {
-    let mut source = StreamSource::new(rt.reader());
-    let mut sink = StreamSink::new(io::writer(rt));
-    let mut files = SystemFiles::new(rt);
-    let mut door = TcpDoor::new(alloc, rt);
-    let mut log = RunLog::new(alloc);
-    run_given(
-        rt,
-        alloc,
-        words,
-        &mut source,
-        &mut sink,
-        &mut files,
-        keeper,
-        &mut door,
-        &NoGate,
-        &mut log,
-    )
+    let channels = Channels {
+        source: StreamSource::new(rt.reader()),
+        sink: StreamSink::new(io::writer(rt)),
+        files: SystemFiles::new(rt),
+        door: TcpDoor::new(alloc, rt),
+        log: RunLog::new(alloc),
+    };
+    let world = World { keeper, channels };
+    let RunEnd { status, world } = run_given(rt, alloc, words, world, &NoGate);
+    (status, world.keeper)
 }

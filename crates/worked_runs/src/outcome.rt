@@ -40,56 +40,18 @@ pub fn outcome_of<R: Threads + Wait + Sync>(
     pieces: &[usize],
     store: &mut MemoryKeeper,
 ) -> Result<Outcome, Memory> {
-    let mut outside = outside_of(alloc, case, input, pieces)?;
-    let end = end_of(rt, alloc, case, line, &mut outside, store)?;
-    outcome_from(alloc, outside, end)
-}
-
-fn end_of<R: Threads + Wait + Sync>(
-    rt: &R,
-    alloc: Global,
-    case: &Case<'_>,
-    line: &str,
-    outside: &mut Outside,
-    store: &mut MemoryKeeper,
-) -> Result<RunEnd<MemoryKeeper>, Memory> {
     let words = words_of(alloc, line)?;
-    let keeper = keeper_of(alloc, case, store)?;
-    Ok(run_given(
-        rt,
-        alloc,
-        words,
-        &mut outside.source,
-        &mut outside.sink,
-        &mut outside.files,
-        keeper,
-        &mut outside.door,
-        &NoGate,
-        &mut outside.log,
-    ))
+    let outside = outside_of(alloc, case, input, pieces, store)?;
+    outcome_from(alloc, run_given(rt, alloc, words, outside, &NoGate))
 }
 
-fn keeper_of(
-    alloc: Global,
-    case: &Case<'_>,
-    store: &mut MemoryKeeper,
-) -> Result<MemoryKeeper, Memory> {
-    let fails = case.keeper_fails.to_vec(alloc)?;
-    let rows = rows_of(alloc, store)?;
-    Ok(MemoryKeeper::new(rows, fails))
-}
-
-fn outcome_from(
-    alloc: Global,
-    outside: Outside,
-    end: RunEnd<MemoryKeeper>,
-) -> Result<Outcome, Memory> {
-    let RunEnd { status, mut keeper } = end;
+fn outcome_from(alloc: Global, end: RunEnd<Outside>) -> Result<Outcome, Memory> {
+    let RunEnd { status, mut world } = end;
     Ok(Outcome {
         status,
-        keeper_faults: keeper.faults(),
-        rows: rows_of(alloc, &mut keeper)?,
-        outside,
+        keeper_faults: world.keeper.faults(),
+        rows: rows_of(alloc, &mut world.keeper)?,
+        outside: world,
     })
 }
 
@@ -103,11 +65,11 @@ pub fn put_outcome(
     let taken = outcome.taken();
     let shown = taken.get(..case.shown as usize).unwrap_or(taken);
     put_taken(text, case, shown)?;
-    put_links(text, &outcome.outside.door)?;
-    put_notes(text, outcome.outside.log.notes())?;
+    put_links(text, &outcome.outside.channels.door)?;
+    put_notes(text, outcome.outside.channels.log.notes())?;
     put_status(text, outcome.status)?;
     put_faults(text, &outcome.faults())?;
-    let left = bytes_left(alloc, &mut outcome.outside.source)?;
+    let left = bytes_left(alloc, &mut outcome.outside.channels.source)?;
     if case.shows_rest {
         put_count(text, "left ", left as u64)?;
     }
@@ -129,7 +91,7 @@ pub enum Front {
 impl Outcome {
     /// What the sink took.
     pub fn taken(&self) -> &[u8] {
-        self.outside.sink.taken()
+        self.outside.channels.sink.taken()
     }
 
     /// How the run came out, where its input was a front of a message.
@@ -155,11 +117,11 @@ impl Outcome {
     // How often source, files, sink, keeper and door failed.
     fn faults(&self) -> [u64; 5] {
         [
-            self.outside.source.read_faults(),
-            self.outside.files.faults(),
-            self.outside.sink.write_faults(),
+            self.outside.channels.source.read_faults(),
+            self.outside.channels.files.faults(),
+            self.outside.channels.sink.write_faults(),
             self.keeper_faults,
-            self.outside.door.faults(),
+            self.outside.channels.door.faults(),
         ]
     }
 }

@@ -3,7 +3,9 @@
 use crate::case::Case;
 use crate::door::door_of;
 use crate::named_text::NamedText;
-use commands::RunLog;
+use crate::rows::rows_of;
+use commands::{Channels, RunLog, World};
+use keeper::MemoryKeeper;
 use pb_base::Memory;
 use pb_door::MemoryDoor;
 use pb_outside::{MemoryFiles, MemorySink, MemorySource, NamedFile, OutError, read_up_to};
@@ -12,30 +14,37 @@ use std::alloc::Global;
 // More than any source has left.
 const ALL: usize = 100_000_000;
 
-/// What a run is handed beside its words and the keeper. All of it is in memory.
-#[derive(Drop)]
-pub struct Outside {
-    pub source: MemorySource,
-    pub files: MemoryFiles,
-    pub sink: MemorySink,
-    pub door: MemoryDoor,
-    pub log: RunLog,
-}
+/// What a run is handed beside its words, all of it in memory.
+pub type Outside = World<MemorySource, MemorySink, MemoryFiles, MemoryKeeper, MemoryDoor>;
 
-/// What a run of the case on this input is handed. The source gives it in these pieces.
+/// What a run of the case on this input is handed, over the rows of the store. The source gives it in these pieces.
 pub fn outside_of(
     alloc: Global,
     case: &Case<'_>,
     input: &[u8],
     pieces: &[usize],
+    store: &mut MemoryKeeper,
 ) -> Result<Outside, Memory> {
-    Ok(Outside {
-        source: source_of(alloc, case, input, pieces)?,
-        files: files_of(alloc, case)?,
-        sink: sink_of(alloc, case)?,
-        door: door_of(alloc, case)?,
-        log: RunLog::new(alloc),
+    Ok(World {
+        keeper: keeper_of(alloc, case, store)?,
+        channels: Channels {
+            source: source_of(alloc, case, input, pieces)?,
+            sink: sink_of(alloc, case)?,
+            files: files_of(alloc, case)?,
+            door: door_of(alloc, case)?,
+            log: RunLog::new(alloc),
+        },
     })
+}
+
+fn keeper_of(
+    alloc: Global,
+    case: &Case<'_>,
+    store: &mut MemoryKeeper,
+) -> Result<MemoryKeeper, Memory> {
+    let fails = case.keeper_fails.to_vec(alloc)?;
+    let rows = rows_of(alloc, store)?;
+    Ok(MemoryKeeper::new(rows, fails))
 }
 
 fn source_of(

@@ -3,14 +3,15 @@ use Rattle.std.specs.Prelude.{Err}
 use Rattle.pb_outside.specs.declared.error.OutError.{OutError}
 use Rattle.pb_outside.specs.declared.error.OutError.TheVariants.{Failed}
 use Rattle.book_commands.specs.Due.{answer}
-use Rattle.book_commands.proofs.DueLaws.{KeepsFiles-same, Due-of_files, Due-of_memory}
+use Rattle.book_commands.proofs.DueLaws.{Due-of_files, Due-of_memory}
+use Rattle.book_commands.proofs.Promises.{lawful}
 use Rattle.book_commands.proofs.due.due_reply.Goals as goal
 
 pub returns-in-Err-Failed-clause-files_kept : goal.returns-in-Err-Failed-clause-files_kept
-returns-in-Err-Failed-clause-files_kept g c = KeepsFiles-same _ _
+returns-in-Err-Failed-clause-files_kept g c = (lawful c.args.command.now).same_files _
 
 pub returns-in-Err-Memory-clause-files_kept : goal.returns-in-Err-Memory-clause-files_kept
-returns-in-Err-Memory-clause-files_kept g c = KeepsFiles-same _ _
+returns-in-Err-Memory-clause-files_kept g c = (lawful c.args.command.now).same_files _
 
 pub returns-in-Ok-command_reply-clause-due : goal.returns-in-Ok-command_reply-clause-due
 returns-in-Ok-command_reply-clause-due g c =

@@ -8,7 +8,7 @@ use Rattle.book_commands.proofs.sample.judge_orders.Goals as goal
 
 pub judge_order-requires : goal.judge_order-requires
 judge_order-requires c =
-    let lawful = rw c.codes.ensures.value at c.codes.ensures.lawful in
+    let lawful = rw c.codes_of.ensures.value at c.codes_of.ensures.lawful in
     subst (λ (order : OrderWords). order_fault c.args.released.now.book order.day order.codes ≡ None) (sym c.in_ok-order.ensures.order)
     (no_order_fault _ _ _ c.loop.sampler lawful c.requires c.loop.invariant.groups)
 

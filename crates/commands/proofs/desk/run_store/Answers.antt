@@ -2,11 +2,11 @@ use Rattle.std.proofs.Common.{refl}
 use Rattle.commands.proofs.desk.run_store.Goals as goal
 
 pub returns : goal.returns
-returns g c = λ files door. record {
+returns g c = record {
   how = _;
   middle = _;
-  run = c.run_desk-ended.ensures.runs;
-  told = c.tell_end.ensures;
+  run = c.run_desk-how.ensures;
+  told = c.tell_end-status.ensures;
   files = refl;
   door = refl;
 }

@@ -3,21 +3,21 @@ use Rattle.commands.specs.Serves.{unstarted, served}
 use Rattle.commands.proofs.serving.run_service.Goals as goal
 
 pub returns-in-Ok : goal.returns-in-Ok
-returns-in-Ok g c = λ source files. record {
-  how = served (c.serve_door.ensures source files _).0;
+returns-in-Ok g c = record {
+  how = served (c.serve_door.ensures _).0;
   runs = record {
     old = c.in-Ok.desk;
     started = record { right = c.in-Ok.ensures.right; tables = c.in-Ok.ensures.rows; valid = c.in-Ok.ensures.valid; count = c.in-Ok.ensures.count; later = c.in-Ok.ensures.later };
-    serves = (c.serve_door.ensures source files _).1;
+    serves = (c.serve_door.ensures _).1;
   };
 }
 
 pub returns-in-Err : goal.returns-in-Err
-returns-in-Err g c = λ source files. record {
+returns-in-Err g c = record {
   how = unstarted c.in-Err.field-0.why;
   runs = record {
     run = record { cause = c.in-Err.ensures.cause; left = c.in-Err.ensures.left; link = refl; later = c.in-Err.ensures.later_count };
-    told = c.tell_start.ensures;
+    told = c.tell_start-status.ensures;
     untouched = refl;
     door = refl;
   };

@@ -3,7 +3,7 @@ use Rattle.commands.proofs.Told.{served_by, same_end, told_as}
 use Rattle.commands.proofs.serving.serve_door.Goals as goal
 
 pub returns : goal.returns
-returns g c = λ source files kept. (
+returns g c = λ kept. (
   c.serve-how.result.how,
   record {
     new = c.serve-how.result.desk;
@@ -19,7 +19,7 @@ returns g c = λ source files kept. (
         told_as c.end_reply-reply.result _ _ _ _ _ c.end_reply-reply.ensures
         (same_end c.serve-how.result.how _ _ _ _ _ _ _ _ _ _ c.counts.ensures.drafts c.counts.ensures.books c.counts.ensures.orders c.faults-first.ensures
         c.faults.ensures)
-        c.tell_made.ensures;
+        c.tell_made-status.ensures;
     untouched = refl;
   },
 )

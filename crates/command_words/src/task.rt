@@ -1,10 +1,28 @@
-//! What a command line asks of the book that is read.
+//! What the words of a command line can ask for.
 
 use crate::budget::Budget;
-use command_words::FileName;
+use crate::file_name::FileName;
+use crate::rejudging::Rejudging;
+use crate::sample_size::SampleSize;
+use crate::service::Service;
 use pb_base::{CodeList, Day};
 
-/// What a command line asks of the book that is read.
+/// What the words of a command line ask for.
+#[derive(Drop)]
+pub enum Task {
+    /// An answer to the book that is read.
+    Book(BookCommand),
+    /// The order desk over the rows that this store keeps. It answers the messages that are read.
+    Desk { store: FileName },
+    /// The order desk at a port of the machine.
+    Serve(Service),
+    /// The orders that a store keeps, judged again by one of its books.
+    Rejudge(Rejudging),
+    /// The release of a generated book, and what its orders come to.
+    Sample(SampleSize),
+}
+
+/// What is asked of the book that is read.
 #[derive(Drop)]
 pub enum BookCommand {
     /// What the order of these codes on this day comes to.

@@ -1,10 +1,10 @@
 //! The size of a generated book.
-ghost use Rattle.std.specs.Prelude.{◌≡◌};
-ghost use Rattle.book_sample.specs.Law.{MaySample};
+ghost use Rattle.std.specs.Prelude.{◌≡◌, ◌%◌, ◌≤◌};
 
 use std::marker::Model;
 
-/// The start of the draws, how many codes the generated book has, and how many orders are judged.
+/// The start of the draws, how many codes the generated book has, and how many orders are judged. The number of codes is a
+/// multiple of 4 from 8 to 2,000.
 #[derive(Drop)]
 pub struct SampleSize {
     start: u32,
@@ -13,19 +13,20 @@ pub struct SampleSize {
 }
 
 impl Model for SampleSize {
-    ghost use Rattle.book_sample.specs.Law.{MaySample};
-    ghost use Rattle.book_commands.specs.Size.{Size};
+    ghost use Rattle.command_words.specs.Size.{IsSampleCodes, Size};
 
     ghost Value = { Size };
 
     ghost view = { λ s. record { start = s.start; codes = s.codes; orders = s.orders } };
 
-    ghost invariant = { λ s. MaySample s.codes };
+    ghost invariant = { λ s. IsSampleCodes s.codes };
 }
 
 impl SampleSize {
     pub fn of(start: u32, codes: u32, orders: u32) -> SampleSize
-        requires { MaySample codes }
+        requires whole { codes % 4 ≡ 0 }
+        requires least { 8 ≤ codes }
+        requires most { codes ≤ 2000 }
         ensures { result ≡ record { start = start; codes = codes; orders = orders } }
     {
         SampleSize {
@@ -45,7 +46,9 @@ impl SampleSize {
     /// The number of codes.
     pub fn codes(&self) -> u32
         ensures value { result ≡ self.now.codes }
-        ensures lawful { MaySample result }
+        ensures whole { result % 4 ≡ 0 }
+        ensures least { 8 ≤ result }
+        ensures most { result ≤ 2000 }
     {
         self.codes
     }

@@ -1,7 +1,7 @@
 //! The judging of kept orders that words ask for.
 ghost use Rattle.std.specs.Prelude.{◌≡◌, ◌≤◌};
 
-use command_words::FileName;
+use crate::file_name::FileName;
 use std::marker::Model;
 
 /// The orders of a store, judged again: the store, the number of the book, counted from 1, and how many workers judge.
@@ -14,7 +14,7 @@ pub struct Rejudging {
 
 impl Model for Rejudging {
     ghost use Rattle.std.specs.Prelude.{◌≤◌};
-    ghost use Rattle.commands.specs.Rejudging.{Rejudging};
+    ghost use Rattle.command_words.specs.Rejudging.{Rejudging};
 
     ghost Value = { Rejudging };
 

@@ -1,7 +1,7 @@
 //! The service that words ask for.
 ghost use Rattle.std.specs.Prelude.{◌≡◌, ◌≤◌};
 
-use command_words::FileName;
+use crate::file_name::FileName;
 use std::marker::Model;
 
 /// An order desk at a port: its store, the port of the machine, how many workers serve, and after how many links it ends.
@@ -15,7 +15,7 @@ pub struct Service {
 
 impl Model for Service {
     ghost use Rattle.std.specs.Prelude.{◌≤◌};
-    ghost use Rattle.commands.specs.Service.{Service};
+    ghost use Rattle.command_words.specs.Service.{Service};
 
     ghost Value = { Service };
 

@@ -1,0 +1,110 @@
+-- Each command's promise is lawful.
+use Rattle.std.proofs.Common.{◌≡◌, ℕ, true, false, List, refl, arith}
+use Rattle.std.specs.Prelude.{IsOkAnd, IsTrue}
+use Rattle.book_text.specs.BookText.{book_of}
+use Rattle.pb_outside.specs.Files.{FilesTold}
+use Rattle.command_words.specs.declared.task.BookCommand.{BookCommand}
+use Rattle.command_words.specs.declared.task.BookCommand.TheVariants.{Order, Check, Prove, Verify, Supplements, Compare}
+use Rattle.book_commands.specs.Checks.{check_promise, proof_promise}
+use Rattle.book_commands.specs.CompareReply.{compare_promise}
+use Rattle.book_commands.specs.Ends.{IsDecided, IsOrderStatus}
+use Rattle.book_commands.specs.Order.{order_promise}
+use Rattle.book_commands.specs.Promise.{ReadsFiles}
+use Rattle.book_commands.specs.Promises.{promise_of}
+use Rattle.book_commands.specs.Supplements.{supplements_promise}
+use Rattle.book_commands.specs.Verify.{verify_promise}
+use Rattle.book_commands.proofs.Blocked.{check-blocked, proof-blocked}
+use Rattle.book_commands.proofs.Decided.{check_decided, proof_decided}
+use Rattle.book_commands.proofs.Lawful.{IsLawful}
+use Rattle.book_commands.proofs.Releasable.{check-releasable, proof-releasable, verified-releasable}
+use Rattle.book_commands.proofs.Statuses.{same-kind, order-kind, verify-kind, check-kind, proof-kind, supplements-kind, texts-kind}
+use Rattle.book_commands.proofs.Statuses.{order-status, verify-status, check-answered, proof-answered, supplements-answered, compare-answered}
+use Rattle.book_commands.proofs.Valid.{has_book, has_certificate}
+
+-- a command of which a status tells nothing
+not_asked : {P : Type 0} → IsTrue false → P
+not_asked asks = let clash : false ≡ true = asks in cc
+
+unread : (files : FilesTold) → ReadsFiles files files
+unread files = record { same = refl; later = record { never_falls = omega arith; kept = λ h. h } }
+
+order_lawful : (day : ℕ) (ordered : List (List ℕ)) → IsLawful (order_promise day ordered)
+order_lawful day ordered = record {
+  same_files = λ files. refl;
+  file_rose = λ input files files' h. absurd h;
+  no_file_fault = λ input files files' valid sure h. h;
+  statuses = λ input files files' reply h. same-kind IsOrderStatus _ reply h.is_answer (order-kind (book_of input) day ordered);
+  answered = λ input files files' reply v h. same-kind IsDecided _ reply h.is_answer (order-status (book_of input) day ordered v.book v.order);
+  releasable = λ input files files' reply asks h done. not_asked asks;
+  unreleasable = λ input files files' reply asks h refused. not_asked asks;
+  decided = λ input files files' reply ample h left. ample;
+}
+
+check_lawful : (budget : ℕ) → IsLawful (check_promise budget)
+check_lawful budget = record {
+  same_files = λ files. refl;
+  file_rose = λ input files files' h. absurd h;
+  no_file_fault = λ input files files' valid sure h. h;
+  statuses = λ input files files' reply h. check-kind (book_of input) budget reply h.is_answer;
+  answered = λ input files files' reply v h. check-answered (book_of input) budget reply v.no_fault v.limits h.is_answer;
+  releasable = λ input files files' reply asks h done. check-releasable (book_of input) budget reply h.is_answer done;
+  unreleasable = λ input files files' reply asks h refused. check-blocked input (book_of input) budget reply refl h.is_answer refused;
+  decided = λ input files files' reply ample h left. check_decided input (book_of input) budget reply refl ample h.is_answer left;
+}
+
+proof_lawful : (budget : ℕ) → IsLawful (proof_promise budget)
+proof_lawful budget = record {
+  same_files = λ files. refl;
+  file_rose = λ input files files' h. absurd h;
+  no_file_fault = λ input files files' valid sure h. h;
+  statuses = λ input files files' reply h. proof-kind (book_of input) budget reply h.is_answer;
+  answered = λ input files files' reply v h. proof-answered (book_of input) budget reply v.no_fault v.limits h.is_answer;
+  releasable = λ input files files' reply asks h done. proof-releasable input (book_of input) budget reply refl h.is_answer done;
+  unreleasable = λ input files files' reply asks h refused. proof-blocked input (book_of input) budget reply refl h.is_answer refused;
+  decided = λ input files files' reply ample h left. proof_decided input (book_of input) budget reply refl ample h.is_answer left;
+}
+
+verify_lawful : (file : List ℕ) → IsLawful (verify_promise file)
+verify_lawful file = record {
+  same_files = unread;
+  file_rose = λ input files files' h. h.fault.rose;
+  no_file_fault = λ input files files' v sure h. has_certificate (book_of input) files.files file v.book v.certificate (h.fault.possible sure);
+  statuses = λ input files files' reply h. verify-kind (book_of input) file files files' reply h;
+  answered = λ input files files' reply v h. verify-status (book_of input) file files files' reply v.book v.certificate h;
+  releasable = λ input files files' reply asks h done. verified-releasable input file (book_of input) files files' reply refl h done;
+  unreleasable = λ input files files' reply asks h refused. not_asked asks;
+  decided = λ input files files' reply ample h left. ample;
+}
+
+supplements_lawful : (budget : ℕ) → IsLawful (supplements_promise budget)
+supplements_lawful budget = record {
+  same_files = λ files. refl;
+  file_rose = λ input files files' h. absurd h;
+  no_file_fault = λ input files files' valid sure h. h;
+  statuses = λ input files files' reply h. supplements-kind (book_of input) budget reply h.is_answer;
+  answered = λ input files files' reply v h. supplements-answered (book_of input) budget reply v.no_fault v.limits h.is_answer;
+  releasable = λ input files files' reply asks h done. not_asked asks;
+  unreleasable = λ input files files' reply asks h refused. not_asked asks;
+  decided = λ input files files' reply ample h left. ample;
+}
+
+compare_lawful : (day : ℕ) (file : List ℕ) (budget : ℕ) → IsLawful (compare_promise day file budget)
+compare_lawful day file budget = record {
+  same_files = unread;
+  file_rose = λ input files files' h. h.rose;
+  no_file_fault = λ input files files' v sure h. has_book day files.files file v.second (h.possible sure);
+  statuses = λ input files files' reply h. texts-kind input h.content day budget reply h.answer;
+  answered = λ input files files' reply v h. compare-answered input file day budget files files' reply v h;
+  releasable = λ input files files' reply asks h done. not_asked asks;
+  unreleasable = λ input files files' reply asks h refused. not_asked asks;
+  decided = λ input files files' reply ample h left. ample;
+}
+
+pub lawful : (command : BookCommand) → IsLawful (promise_of command)
+unfolding promise_of
+lawful (Order day ordered) = order_lawful day ordered
+lawful (Check budget) = check_lawful budget
+lawful (Prove budget) = proof_lawful budget
+lawful (Verify file) = verify_lawful file
+lawful (Supplements budget) = supplements_lawful budget
+lawful (Compare day file budget) = compare_lawful day file budget

@@ -1,0 +1,44 @@
+use Rattle.std.proofs.Common.{refl}
+use Rattle.book_commands.specs.Promises.{promise_of}
+use Rattle.book_commands.proofs.due.command_reply.Goals as goal
+
+pub returns-in_ok-order_reply-in-Order-clause-reply : goal.returns-in_ok-order_reply-in-Order-clause-reply
+unfolding promise_of
+returns-in_ok-order_reply-in-Order-clause-reply g c = rw c.in-Order.is (record { is_answer = c.in_ok-order_reply-in-Order.ensures; untouched = refl })
+
+pub returns-in_ok-check_reply-in-Check-clause-reply : goal.returns-in_ok-check_reply-in-Check-clause-reply
+unfolding promise_of
+returns-in_ok-check_reply-in-Check-clause-reply g c = rw c.in-Check.is (record { is_answer = c.in_ok-check_reply-in-Check.ensures; untouched = refl })
+
+pub returns-in_ok-proof_reply-in-Prove-clause-reply : goal.returns-in_ok-proof_reply-in-Prove-clause-reply
+unfolding promise_of
+returns-in_ok-proof_reply-in-Prove-clause-reply g c = rw c.in-Prove.is (record { is_answer = c.in_ok-proof_reply-in-Prove.ensures; untouched = refl })
+
+pub returns-in-Verify-clause-reply : goal.returns-in-Verify-clause-reply
+unfolding promise_of
+returns-in-Verify-clause-reply g c = rw c.in-Verify.is c.verify_reply.ensures.reply
+
+pub returns-in-Verify-clause-cause : goal.returns-in-Verify-clause-cause
+unfolding promise_of
+returns-in-Verify-clause-cause g c = rw c.in-Verify.is c.verify_reply.ensures.cause
+
+pub returns-in-Verify-clause-kept : goal.returns-in-Verify-clause-kept
+unfolding promise_of
+returns-in-Verify-clause-kept g c = rw c.in-Verify.is c.verify_reply.ensures.kept
+
+pub returns-in_ok-supplements_reply-in-Supplements-clause-reply : goal.returns-in_ok-supplements_reply-in-Supplements-clause-reply
+unfolding promise_of
+returns-in_ok-supplements_reply-in-Supplements-clause-reply g c =
+    rw c.in-Supplements.is (record { is_answer = c.in_ok-supplements_reply-in-Supplements.ensures; untouched = refl })
+
+pub returns-in-Compare-clause-reply : goal.returns-in-Compare-clause-reply
+unfolding promise_of
+returns-in-Compare-clause-reply g c = rw c.in-Compare.is c.compare_reply.ensures.reply
+
+pub returns-in-Compare-clause-cause : goal.returns-in-Compare-clause-cause
+unfolding promise_of
+returns-in-Compare-clause-cause g c = rw c.in-Compare.is c.compare_reply.ensures.cause
+
+pub returns-in-Compare-clause-kept : goal.returns-in-Compare-clause-kept
+unfolding promise_of
+returns-in-Compare-clause-kept g c = rw c.in-Compare.is c.compare_reply.ensures.kept

@@ -1,0 +1,17 @@
+-- The promise of each command that reads a book.
+use Rattle.command_words.specs.declared.task.BookCommand.{BookCommand}
+use Rattle.command_words.specs.declared.task.BookCommand.TheVariants.{Order, Check, Prove, Verify, Supplements, Compare}
+use Rattle.book_commands.specs.Checks.{check_promise, proof_promise}
+use Rattle.book_commands.specs.CompareReply.{compare_promise}
+use Rattle.book_commands.specs.Order.{order_promise}
+use Rattle.book_commands.specs.Promise.{Promise}
+use Rattle.book_commands.specs.Supplements.{supplements_promise}
+use Rattle.book_commands.specs.Verify.{verify_promise}
+
+unfoldable pub promise_of : BookCommand → Promise
+promise_of (Order day ordered) = order_promise day ordered
+promise_of (Check budget) = check_promise budget
+promise_of (Prove budget) = proof_promise budget
+promise_of (Verify file) = verify_promise file
+promise_of (Supplements budget) = supplements_promise budget
+promise_of (Compare day file budget) = compare_promise day file budget
