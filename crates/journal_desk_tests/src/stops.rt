@@ -1,7 +1,8 @@
 //! A desk whose journal is on a disk in memory that fails or stops.
 
 use answering::{Alone, NoGate};
-use journal_keeper::{JournalKeeper, MemoryDisk};
+use disk::MemoryDisk;
+use journal_keeper::JournalKeeper;
 use order_desk::{Desk, DeskCounts, NotStarted};
 use pb_outside::{MemoryLink, MemorySink, MemorySource};
 use session::session;

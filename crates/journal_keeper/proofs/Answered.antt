@@ -10,10 +10,10 @@ use Rattle.keeper.specs.Causes.{HasCause}
 use Rattle.keeper.specs.Rows.{Kept, bare, migrated, IsInOrder}
 use Rattle.journal_keeper.specs.declared.stage.Stage.{Stage}
 use Rattle.journal_keeper.specs.declared.stage.Stage.TheVariants.{Shut, Late, Open}
-use Rattle.journal_keeper.specs.Disk.{WhereTold, CountsFaults}
+use Rattle.disk.specs.Disk.{WhereTold, CountsFaults}
 use Rattle.journal_keeper.specs.Record.{Entry, effect, payload_of, record_of}
 use Rattle.journal_keeper.specs.Journal.{kept_in, is_empty_store, journal_in, rows_of, after}
-use Rattle.journal_keeper.specs.Stage.{seen_by, settled, is_refused, StillStands, StandsOrGrew, IsBegun}
+use Rattle.journal_keeper.specs.Stage.{seen_by, settled, is_open, is_refused, StillStands, StandsOrGrew, IsBegun}
 use Rattle.journal_keeper.specs.Sound.{IsSound}
 use Rattle.journal_keeper.specs.Counts.{count_of}
 use Rattle.journal_keeper.proofs.Fronts.{after_form, kept_closed}
@@ -233,3 +233,7 @@ ok_is_no_error x e is = cc
 
 pub no_fault : {T : Type 0} (x : T) (faults : ℕ) → CountsFaults (Ok x) faults faults
 no_fault x faults = record { stays = refl; cause = λ failed. absurd (ok_is_no_error x Failed failed); later = omega arith }
+
+-- where a journal is open, nothing follows from its being shut
+pub open_never : {X : Type 0} (stage : Stage) (gate : ℕ) (in_doubt : Bool) → stage ≡ Open gate in_doubt → is_open stage ≡ false → X
+open_never stage gate in_doubt is shut = cc

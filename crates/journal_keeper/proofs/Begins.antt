@@ -4,7 +4,7 @@ use Rattle.std.specs.Option.{option_map}
 use Rattle.keeper.specs.Rows.{Kept, bare, begun}
 use Rattle.journal_keeper.specs.declared.stage.Stage.{Stage}
 use Rattle.journal_keeper.specs.declared.stage.Stage.TheVariants.{Shut, Late, Open}
-use Rattle.journal_keeper.specs.Disk.{WhereTold, Only}
+use Rattle.disk.specs.Disk.{WhereTold, Only}
 use Rattle.journal_keeper.specs.Journal.{is_empty_store, journal_in, kept_in, after}
 use Rattle.journal_keeper.specs.Stage.{seen_by, counts_empty, IsBlank, IsBegun, IsFound}
 use Rattle.journal_keeper.specs.Sound.{IsClosed, IsOpen, IsSound, IsStageOf}

@@ -4,7 +4,7 @@ use Rattle.std.proofs.lemmas.Bool.{cases_lt, cases_eq, lt-ltb, le-ltb, eq-eqb, n
 use Rattle.keeper.specs.Rows.{bare}
 use Rattle.journal_keeper.specs.declared.stage.Stage.{Stage}
 use Rattle.journal_keeper.specs.declared.stage.Stage.TheVariants.{Shut, Late, Open}
-use Rattle.journal_keeper.specs.Disk.{Torn, IsCutOrNot, WhereTold, Becomes, AfterStep, Only}
+use Rattle.disk.specs.Disk.{Torn, IsCutOrNot, WhereTold, Becomes, AfterStep, Only}
 use Rattle.journal_keeper.specs.Journal.{header, unopened, is_empty_store}
 use Rattle.journal_keeper.specs.Stage.{seen_by, counts_empty, IsBlank, KeepsBlank}
 use Rattle.journal_keeper.specs.Sound.{IsOpen, IsSound}

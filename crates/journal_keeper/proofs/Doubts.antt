@@ -4,7 +4,7 @@ use Rattle.pb_outside.specs.declared.error.OutError.{OutError}
 use Rattle.pb_outside.specs.declared.error.OutError.TheVariants.{Failed, Memory}
 use Rattle.journal_keeper.specs.declared.stage.Stage.{Stage}
 use Rattle.journal_keeper.specs.declared.stage.Stage.TheVariants.{Shut, Late, Open}
-use Rattle.journal_keeper.specs.Disk.{WhereTold, Becomes}
+use Rattle.disk.specs.Disk.{WhereTold, Becomes}
 use Rattle.journal_keeper.specs.Record.{Entry, ◌>>=◌}
 use Rattle.journal_keeper.specs.Stage.{doubted, is_open, settled, counts_empty, DoubtsOnly}
 use Rattle.journal_keeper.specs.Sound.{IsStageOf}

@@ -2,7 +2,7 @@
 use Rattle.std.proofs.Common.{◌≡◌, inl, inr, ℕ, ◌+◌, ◌≤◌, Bool, true, false, List, [], ◌∷◌, ◌++◌, length, drop, Some, sym, ap, subst, ◌∙◌, append_assoc, arith, length-append}
 use Rattle.keeper.specs.Rows.{bare}
 use Rattle.journal_keeper.specs.declared.stage.Stage.TheVariants.{Open}
-use Rattle.journal_keeper.specs.Disk.{overwritten, Torn, AfterStep, Follows, Only}
+use Rattle.disk.specs.Disk.{overwritten, Torn, AfterStep, Follows, Only}
 use Rattle.journal_keeper.specs.Record.{Entry, effect}
 use Rattle.journal_keeper.specs.Journal.{after, IsRecord}
 use Rattle.journal_keeper.specs.Stage.{seen_by, doubted_by, StillStands, StandsOrGrew}

@@ -1,5 +1,3 @@
-mod Moments
-mod Torn
 mod Records
 mod Fronts
 mod Stages
@@ -13,6 +11,3 @@ mod Written
 mod Sets
 mod Doubts
 mod Answered
-mod Tapes
-mod Replays
-mod Disks

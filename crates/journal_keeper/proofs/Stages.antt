@@ -5,7 +5,7 @@ use Rattle.std.proofs.lemmas.List.{take_at, drop_at}
 use Rattle.keeper.specs.Rows.{bare}
 use Rattle.journal_keeper.specs.declared.stage.Stage.{Stage}
 use Rattle.journal_keeper.specs.declared.stage.Stage.TheVariants.{Shut, Late, Open}
-use Rattle.journal_keeper.specs.Disk.{WhereTold}
+use Rattle.disk.specs.Disk.{WhereTold}
 use Rattle.journal_keeper.specs.Record.{Entry, effect, record_in}
 use Rattle.journal_keeper.specs.Journal.{kept_in, after, IsRecord}
 use Rattle.journal_keeper.specs.Stage.{seen_by, doubted_by, StillStands}

@@ -2,7 +2,7 @@
 use Rattle.std.proofs.Common.{◌≡◌, ℕ, List, Option, Some, None, Result, Ok, Err, refl, ap, subst, ◌∙◌}
 use Rattle.std.specs.Option.{option_map}
 use Rattle.std.specs.Result.{OnErr}
-use Rattle.journal_keeper.specs.Disk.{Becomes}
+use Rattle.disk.specs.Disk.{Becomes}
 
 -- a told content was told before, and comes by the step
 pub came_from : (step : List ℕ → List ℕ → Type 0) (content content' : Option (List ℕ)) (file' : List ℕ) → Becomes step content content' → content' ≡ Some file'

@@ -1,7 +1,7 @@
 -- What a write to a gate, or behind it, makes of a file.
 use Rattle.std.proofs.Common.{◌≡◌, ℕ, ◌+◌, List, [], ◌∷◌, ◌++◌, length, take, drop, get_or, sym, ap, ◌∙◌, append_assoc, arith, length-append}
 use Rattle.std.proofs.lemmas.List.{take_at, drop_at, drop_more, drop-drop, take-append-drop}
-use Rattle.journal_keeper.specs.Disk.{overwritten, Torn}
+use Rattle.disk.specs.Disk.{overwritten, Torn}
 
 module _ (front : List ℕ) (gate : ℕ) (rest file : List ℕ) (at : ℕ) (place : at ≡ length front) (file_is : file ≡ front ++ gate ∷ rest) where
   split : file ≡ (front ++ gate ∷ []) ++ rest

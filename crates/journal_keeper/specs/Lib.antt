@@ -1,4 +1,3 @@
-pub mod Disk
 pub mod Record
 pub mod Journal
 pub mod Reading
@@ -7,6 +6,3 @@ pub mod Sound
 pub mod Counts
 pub mod Tables
 pub mod Keeping
-pub mod Tape
-pub mod Calls
-pub mod MemoryDisk

@@ -3,7 +3,7 @@ use Rattle.std.specs.Prelude.{◌≡◌, ◌≢◌, ℕ, Bool, true, false, List
 use Rattle.std.specs.Option.{option_map}
 use Rattle.journal_keeper.specs.declared.stage.Stage.{Stage}
 use Rattle.journal_keeper.specs.declared.stage.Stage.TheVariants.{Shut, Late, Open}
-use Rattle.journal_keeper.specs.Disk.{WhereTold}
+use Rattle.disk.specs.Disk.{WhereTold}
 use Rattle.journal_keeper.specs.Record.{Entry}
 use Rattle.journal_keeper.specs.Journal.{header, entries_from, journal_in, IsRecord}
 use Rattle.journal_keeper.specs.Stage.{IsBlank}

@@ -2,14 +2,14 @@
 ghost use Rattle.std.specs.Prelude.{◌≡◌, ◌≢◌, true, false, List, ℕ, None, IfOk, OnOk, OnErr};
 ghost use Rattle.std.specs.Option.{option_map};
 ghost use Rattle.keeper.specs.Rows.{bare, begun};
-ghost use Rattle.journal_keeper.specs.Disk.{WhereTold, Becomes, Only, LeavesOnly, CountsFaults};
+ghost use Rattle.disk.specs.Disk.{WhereTold, Becomes, Only, LeavesOnly, CountsFaults};
 ghost use Rattle.journal_keeper.specs.Journal.{unopened};
 ghost use Rattle.journal_keeper.specs.Stage.{seen_by, doubted, counts_empty, IsBlank, KeepsBlank, IsBegun, IsFound};
 ghost use Rattle.journal_keeper.specs.Sound.{IsSound};
 
+use crate::Stage;
 use crate::reading::{counts_as_empty, stage_of};
-use crate::through::{cut_through, write_through};
-use crate::{Disk, Stage};
+use disk::{Disk, cut_through, write_through};
 use pb_outside::OutError;
 use std::alloc::Global;
 

@@ -1,13 +1,13 @@
 //! What a keeper does to its file.
 ghost use Rattle.std.specs.Prelude.{◌≡◌, ◌≢◌, ◌+◌, ◌≤◌, List, ℕ, None, true, false, length, OnOk, OnErr};
 ghost use Rattle.std.specs.Option.{option_map};
-ghost use Rattle.journal_keeper.specs.Disk.{WhereTold, LeavesOnly, CountsFaults};
+ghost use Rattle.disk.specs.Disk.{WhereTold, LeavesOnly, CountsFaults};
 ghost use Rattle.journal_keeper.specs.Record.{Entry, effect};
 ghost use Rattle.journal_keeper.specs.Stage.{seen_by, settled, doubted, is_open, DoubtsOnly, StillStands, StandsOrGrew};
 ghost use Rattle.journal_keeper.specs.Sound.{IsSound, IsMade};
 
-use crate::through::write_through;
-use crate::{Disk, Stage};
+use crate::Stage;
+use disk::{Disk, write_through};
 use pb_outside::OutError;
 
 /// Closes a gate that is in doubt.
@@ -22,6 +22,8 @@ pub(crate) fn settle<D: Disk>(disk: &mut D, stage: &mut Stage) -> Result<(), Out
         ≡ doubted stage.old (D.content disk.old)) }
     ensures any_moment { WhereTold (D.content disk.old) (λ file.
         LeavesOnly D.moment D.left_since disk.old disk.new (StillStands stage.old file)) }
+    ensures untouched { is_open stage.old ≡ false → disk.new ≡ disk.old }
+    ensures stays_open { is_open stage.new ≡ is_open stage.old }
     ensures no_memory { result ≢ Err OutError.Memory }
     ensures count { CountsFaults result (D.failures disk.old) (D.failures disk.new) }
 {

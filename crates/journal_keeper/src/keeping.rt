@@ -1,24 +1,25 @@
 //! A keeper over a journal.
-ghost use Rattle.std.specs.Prelude.{◌≡◌, ◌⊎◌, List, ℕ, None, IfOk, IfSome, OnOk, OnErr, ⊤};
+ghost use Rattle.std.specs.Prelude.{◌≡◌, ◌⊎◌, List, ℕ, false, None, IfOk, IfSome, OnOk, OnErr};
 ghost use Rattle.std.specs.Option.{option_map};
 ghost use Rattle.keeper.specs.Causes.{HasCause};
 ghost use Rattle.keeper.specs.Rows.{kept_of, with_draft, with_book, with_order, with_withdrawn, begun, migrated, IsInOrder};
-ghost use Rattle.journal_keeper.specs.Disk.{WhereTold, LeavesOnly};
+ghost use Rattle.disk.specs.Disk.{WhereTold, LeavesOnly};
 ghost use Rattle.journal_keeper.specs.Record.{Draft, Book, Order, Withdrawn};
 ghost use Rattle.journal_keeper.specs.Stage.{seen_by, doubted, is_open, is_refused, DoubtsOnly, IsBegun, IsFound, StillStands, StandsOrGrew};
 ghost use Rattle.journal_keeper.specs.Counts.{count_of, Refuses};
 
+use crate::Stage;
 use crate::beginning::begin;
 use crate::loading::load;
 use crate::putting::put;
-use crate::{Disk, Stage};
+use disk::Disk;
 use keeper::{BookRow, DraftRow, Keeper, OrderRow, Rows};
 use pb_outside::{FaultCount, OutError};
 use std::alloc::Global;
 use std::marker::Model;
 
 /// Rows in a journal on a disk. A stop at any moment leaves the rows that were put so far, each put that was answered
-/// with Ok among them. It has no use for the name that `begin` is given.
+/// with Ok among them. The name that `begin` is given is one of the disk.
 #[derive(Drop)]
 pub struct JournalKeeper<D: Disk> {
     alloc: Global,
@@ -73,7 +74,7 @@ impl<D: Disk> Keeper for JournalKeeper<D> {
 
     ghost failures = { λ k. count_of (D.failures k.disk) k.refusals };
 
-    ghost may_begin = { λ _ _. ⊤ };
+    ghost may_begin = { λ k name. D.named k.disk name };
 
     fn begin(&mut self, _: &str) -> Result<(), OutError>
         ensures done { OnOk result (option_map (seen_by self.new.stage) (D.content self.new.disk)
@@ -82,6 +83,7 @@ impl<D: Disk> Keeper for JournalKeeper<D> {
             ≡ option_map (seen_by self.old.stage) (D.content self.old.disk)) }
         ensures count { HasCause result (count_of (D.failures self.old.disk) self.old.refusals)
             (count_of (D.failures self.new.disk) self.new.refusals) }
+        ensures refusals { self.new.refusals ≡ self.old.refusals }
 
         // What it found, and what each stop leaves in the call and until the next one.
         ensures found { OnOk result (WhereTold (D.content self.new.disk) (IsFound self.new.stage)) }
@@ -103,6 +105,7 @@ impl<D: Disk> Keeper for JournalKeeper<D> {
             ≡ option_map (seen_by self.old.stage) (D.content self.old.disk) }
         ensures count { HasCause result (count_of (D.failures self.old.disk) self.old.refusals)
             (count_of (D.failures self.new.disk) self.new.refusals) }
+        ensures refusals { self.new.refusals ≡ self.old.refusals }
         ensures any_moment { WhereTold (D.content self.old.disk) (λ file. LeavesOnly D.moment D.left_since
             self.old.disk self.new.disk (StillStands self.old.stage file)) }
         ensures stands { WhereTold (D.content self.new.disk) (λ file. (image : List ℕ)
@@ -132,6 +135,7 @@ impl<D: Disk> Keeper for JournalKeeper<D> {
         ensures doubt { DoubtsOnly result (Draft row.now) (doubted self.old.stage (D.content self.old.disk))
             (doubted self.new.stage (D.content self.new.disk)) }
         ensures stays_open { is_open self.new.stage ≡ is_open self.old.stage }
+        ensures untouched { is_open self.old.stage ≡ false → self.new.disk ≡ self.old.disk }
         ensures refuses { Refuses result (is_refused self.old.stage (Draft row.now))
             (D.failures self.old.disk)
             (D.failures self.new.disk) self.old.refusals self.new.refusals }
@@ -162,6 +166,7 @@ impl<D: Disk> Keeper for JournalKeeper<D> {
         ensures doubt { DoubtsOnly result (Book row.now) (doubted self.old.stage (D.content self.old.disk))
             (doubted self.new.stage (D.content self.new.disk)) }
         ensures stays_open { is_open self.new.stage ≡ is_open self.old.stage }
+        ensures untouched { is_open self.old.stage ≡ false → self.new.disk ≡ self.old.disk }
         ensures refuses { Refuses result (is_refused self.old.stage (Book row.now)) (D.failures self.old.disk)
             (D.failures self.new.disk) self.old.refusals self.new.refusals }
     {
@@ -191,6 +196,7 @@ impl<D: Disk> Keeper for JournalKeeper<D> {
         ensures doubt { DoubtsOnly result (Order row.now) (doubted self.old.stage (D.content self.old.disk))
             (doubted self.new.stage (D.content self.new.disk)) }
         ensures stays_open { is_open self.new.stage ≡ is_open self.old.stage }
+        ensures untouched { is_open self.old.stage ≡ false → self.new.disk ≡ self.old.disk }
         ensures refuses { Refuses result (is_refused self.old.stage (Order row.now))
             (D.failures self.old.disk)
             (D.failures self.new.disk) self.old.refusals self.new.refusals }
@@ -221,6 +227,7 @@ impl<D: Disk> Keeper for JournalKeeper<D> {
         ensures doubt { DoubtsOnly result (Withdrawn number) (doubted self.old.stage (D.content self.old.disk))
             (doubted self.new.stage (D.content self.new.disk)) }
         ensures stays_open { is_open self.new.stage ≡ is_open self.old.stage }
+        ensures untouched { is_open self.old.stage ≡ false → self.new.disk ≡ self.old.disk }
         ensures refuses { Refuses result (is_refused self.old.stage (Withdrawn number))
             (D.failures self.old.disk)
             (D.failures self.new.disk) self.old.refusals self.new.refusals }

@@ -2,16 +2,17 @@
 ghost use Rattle.std.specs.Prelude.{◌≡◌, ◌⊎◌, List, ℕ, None, IfOk, IfSome};
 ghost use Rattle.std.specs.Option.{option_map};
 ghost use Rattle.keeper.specs.Rows.{kept_of, bare};
-ghost use Rattle.journal_keeper.specs.Disk.{WhereTold, LeavesOnly, CountsFaults};
+ghost use Rattle.disk.specs.Disk.{WhereTold, LeavesOnly, CountsFaults};
 ghost use Rattle.journal_keeper.specs.Journal.{entries_from, rows_of, kept_in};
 ghost use Rattle.journal_keeper.specs.Stage.{seen_by, doubted, is_open, StillStands};
 ghost use Rattle.journal_keeper.specs.Sound.{IsSound};
 ghost use Rattle.journal_keeper.specs.Tables.{kept_where_found};
 
+use crate::Stage;
 use crate::journal::settle;
 use crate::reading::{body_of, is_empty_store, record_at};
 use crate::tables::Tables;
-use crate::{Disk, Stage};
+use disk::Disk;
 use keeper::Rows;
 use pb_base::Memory;
 use pb_outside::OutError;

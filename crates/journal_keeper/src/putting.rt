@@ -3,15 +3,16 @@ ghost use Rattle.std.specs.Prelude.{◌≡◌, ◌+◌, ◌≤◌, not, nat_lt, 
 ghost use Rattle.pb_outside.specs.Faults.{Rose, raised};
 ghost use Rattle.std.specs.Option.{option_map};
 ghost use Rattle.keeper.specs.Causes.{HasCause};
-ghost use Rattle.journal_keeper.specs.Disk.{WhereTold, LeavesOnly};
+ghost use Rattle.disk.specs.Disk.{WhereTold, LeavesOnly};
 ghost use Rattle.journal_keeper.specs.Record.{effect};
 ghost use Rattle.journal_keeper.specs.Stage.{seen_by, doubted, is_open, is_refused, DoubtsOnly, StandsOrGrew};
 ghost use Rattle.journal_keeper.specs.Sound.{IsSound};
 ghost use Rattle.journal_keeper.specs.Counts.{count_of, Refuses};
 
+use crate::Stage;
 use crate::journal::{append, settle};
 use crate::recorded::{Recorded, line_of};
-use crate::{Disk, Stage};
+use disk::Disk;
 use pb_outside::{FaultCount, OutError};
 use std::alloc::Global;
 
@@ -88,6 +89,7 @@ pub(crate) fn put<D: Disk, R: Recorded>(
     ensures doubt { DoubtsOnly result (R.entry row.now) (doubted stage.old (D.content disk.old))
         (doubted stage.new (D.content disk.new)) }
     ensures stays_open { is_open stage.new ≡ is_open stage.old }
+    ensures untouched { is_open stage.old ≡ false → disk.new ≡ disk.old }
     ensures refuses { Refuses result (is_refused stage.old (R.entry row.now))
         (D.failures disk.old) (D.failures disk.new) refusals.old refusals.new }
     ensures count { HasCause result (count_of (D.failures disk.old) refusals.old)

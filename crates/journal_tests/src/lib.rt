@@ -1,6 +1,8 @@
-//! Tests of the journal: what its bytes are, and what is there after a stop at each call.
+//! Tests of the journal: what its bytes are, what is there after a stop at each call, and which calls a file is asked.
 #![tactic(auto)]
 
+#[cfg(test)]
+mod calls;
 #[cfg(test)]
 mod files;
 #[cfg(test)]

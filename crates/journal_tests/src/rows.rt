@@ -1,6 +1,7 @@
 //! Rows for the tests, and a text that shows those that are loaded.
 
-use journal_keeper::{JournalKeeper, MemoryDisk};
+use disk::MemoryDisk;
+use journal_keeper::JournalKeeper;
 use keeper::{BookRow, DraftRow, Keeper, OrderRow, Rows};
 use pb_base::{Body, Text};
 use pb_outside::OutError;

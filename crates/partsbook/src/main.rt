@@ -10,9 +10,9 @@ ghost use Rattle.command_words.specs.Prepared.{texts_of};
 ghost use Rattle.commands.specs.Words.{NamesStore};
 
 use crate::store::{FileStore, Store};
+use answering::NoGate;
 use commands::{Channels, RunEnd, RunLog, RunStatus, World, run_given};
 use keeper::Keeper;
-use answering::NoGate;
 use pb_outside::{StreamSink, StreamSource, SystemFiles};
 use std::alloc::Global;
 use std::net::{Net, TcpListener, TcpStream};
@@ -26,7 +26,7 @@ use tcp_door::TcpDoor;
 fn main(rt: HostRuntime) -> ExitCode {
     let words = given_words(&rt);
     let (status, store) = run_with(&rt, rt.alloc(), words, Store::Unopened(rt));
-    closed(status, store)
+    closed(rt, status, store)
 }
 
 // The status, as the system takes it.
@@ -43,20 +43,25 @@ fn given_words(rt: &HostRuntime) -> io::Result<Vec<String>> {
     Ok(words.collect(rt.alloc())?)
 }
 
-// The status of a run, whose store is closed.
-fn closed(status: RunStatus, store: FileStore) -> ExitCode {
-    close(store);
+// The status of a run, whose store is closed. What a store that can't be closed has in its log is there for the next run, so
+// the status stays what it is, and standard error says what is left.
+fn closed(rt: HostRuntime, status: RunStatus, store: FileStore) -> ExitCode
+    ensures { exit_status result ≡ status_number status }
+{
+    if !close(store) {
+        let _told = rt.eprintln(
+            "the store's log stays beside it: keep both, the next run takes both",
+        );
+    }
     exit_code(status)
 }
 
-// What a store that can't be closed has in its log is there for the next run, so the status stays what it is.
-fn close(store: FileStore) {
+// Whether the store is in its file alone. A journal always is.
+fn close(store: FileStore) -> bool {
     match store {
-        Store::Sql(keeper) => {
-            let _closed = keeper.close();
-        }
-        Store::Journal(_keeper) => {}
-        Store::Unopened(_rt) => {}
+        Store::Sql(keeper) => keeper.close(),
+        Store::Journal(_keeper) => true,
+        Store::Unopened(_rt) => true,
     }
 }
 

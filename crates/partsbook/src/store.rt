@@ -3,13 +3,14 @@ ghost use Rattle.std.specs.Prelude.{◌≡◌};
 ghost use Rattle.keeper.specs.Causes.{HasCause};
 ghost use Rattle.keeper.specs.Counting.{fallible};
 
-use journal_keeper::{FileDisk, JournalKeeper};
+use disk::{FileDisk, SystemFile};
+use journal_keeper::JournalKeeper;
 use keeper::{BookRow, DraftRow, Keeper, OrderRow, Rows};
 use keeper_sql::FileKeeper;
 use pb_outside::OutError;
 
 /// A store of the system: a journal in a file where its name ends in `.journal`, and a file of SQLite else.
-pub(crate) type FileStore = Store<FileKeeper, JournalKeeper<FileDisk>>;
+pub(crate) type FileStore = Store<FileKeeper, JournalKeeper<FileDisk<SystemFile>>>;
 
 /// The keeper of a store. It is the keeper that it holds, so a run is made once for both kinds. It holds none before it begins,
 /// and nothing but `begin` is called on it then: any other call is answered want of memory. It tells no rows.
@@ -20,16 +21,16 @@ pub(crate) enum Store<S, J> {
     Journal(J),
 }
 
-impl Keeper for Store<FileKeeper, JournalKeeper<FileDisk>> {
+impl Keeper for Store<FileKeeper, JournalKeeper<FileDisk<SystemFile>>> {
     ghost use Rattle.keeper.specs.Counting.{fallible};
     ghost use Rattle.partsbook.specs.Store.{may_begin_kind, of_kind};
     ghost use Rattle.std.specs.Prelude.{None};
 
     ghost told = { λ _. None };
 
-    ghost failures = { of_kind (fallible 0) ⟦<FileKeeper as Keeper>⟧.failures ⟦<JournalKeeper<FileDisk> as Keeper>⟧.failures };
+    ghost failures = { of_kind (fallible 0) ⟦<FileKeeper as Keeper>⟧.failures ⟦<JournalKeeper<FileDisk<SystemFile>> as Keeper>⟧.failures };
 
-    ghost may_begin = { may_begin_kind ⟦<FileKeeper as Keeper>⟧.may_begin ⟦<JournalKeeper<FileDisk> as Keeper>⟧.may_begin };
+    ghost may_begin = { may_begin_kind ⟦<FileKeeper as Keeper>⟧.may_begin ⟦<JournalKeeper<FileDisk<SystemFile>> as Keeper>⟧.may_begin };
 
     fn begin(&mut self, name: &str) -> Result<(), OutError> {
         let rt = match self {
@@ -107,7 +108,7 @@ fn begin_journal(store: &mut FileStore, rt: HostRuntime, name: &str) -> Result<(
     ensures { HasCause result (⟦<FileStore as Keeper>⟧.failures store.old) (⟦<FileStore as Keeper>⟧.failures store.new) }
 {
     let path = String::from_str(rt.alloc(), name)?;
-    let mut keeper = JournalKeeper::new(rt.alloc(), FileDisk::new(rt, path));
+    let mut keeper = JournalKeeper::new(rt.alloc(), FileDisk::new(SystemFile::new(rt, path)));
     let begun = keeper.begin(name);
     *store = Store::Journal(keeper);
     begun

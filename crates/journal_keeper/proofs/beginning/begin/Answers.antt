@@ -3,7 +3,7 @@ use Rattle.std.specs.Option.{option_map}
 use Rattle.std.proofs.lemmas.Result.{on_ok_weaker, on_err_weaker}
 use Rattle.keeper.specs.Rows.{begun}
 use Rattle.journal_keeper.specs.Stage.{seen_by, doubted, IsBegun}
-use Rattle.journal_keeper.proofs.Moments.{and_then, widened}
+use Rattle.disk.proofs.Moments.{and_then, widened}
 use Rattle.journal_keeper.proofs.Told.{at_err}
 use Rattle.journal_keeper.proofs.Begins.{begun_left}
 use Rattle.journal_keeper.proofs.Answered.{sound_stays, begun_wider}

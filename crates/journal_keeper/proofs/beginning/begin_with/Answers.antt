@@ -4,10 +4,10 @@ use Rattle.std.proofs.lemmas.Result.{on_ok_weaker, on_err_weaker}
 use Rattle.pb_outside.specs.declared.error.OutError.TheVariants.{Memory}
 use Rattle.keeper.specs.Rows.{begun}
 use Rattle.journal_keeper.specs.declared.stage.Stage.TheVariants.{Shut}
-use Rattle.journal_keeper.specs.Disk.{WhereTold}
+use Rattle.disk.specs.Disk.{WhereTold}
 use Rattle.journal_keeper.specs.Journal.{is_empty_store}
 use Rattle.journal_keeper.specs.Stage.{seen_by, doubted, counts_empty, IsBlank, IsBegun, IsFound}
-use Rattle.journal_keeper.proofs.Moments.{started, widened}
+use Rattle.disk.proofs.Moments.{started, widened}
 use Rattle.journal_keeper.proofs.Blanks.{counted_blank}
 use Rattle.journal_keeper.proofs.Begins.{told_empty, begun_empty, begun_blank, begun_left, begun_open, found_open_before, found_sound, found_told, found_found}
 use Rattle.journal_keeper.proofs.Doubts.{empty_undoubted_now, found_undoubted}

@@ -1,8 +1,8 @@
 use Rattle.std.proofs.Common.{◌≡◌, ℕ, List, [], ◌∷◌, length, take, Some, inl, ap, subst, ◌∙◌, arith}
 use Rattle.std.specs.Option.{option_map}
-use Rattle.journal_keeper.specs.Disk.{overwritten, Torn, IsCutOrNot, AfterStep}
+use Rattle.disk.specs.Disk.{overwritten, Torn, IsCutOrNot, AfterStep}
 use Rattle.journal_keeper.specs.Stage.{IsBlank, KeepsBlank}
-use Rattle.journal_keeper.proofs.Moments.{and_then, widened}
+use Rattle.disk.proofs.Moments.{and_then, widened}
 use Rattle.journal_keeper.proofs.Told.{came_from, mapped, map_map, Both, both, at_err}
 use Rattle.journal_keeper.proofs.Blanks.{step_from, becomes_weaker, keeps_empty, cut_blank, first_empty, others_empty}
 use Rattle.journal_keeper.proofs.beginning.clear.Goals as goal

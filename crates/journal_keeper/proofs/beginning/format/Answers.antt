@@ -3,10 +3,10 @@ use Rattle.std.specs.Option.{option_map}
 use Rattle.keeper.specs.Rows.{bare}
 use Rattle.journal_keeper.specs.declared.stage.Stage.TheVariants.{Late, Open}
 use Rattle.std.proofs.Common.{false}
-use Rattle.journal_keeper.specs.Disk.{overwritten, Torn, AfterStep}
+use Rattle.disk.specs.Disk.{overwritten, Torn, AfterStep}
 use Rattle.journal_keeper.specs.Journal.{header, unopened}
 use Rattle.journal_keeper.specs.Stage.{seen_by, IsBlank, KeepsBlank}
-use Rattle.journal_keeper.proofs.Moments.{and_then}
+use Rattle.disk.proofs.Moments.{and_then}
 use Rattle.journal_keeper.proofs.Told.{came_from, mapped, told_by, map_map, Both, both, at_err}
 use Rattle.journal_keeper.proofs.Blanks.{step_from, last_blank, new_open, counted_seen, counted_still, counted_sound}
 use Rattle.journal_keeper.proofs.Doubts.{empty_undoubted}

@@ -2,11 +2,11 @@ use Rattle.std.proofs.Common.{◌≡◌, ℕ, ◌+◌, true, false, List, [], �
 use Rattle.std.specs.Option.{option_map}
 use Rattle.std.proofs.lemmas.Result.{err_from_is_err_and}
 use Rattle.journal_keeper.specs.declared.stage.Stage.TheVariants.{Open}
-use Rattle.journal_keeper.specs.Disk.{overwritten, Torn, WhereTold, AfterStep}
+use Rattle.disk.specs.Disk.{overwritten, Torn, WhereTold, AfterStep}
 use Rattle.journal_keeper.specs.Record.{effect, ◌>>=◌}
 use Rattle.journal_keeper.specs.Stage.{seen_by, doubted, doubted_by, is_open, StandsOrGrew}
 use Rattle.journal_keeper.specs.Sound.{IsSound}
-use Rattle.journal_keeper.proofs.Moments.{and_then, widened}
+use Rattle.disk.proofs.Moments.{and_then, widened}
 use Rattle.journal_keeper.proofs.Told.{came_from, mapped, told_by, map_map, Both, both, at_err}
 use Rattle.journal_keeper.proofs.Gates.{gate_within, still_shut, seen_shut, shut_step, staged, staged_within, staged_step, now_doubted, seen_doubted, doubt_own, now_open, seen_grown}
 use Rattle.journal_keeper.proofs.Doubts.{none_or, doubts_none, doubts_failed, failed_again}

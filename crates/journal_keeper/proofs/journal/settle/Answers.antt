@@ -1,14 +1,15 @@
 use Rattle.std.proofs.Common.{◌≡◌, true, false, [], ◌∷◌, sym, ap, subst, ◌∙◌, arith}
 use Rattle.std.specs.Option.{option_map}
 use Rattle.journal_keeper.specs.declared.stage.Stage.TheVariants.{Open}
-use Rattle.journal_keeper.specs.Disk.{overwritten, Torn, AfterStep}
+use Rattle.disk.specs.Disk.{overwritten, Torn, AfterStep}
 use Rattle.journal_keeper.specs.Stage.{seen_by, doubted, doubted_by, StillStands}
 use Rattle.journal_keeper.specs.Sound.{IsSound}
-use Rattle.journal_keeper.proofs.Moments.{started, widened}
+use Rattle.disk.proofs.Moments.{started, widened}
 use Rattle.journal_keeper.proofs.Told.{came_from, mapped, told_by, at_err}
 use Rattle.journal_keeper.proofs.Stages.{sound_stands}
 use Rattle.journal_keeper.proofs.Gates.{gate_within, still_doubted, shut_again, seen_still, seen_again, doubt_still, doubted_step}
 use Rattle.journal_keeper.proofs.Doubts.{bound_by}
+use Rattle.journal_keeper.proofs.Answered.{open_never}
 use Rattle.journal_keeper.proofs.journal.settle.Goals as goal
 
 pub write_through-requires : goal.write_through-requires
@@ -101,3 +102,15 @@ returns-else-in_doubt-clause-any_moment g c = λ file told.
     started g.D.Disk.moment g.D.Disk.left_since c.args.disk.now (StillStands c.args.stage.now file)
     (λ image left. sound_stands c.args.stage.now (g.D.Disk.content c.args.disk.now) (g.D.Disk.may_leave c.args.disk.now) c.requires file told image
     (g.met.D.Disk.only_now c.args.disk.now image left))
+
+-- ---- a gate is there
+
+pub returns-in_err-write_through-clause-untouched : goal.returns-in_err-write_through-clause-untouched
+returns-in_err-write_through-clause-untouched g c =
+    let stage_is : c.args.stage.now ≡ Open c.in-Open.gate true = cc in
+    open_never c.args.stage.now c.in-Open.gate true stage_is
+
+pub returns-in_ok-write_through-clause-untouched : goal.returns-in_ok-write_through-clause-untouched
+returns-in_ok-write_through-clause-untouched g c =
+    let stage_is : c.args.stage.now ≡ Open c.in-Open.gate true = cc in
+    open_never c.args.stage.now c.in-Open.gate true stage_is

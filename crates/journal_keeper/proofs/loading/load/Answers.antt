@@ -5,7 +5,7 @@ use Rattle.std.proofs.lemmas.Result.{IfOk-weaker}
 use Rattle.keeper.specs.Rows.{Kept, kept_of}
 use Rattle.journal_keeper.specs.Stage.{seen_by, settled, doubted, is_open, StillStands}
 use Rattle.journal_keeper.specs.Sound.{IsSound}
-use Rattle.journal_keeper.proofs.Moments.{and_then}
+use Rattle.disk.proofs.Moments.{and_then}
 use Rattle.journal_keeper.proofs.Stages.{sound_stands}
 use Rattle.journal_keeper.proofs.Doubts.{settled_undoubted, settled_open_still}
 use Rattle.journal_keeper.proofs.Answered.{sound_stays, loaded, if_told, told_file, stands_back}

@@ -4,14 +4,14 @@ use Rattle.std.proofs.lemmas.Result.{on_ok_weaker, on_err_weaker, err_from_is_er
 use Rattle.pb_outside.specs.declared.error.OutError.TheVariants.{Failed}
 use Rattle.keeper.specs.Causes.{HasCause}
 use Rattle.journal_keeper.specs.declared.stage.Stage.TheVariants.{Open}
-use Rattle.journal_keeper.specs.Disk.{CountsFaults}
+use Rattle.disk.specs.Disk.{CountsFaults}
 use Rattle.journal_keeper.specs.Record.{effect}
 use Rattle.journal_keeper.specs.Stage.{seen_by, doubted, is_open, is_refused, StillStands, StandsOrGrew}
 use Rattle.journal_keeper.specs.Counts.{count_of, Refuses}
-use Rattle.journal_keeper.proofs.Moments.{and_then, widened}
+use Rattle.disk.proofs.Moments.{and_then, widened}
 use Rattle.journal_keeper.proofs.Told.{at_err}
 use Rattle.journal_keeper.proofs.Doubts.{settled_undoubted, settled_open_still, doubts_none, doubts_failed, doubts_wider, failed_again}
-use Rattle.journal_keeper.proofs.Answered.{counts_disk, counts_refusal, not_ok, refused_shut, refused_settled, settled_open, told_file, stands_settled}
+use Rattle.journal_keeper.proofs.Answered.{open_never, counts_disk, counts_refusal, not_ok, refused_shut, refused_settled, settled_open, told_file, stands_settled}
 use Rattle.journal_keeper.proofs.putting.put.Goals as goal
 
 -- ---- the gate stays in doubt
@@ -61,6 +61,7 @@ returns-in_default g c =
       doubt = doubts_none c.refuse.result entry (doubted c.args.stage.now (g.D.Disk.content c.args.disk.now)) (doubted c.settle.new.stage (g.D.Disk.content c.settle.new.disk))
           (ap (λ s. doubted s (g.D.Disk.content c.settle.new.disk)) c.in_ok-settle.ensures.sure ∙ settled_undoubted c.args.stage.now (g.D.Disk.content c.settle.new.disk));
       stays_open = ap is_open c.in_ok-settle.ensures.sure ∙ settled_open_still c.args.stage.now;
+      untouched = c.settle.ensures.untouched;
       refuses = record {
         cause = λ failed. inr refused;
         made = not_ok _ c.refuse.result Failed c.refuse.ensures.failed;
@@ -105,6 +106,9 @@ pub returns-clause-stays_open : goal.returns-clause-stays_open
 returns-clause-stays_open g c =
     let at = settled_open c.args.stage.now c.settle.new.stage c.in-Open.gate _ c.in_ok-settle.ensures.sure c.in-Open.is in
     c.put_behind.ensures.stays_open ∙ sym (ap is_open at) ∙ ap is_open c.in_ok-settle.ensures.sure ∙ settled_open_still c.args.stage.now
+
+pub returns-clause-untouched : goal.returns-clause-untouched
+returns-clause-untouched g c = λ shut. open_never c.settle.new.stage c.in-Open.gate _ c.in-Open.is (c.settle.ensures.stays_open ∙ shut)
 
 pub returns-clause-refuses : goal.returns-clause-refuses
 returns-clause-refuses g c =

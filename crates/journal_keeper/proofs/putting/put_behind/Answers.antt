@@ -5,7 +5,7 @@ use Rattle.journal_keeper.specs.Record.{record_of}
 use Rattle.journal_keeper.specs.Stage.{is_refused, StandsOrGrew}
 use Rattle.journal_keeper.specs.Sound.{IsMade}
 use Rattle.journal_keeper.specs.Counts.{count_of}
-use Rattle.journal_keeper.proofs.Moments.{started}
+use Rattle.disk.proofs.Moments.{started}
 use Rattle.journal_keeper.proofs.Stages.{sound_stands}
 use Rattle.journal_keeper.proofs.Written.{is_record, length_record}
 use Rattle.journal_keeper.proofs.Answered.{no_room, room_for, counts_disk, counts_refusal, counts_nothing, not_ok, ok_anyway, memory_is_no_failure}

@@ -1,0 +1,5 @@
+pub mod Moments
+pub mod Torn
+mod Tapes
+mod Replays
+mod Disks

@@ -1,0 +1,510 @@
+//! A disk in memory.
+ghost use Rattle.std.specs.Prelude.{◌≡◌, ◌≢◌, ◌≤◌, ◌+◌, ◌⊎◌, ◌↔◌, true, false, List, ℕ, Some, Err, [], ◌∷◌, ◌++◌, length, take, replicate, IfOk, OnOk, OnErr};
+ghost use Rattle.std.specs.Option.{option_map};
+ghost use Rattle.pb_outside.specs.Faults.{Rose};
+ghost use Rattle.disk.specs.Disk.{overwritten, Torn, IsCutOrNot, WhereTold, Becomes, Follows, Only, Elapses, CountsFaults};
+ghost use Rattle.disk.specs.Calls.{dones, total, IsAnswered};
+ghost use Rattle.disk.specs.Tape.{Wrote, TriedWrite, Cut, TriedCut, Synced, content_of, AreWithin, left_now, LeftSince, is_stopped, is_due, has_room};
+
+use crate::Disk;
+use pb_base::Memory;
+use pb_outside::{FaultPlan, OutError};
+use std::alloc::{AllocError, Global};
+use std::marker::Model;
+use std::mem;
+
+// What a call came to.
+#[derive(Clone, Copy)]
+enum Call {
+    Wrote { at: u64, len: u64 },
+    TriedWrite { at: u64, len: u64 },
+    Cut(u64),
+    TriedCut(u64),
+    Synced,
+}
+
+/// A file in memory, with chosen calls that fail, and one in which the disk stops. It tells all. A call that fails
+/// changes no byte of the file, but a stop may then leave it done in part.
+#[derive(Drop)]
+pub struct MemoryDisk {
+    first: Vec<u8>,
+    content: Vec<u8>,
+    // Where the content is put together anew.
+    spare: Vec<u8>,
+    calls: Vec<Call>,
+    // The bytes of all writes that were made, one behind the other.
+    written: Vec<u8>,
+    calls_left: u64,
+    room_left: u64,
+    plan: FaultPlan,
+    stop: Option<u64>,
+}
+
+impl Model for MemoryDisk {
+    ghost use Rattle.disk.specs.Calls.{dones, total, IsAnswered};
+    ghost use Rattle.disk.specs.Tape.{Tape};
+
+    ghost Value = { Tape };
+
+    ghost use Rattle.disk.specs.MemoryDisk.{tape_of, IsKept};
+
+    ghost view = { tape_of };
+
+    ghost invariant = { IsKept };
+}
+
+// How a call goes.
+#[derive(Clone, Copy, PartialEq, Eq)]
+enum Fate {
+    Goes,
+    // It fails, and a stop may leave it done in part.
+    Fails,
+    // Nothing of it is done.
+    Refused,
+}
+
+// Whether the disk stops in the call of this number, or stopped before it.
+fn is_stopped(stop: Option<u64>, number: u64) -> bool
+    ensures { result ≡ is_stopped stop number }
+{
+    match stop {
+        Some(last) => last <= number,
+        None => false,
+    }
+}
+
+// Whether there is room for one call more, and for the bytes that it writes.
+fn has_room(calls_left: u64, room_left: u64, bytes: u64) -> bool
+    ensures { result ≡ has_room calls_left room_left bytes }
+{
+    calls_left > 0 && bytes <= room_left
+}
+
+// Begins the next call. It is recorded where there is room for one more, and it goes only where there is room for all of
+// it.
+fn fate_of(plan: &mut FaultPlan, stop: Option<u64>, is_recorded: bool, has_room: bool) -> Fate
+    ensures due { is_due plan.old stop has_room ≡ true → result ≢ Fate.Goes }
+    ensures not_due { is_due plan.old stop has_room ≡ false → result ≡ Fate.Goes }
+    ensures later { plan.old.faults ≤ plan.new.faults }
+    ensures goes { result ≡ Fate.Goes → plan.new.faults ≡ plan.old.faults }
+    ensures fails { result ≢ Fate.Goes → Rose plan.old.faults plan.new.faults }
+{
+    let number = plan.next_call();
+    let stops = is_stopped(stop, number);
+    let has_stopped = number > 0 && is_stopped(stop, number - 1);
+    if plan.begin_call() {
+        return unmade(is_recorded && !has_stopped);
+    }
+    if stops {
+        plan.count_fault();
+        return unmade(is_recorded && !has_stopped);
+    }
+    if !has_room {
+        plan.count_fault();
+        return Fate::Refused;
+    }
+    Fate::Goes
+}
+
+// A call that doesn't go.
+fn unmade(is_recorded: bool) -> Fate
+    ensures { result ≢ Fate.Goes }
+{
+    if is_recorded {
+        Fate::Fails
+    } else {
+        Fate::Refused
+    }
+}
+
+// Puts together in `spare` what a write makes of a file.
+#[tactic(auto, using(std::proofs::lemmas::List::drop_all))]
+fn overwrite(spare: &mut Vec<u8>, file: &[u8], at: usize, bytes: &[u8]) -> Result<(), AllocError>
+    requires { at ≤ length file.now }
+    ensures { OnOk result (spare.new.items ≡ overwritten at bytes.now file.now) }
+{
+    spare.clear();
+    spare.extend_from_slice(&file[..at])?;
+    spare.extend_from_slice(bytes)?;
+    let behind = at + bytes.len();
+    if behind < file.len() {
+        spare.extend_from_slice(&file[behind..])?;
+    }
+    Ok(())
+}
+
+// What a stop may leave, of the file at first and the calls: each byte that was written since the last sync reads as 1, and
+// no cut was made.
+fn image_of(first: &Vec<u8>, calls: &[Call], written: &[u8]) -> Result<Vec<u8>, Memory>
+    requires within { AreWithin first.now.items (dones calls.now written.now) }
+    requires bytes { total calls.now ≡ length written.now }
+    ensures { IfOk result (λ image. left_now first.now.items (dones calls.now written.now) image.items) }
+{
+    let alloc = *first.allocator();
+    let mut content = Vec::from_slice(alloc, first)?;
+    let mut image = Vec::from_slice(alloc, first)?;
+    let mut bytes = written;
+    for call in calls {
+        match *call {
+            Call::Wrote { at, len } => {
+                let (now, later) = bytes.split_at(len as usize);
+                let mut next = Vec::new(alloc);
+                overwrite(&mut next, &content, at as usize, now)?;
+                content = next;
+                image = with_ones(alloc, &image, at as usize, len as usize)?;
+                bytes = later;
+            }
+            Call::TriedWrite { at, len } => {
+                image = with_ones(alloc, &image, at as usize, len as usize)?;
+            }
+            Call::Cut(len) => content.truncate(len as usize),
+            Call::TriedCut(_) => {}
+            Call::Synced => image = Vec::from_slice(alloc, &content)?,
+        }
+    }
+    Ok(image)
+}
+
+// The file with so many bytes of 1 over what is there, and past its end.
+fn with_ones(alloc: Global, file: &[u8], at: usize, len: usize) -> Result<Vec<u8>, Memory>
+    requires { at ≤ length file.now }
+    ensures { IfOk result (λ torn. torn.items ≡ overwritten at (replicate len 1) file.now) }
+{
+    let ones = vec![in alloc; 1; len]?;
+    let mut torn = Vec::new(alloc);
+    overwrite(&mut torn, file, at, &ones)?;
+    Ok(torn)
+}
+
+// Records a write that was made.
+fn record_write(
+    calls: &mut Vec<Call>,
+    written: &mut Vec<u8>,
+    at: u64,
+    bytes: &[u8],
+) -> Result<(), AllocError>
+    requires { total calls.old.items ≡ length written.old.items }
+    ensures done { OnOk result (dones calls.new.items written.new.items
+        ≡ dones calls.old.items written.old.items ++ Wrote at bytes.now ∷ []) }
+    ensures total { total calls.new.items ≡ length written.new.items }
+    ensures same_calls { OnErr result (calls.new.items ≡ calls.old.items) }
+    ensures same_bytes { OnErr result (written.new.items ≡ written.old.items) }
+{
+    let before = written.len();
+    written.extend_from_slice(bytes)?;
+    let call = Call::Wrote {
+        at,
+        len: bytes.len() as u64,
+    };
+    match calls.push(call) {
+        Ok(()) => Ok(()),
+        Err(failed) => {
+            written.truncate(before);
+            Err(AllocError::from(failed))
+        }
+    }
+}
+
+// Writes, and records it.
+fn make_write(
+    content: &mut Vec<u8>,
+    spare: &mut Vec<u8>,
+    calls: &mut Vec<Call>,
+    written: &mut Vec<u8>,
+    at: u64,
+    bytes: &[u8],
+) -> Result<(), AllocError>
+    requires fits { total calls.old.items ≡ length written.old.items }
+    requires within { at ≤ length content.old.items }
+    ensures content { OnOk result (content.new.items ≡ overwritten at bytes.now content.old.items) }
+    ensures calls { OnOk result (dones calls.new.items written.new.items
+        ≡ dones calls.old.items written.old.items ++ Wrote at bytes.now ∷ []) }
+    ensures total { total calls.new.items ≡ length written.new.items }
+    ensures same_content { OnErr result (content.new.items ≡ content.old.items) }
+    ensures same_calls { OnErr result (dones calls.new.items written.new.items
+        ≡ dones calls.old.items written.old.items) }
+{
+    overwrite(spare, content, at as usize, bytes)?;
+    record_write(calls, written, at, bytes)?;
+    mem::swap(content, spare);
+    Ok(())
+}
+
+impl MemoryDisk {
+    /// A disk with this file, all of it on the disk. A call of `Disk` fails where its number is among `fails`, and from
+    /// the call on in which the disk stops; they are counted from 0, and `faults` is not counted. There is room for
+    /// `calls` calls that write, cut or sync, and for `room` bytes over all writes: such a call that needs more fails too.
+    pub fn new(
+        content: Vec<u8>,
+        room: u64,
+        calls: u64,
+        fails: Vec<u64>,
+        stop: Option<u64>,
+    ) -> Result<MemoryDisk, Memory>
+        ensures first { IfOk result (λ disk. disk.first ≡ content.items) }
+        ensures calls { IfOk result (λ disk. disk.calls ≡ []) }
+        ensures plan { IfOk result (λ disk. disk.plan
+            ≡ record { fails = fails.items; next_call = 0; faults = 0 }) }
+        ensures room { IfOk result (λ disk. disk.room_left ≡ room) }
+        ensures calls_left { IfOk result (λ disk. disk.calls_left ≡ calls) }
+        ensures stop { IfOk result (λ disk. disk.stop ≡ stop) }
+    {
+        let alloc = *content.allocator();
+        let longest = content.len().saturating_add(room as usize);
+        let mut now = Vec::with_capacity(alloc, longest)?;
+        now.extend_from_slice(&content)?;
+        Ok(MemoryDisk {
+            first: content,
+            content: now,
+            spare: Vec::with_capacity(alloc, longest)?,
+            calls: Vec::with_capacity(alloc, calls as usize)?,
+            written: Vec::with_capacity(alloc, room as usize)?,
+            calls_left: calls,
+            room_left: room,
+            plan: FaultPlan::new(fails),
+            stop,
+        })
+    }
+
+    /// The file as it is now.
+    pub fn content(&self) -> &[u8]
+        ensures { result.now ≡ content_of self.now.first self.now.calls }
+    {
+        &self.content
+    }
+
+    /// An image that a stop now may leave, after a stop one of a moment in the call in which the disk stopped: of what
+    /// was written since the last sync each byte is 1, and no cut was made.
+    pub fn image(&self) -> Result<Vec<u8>, Memory>
+        ensures { IfOk result (λ image. left_now self.now.first self.now.calls image.items) }
+    {
+        image_of(&self.first, &self.calls, &self.written)
+    }
+
+    // A call for which there is no room is a fault.
+    fn no_room(&mut self) -> Result<(), OutError>
+        ensures failed { result ≡ Err OutError.Failed }
+        ensures rose { Rose self.old.plan.faults self.new.plan.faults }
+        ensures later { self.old.plan.faults ≤ self.new.plan.faults }
+        ensures first { self.new.first ≡ self.old.first }
+        ensures calls { self.new.calls ≡ self.old.calls }
+    {
+        self.plan.count_fault();
+        Err(OutError::Failed)
+    }
+
+    // A write that is made.
+    fn write(&mut self, at: u64, bytes: &[u8]) -> Result<(), OutError>
+        requires { at ≤ length (content_of self.old.first self.old.calls) }
+        ensures plan { IsAnswered result self.old.plan.faults self.new.plan.faults }
+        ensures first { self.new.first ≡ self.old.first }
+        ensures done { OnOk result (self.new.calls ≡ self.old.calls ++ Wrote at bytes.now ∷ []) }
+        ensures unchanged { OnErr result (self.new.calls ≡ self.old.calls) }
+    {
+        let made = make_write(
+            &mut self.content,
+            &mut self.spare,
+            &mut self.calls,
+            &mut self.written,
+            at,
+            bytes,
+        );
+        match made {
+            Ok(()) => {
+                self.calls_left = self.calls_left.saturating_sub(1);
+                self.room_left = self.room_left.saturating_sub(bytes.len() as u64);
+                Ok(())
+            }
+            Err(_) => self.no_room(),
+        }
+    }
+
+    // A cut that is made.
+    fn shorten(&mut self, len: u64) -> Result<(), OutError>
+        ensures plan { IsAnswered result self.old.plan.faults self.new.plan.faults }
+        ensures first { self.new.first ≡ self.old.first }
+        ensures done { OnOk result (self.new.calls ≡ self.old.calls ++ Cut len ∷ []) }
+        ensures unchanged { OnErr result (self.new.calls ≡ self.old.calls) }
+    {
+        match self.calls.push(Call::Cut(len)) {
+            Ok(()) => {
+                self.content.truncate(len as usize);
+                self.calls_left = self.calls_left.saturating_sub(1);
+                Ok(())
+            }
+            Err(_) => self.no_room(),
+        }
+    }
+
+    // A sync that is made.
+    fn settle(&mut self) -> Result<(), OutError>
+        ensures plan { IsAnswered result self.old.plan.faults self.new.plan.faults }
+        ensures first { self.new.first ≡ self.old.first }
+        ensures done { OnOk result (self.new.calls ≡ self.old.calls ++ Synced ∷ []) }
+        ensures unchanged { OnErr result (self.new.calls ≡ self.old.calls) }
+    {
+        match self.calls.push(Call::Synced) {
+            Ok(()) => {
+                self.calls_left = self.calls_left.saturating_sub(1);
+                Ok(())
+            }
+            Err(_) => self.no_room(),
+        }
+    }
+
+    // A write of which nothing was done, but which a stop may leave done in part.
+    fn try_write(&mut self, at: u64, len: u64)
+        requires { at ≤ length (content_of self.old.first self.old.calls) }
+        ensures plan { self.new.plan ≡ self.old.plan }
+        ensures first { self.new.first ≡ self.old.first }
+        ensures calls { (self.new.calls ≡ self.old.calls ++ TriedWrite at len ∷ [])
+            ⊎ (self.new.calls ≡ self.old.calls) }
+    {
+        match self.calls.push(Call::TriedWrite { at, len }) {
+            Ok(()) => self.calls_left = self.calls_left.saturating_sub(1),
+            Err(_) => {}
+        }
+    }
+
+    // A cut of which nothing was done, but which a stop may leave done.
+    fn try_cut(&mut self, len: u64)
+        ensures plan { self.new.plan ≡ self.old.plan }
+        ensures first { self.new.first ≡ self.old.first }
+        ensures calls { (self.new.calls ≡ self.old.calls ++ TriedCut len ∷ [])
+            ⊎ (self.new.calls ≡ self.old.calls) }
+    {
+        match self.calls.push(Call::TriedCut(len)) {
+            Ok(()) => self.calls_left = self.calls_left.saturating_sub(1),
+            Err(_) => {}
+        }
+    }
+}
+
+impl Disk for MemoryDisk {
+    ghost use Rattle.std.specs.Prelude.{Some, length, ⊤};
+    ghost use Rattle.disk.specs.Tape.{content_of, left_now, LeftSince, counts_now, only_now};
+
+    ghost content = { λ d. Some (content_of d.first d.calls) };
+
+    ghost may_leave = { λ d image. left_now d.first d.calls image };
+
+    ghost moment = { λ d. length d.calls };
+
+    ghost left_since = { λ d t image. LeftSince d.first d.calls t image };
+
+    ghost named = { λ _ _. ⊤ };
+
+    ghost failures = { λ d. d.plan.faults };
+
+    ghost counts_now = { counts_now };
+
+    ghost only_now = { only_now };
+
+    fn read(&mut self, alloc: Global) -> Result<Vec<u8>, OutError>
+        ensures due { (result ≡ Err OutError.Failed) ↔ (is_due self.old.plan self.old.stop true ≡ true) }
+        ensures bytes { IfOk result (λ bytes. WhereTold (Some (content_of self.old.first self.old.calls))
+            (λ file. bytes.items ≡ file)) }
+        ensures kept { Some (content_of self.new.first self.new.calls)
+            ≡ Some (content_of self.old.first self.old.calls) }
+        ensures crash { (image : List ℕ) → left_now self.new.first self.new.calls image
+            → left_now self.old.first self.old.calls image }
+        ensures time { Elapses (length self.old.calls) (length self.new.calls)
+            (λ t image. LeftSince self.old.first self.old.calls t image)
+            (λ t image. LeftSince self.new.first self.new.calls t image)
+            (λ image. left_now self.new.first self.new.calls image) }
+        ensures count { CountsFaults result self.old.plan.faults self.new.plan.faults }
+    {
+        if fate_of(&mut self.plan, self.stop, true, true) != Fate::Goes {
+            return Err(OutError::Failed);
+        }
+        Ok(Vec::from_slice(alloc, &self.content)?)
+    }
+
+    fn write_at(&mut self, at: u64, bytes: &[u8]) -> Result<(), OutError>
+        requires { WhereTold (Some (content_of self.old.first self.old.calls)) (λ file. at ≤ length file) }
+        ensures due { is_due self.old.plan self.old.stop
+            (has_room self.old.calls_left self.old.room_left (length bytes.now)) ≡ true
+            → result ≡ Err OutError.Failed }
+        ensures written { OnOk result (Some (content_of self.new.first self.new.calls)
+            ≡ option_map (overwritten at bytes.now) (Some (content_of self.old.first self.old.calls))) }
+        ensures torn { OnErr result (Becomes (Torn at (length bytes.now))
+            (Some (content_of self.old.first self.old.calls))
+            (Some (content_of self.new.first self.new.calls))) }
+        ensures crash { Follows (Torn at (length bytes.now))
+            (λ image. left_now self.old.first self.old.calls image)
+            (λ image. left_now self.new.first self.new.calls image) }
+        ensures time { Elapses (length self.old.calls) (length self.new.calls)
+            (λ t image. LeftSince self.old.first self.old.calls t image)
+            (λ t image. LeftSince self.new.first self.new.calls t image)
+            (λ image. left_now self.new.first self.new.calls image) }
+        ensures no_memory { result ≢ Err OutError.Memory }
+        ensures count { CountsFaults result self.old.plan.faults self.new.plan.faults }
+    {
+        let len = bytes.len() as u64;
+        let has_room = has_room(self.calls_left, self.room_left, len);
+        match fate_of(&mut self.plan, self.stop, self.calls_left > 0, has_room) {
+            Fate::Goes => self.write(at, bytes),
+            Fate::Fails => {
+                self.try_write(at, len);
+                Err(OutError::Failed)
+            }
+            Fate::Refused => Err(OutError::Failed),
+        }
+    }
+
+    fn cut(&mut self, len: u64) -> Result<(), OutError>
+        ensures due { is_due self.old.plan self.old.stop (has_room self.old.calls_left self.old.room_left 0)
+            ≡ true → result ≡ Err OutError.Failed }
+        ensures cut { OnOk result (Some (content_of self.new.first self.new.calls)
+            ≡ option_map (take len) (Some (content_of self.old.first self.old.calls))) }
+        ensures torn { OnErr result (Becomes (IsCutOrNot len)
+            (Some (content_of self.old.first self.old.calls))
+            (Some (content_of self.new.first self.new.calls))) }
+        ensures crash { Follows (IsCutOrNot len)
+            (λ image. left_now self.old.first self.old.calls image)
+            (λ image. left_now self.new.first self.new.calls image) }
+        ensures time { Elapses (length self.old.calls) (length self.new.calls)
+            (λ t image. LeftSince self.old.first self.old.calls t image)
+            (λ t image. LeftSince self.new.first self.new.calls t image)
+            (λ image. left_now self.new.first self.new.calls image) }
+        ensures no_memory { result ≢ Err OutError.Memory }
+        ensures count { CountsFaults result self.old.plan.faults self.new.plan.faults }
+    {
+        let has_room = has_room(self.calls_left, self.room_left, 0);
+        match fate_of(&mut self.plan, self.stop, has_room, has_room) {
+            Fate::Goes => self.shorten(len),
+            Fate::Fails => {
+                self.try_cut(len);
+                Err(OutError::Failed)
+            }
+            Fate::Refused => Err(OutError::Failed),
+        }
+    }
+
+    fn sync(&mut self) -> Result<(), OutError>
+        ensures due { is_due self.old.plan self.old.stop (has_room self.old.calls_left self.old.room_left 0)
+            ≡ true → result ≡ Err OutError.Failed }
+        ensures durable { OnOk result (WhereTold (Some (content_of self.old.first self.old.calls))
+            (λ file. Only file (λ image. left_now self.new.first self.new.calls image))) }
+        ensures kept { Some (content_of self.new.first self.new.calls)
+            ≡ Some (content_of self.old.first self.old.calls) }
+        ensures crash { (image : List ℕ) → left_now self.new.first self.new.calls image
+            → left_now self.old.first self.old.calls image }
+        ensures time { Elapses (length self.old.calls) (length self.new.calls)
+            (λ t image. LeftSince self.old.first self.old.calls t image)
+            (λ t image. LeftSince self.new.first self.new.calls t image)
+            (λ image. left_now self.new.first self.new.calls image) }
+        ensures no_memory { result ≢ Err OutError.Memory }
+        ensures count { CountsFaults result self.old.plan.faults self.new.plan.faults }
+    {
+        let has_room = has_room(self.calls_left, self.room_left, 0);
+        match fate_of(&mut self.plan, self.stop, has_room, has_room) {
+            Fate::Goes => self.settle(),
+            _ => Err(OutError::Failed),
+        }
+    }
+
+    fn faults(&self) -> u64 {
+        self.plan.faults()
+    }
+}

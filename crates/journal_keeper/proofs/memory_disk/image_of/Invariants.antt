@@ -1,7 +1,0 @@
-use Rattle.std.proofs.Common.{drop}
-use Rattle.journal_keeper.specs.Calls.{dones}
-use Rattle.journal_keeper.proofs.Replays.{IsReplayed}
-use Rattle.journal_keeper.proofs.memory_disk.image_of.Given as goal
-
-abbrev pub invariant-loop-call : goal.invariant-loop-call
-invariant-loop-call l = IsReplayed l.first.items (dones l.calls l.written) (drop l.call-index l.calls) l.bytes l.content.items l.image.items
