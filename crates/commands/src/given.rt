@@ -11,6 +11,7 @@ use crate::run_end::RunEnd;
 use crate::top_call::run;
 use crate::usage::{tell_no_form, tell_no_memory};
 use crate::world::World;
+use answering::Gate;
 use keeper::Keeper;
 use pb_door::Door;
 use pb_outside::{Files, Sink, Source};

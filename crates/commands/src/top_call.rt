@@ -10,6 +10,7 @@ use crate::begun::Begun;
 use crate::run_end::RunEnd;
 use crate::serving::run_service;
 use crate::world::World;
+use answering::Gate;
 use keeper::Keeper;
 use pb_door::Door;
 use pb_outside::{Files, Sink, Source};
