@@ -19,7 +19,7 @@ use Rattle.order_desk.specs.declared.kept_book.KeptBook.{KeptBook}
 use Rattle.order_desk.specs.declared.limits.TheConstants.{MOST_BOOKS, MOST_ORDERS}
 use Rattle.order_desk.specs.declared.order_key.OrderKey.{OrderKey}
 use Rattle.order_desk.specs.Effect.{Effect, says, shows, keeps, go_on, effect, draft_of, next_draft, owned, put_draft, give_draft, read_draft, read_owner, unless_released, to_release, take_draft, commit, book_of, show_book, withdraw, shows_kept, same_order, unless_kept, to_place, look, place, read_order}
-use Rattle.order_desk.specs.Step.{Follows, IsStoreFault}
+use Rattle.order_desk.specs.Step.{Follows, IsStoreFault, Step}
 use Rattle.order_desk.specs.Tables.{Tables, State, order_at, key_of, released_as, with_book, with_draft, with_withdrawn}
 use Rattle.order_desk.proofs.Growth.{draft_there, book_there}
 use Rattle.answering.specs.Hand.{Hand, Takes}
@@ -212,15 +212,22 @@ effect_tells (event.Withdraw caller book) t =
     tells-go_on Replies replies t (owned t caller b.draft) (λ d. if b.withdrawn then gone else goes b)
     (λ d own. tells-if Replies t b.withdrawn gone (goes b) tt tt))
 
-silent : (e : Event) → Silent (Tells e)
-silent (event.Place caller number order) = λ r t. tt
-silent (event.Read (reading.Take caller draft named)) = λ r t. tt
-silent (event.Read (reading.Book book)) = λ r t. tt
-silent (event.Read (reading.Look caller number order)) = λ r t. tt
-silent (event.Read (reading.Order caller number)) = λ r t. tt
-silent _ = λ r t. tt
+-- a reply tells nothing
+pub tells_said : (e : Event) (r : Reply) (t : Tables) → Tells e (answer.Say r) t
+tells_said (event.Place caller number order) r t = tt
+tells_said (event.Read (reading.Take caller draft named)) r t = tt
+tells_said (event.Read (reading.Book book)) r t = tt
+tells_said (event.Read (reading.Look caller number order)) r t = tt
+tells_said (event.Read (reading.Order caller number)) r t = tt
+tells_said _ r t = tt
+
+pub tells_step : (old : State) (e : Event) (a : Answer) (new : State) → Step old e a new → Tells e a new.tables
+tells_step old e a new step =
+    of_step (Tells e) (λ t. (tells_said e reply.Memory t, λ before after. tells_said e (reply.StoreFault before after) t)) (effect old.tables e)
+    old a new (effect_tells e old.tables) step
 
 -- what one who makes steps is told
 pub tells_taken : (h : Hand) (e : Event) (a : Answer) (new : Hand) → Takes h e a new → Tells e a new.state.tables
-tells_taken h e a new (inl over) = subst (λ b. Tells e b new.state.tables) (sym over.said) (silent e _ new.state.tables)
-tells_taken h e a new (inr s) = of_step (Tells e) (λ t. (silent e reply.Memory t, λ before after. silent e (reply.StoreFault before after) t)) (effect s.first.tables e) s.first a new.state (effect_tells e s.first.tables) s.step
+tells_taken h e a new (inl over) =
+    subst (λ b. Tells e b new.state.tables) (sym over.said) (tells_said e (reply.Full full.Calls) new.state.tables)
+tells_taken h e a new (inr s) = tells_step s.first e a new.state s.step

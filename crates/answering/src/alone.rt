@@ -50,7 +50,7 @@ impl<P: Keeper> Turns for Alone<P> {
         self.left
     }
 
-    #[tactic(auto, using(crate::proofs::ToldLaws::tells_taken))]
+    #[tactic(auto, using(crate::proofs::ToldLaws::tells_said, crate::proofs::ToldLaws::tells_step))]
     fn step(&mut self, event: Event) -> Answer {
         if self.left == 0 {
             self.desk.valid_law();

@@ -1,4 +1,5 @@
 //! The events that calls ask for, each with the answers that it has.
+ghost use Rattle.std.specs.Prelude.{◌≡◌};
 ghost use Rattle.order_desk.specs.Fits.{Fits};
 ghost use Rattle.order_desk.specs.Valid.{IsValid};
 ghost use Rattle.order_desk.specs.declared.answer.Answer.TheVariants as Answer;

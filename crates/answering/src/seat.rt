@@ -93,7 +93,7 @@ impl<'b, R: Wait, P: Keeper> Turns for Seat<'b, R, P> {
 }
 
 // One call of a pass, where it has one left.
-#[tactic(auto, using(crate::proofs::ToldLaws::tells_taken))]
+#[tactic(auto, using(crate::proofs::ToldLaws::tells_said))]
 fn called<R: Wait, P: Keeper>(
     rt: &R,
     book: &TurnBook<Desk<P>>,
