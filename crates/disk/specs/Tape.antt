@@ -101,7 +101,7 @@ counts_now tape t image earlier left = record {
 pub synced_now : (tape : Tape) (image : List ℕ) → left_synced tape.first tape.calls image → left_now tape.first tape.calls image
 synced_now tape image left = left.0
 
-told_in : Option (List ℕ) → List ℕ
+abbrev told_in : Option (List ℕ) → List ℕ
 told_in None = []
 told_in (Some file) = file
 
