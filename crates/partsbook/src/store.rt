@@ -17,6 +17,7 @@ pub(crate) enum Store {
     Journal(FileJournal),
 }
 
+#[tactic(auto, using(crate::proofs::Fresh::wanting))]
 impl Keeper for Store {
     ghost use Rattle.keeper.specs.Counting.{fallible};
     ghost use Rattle.partsbook.specs.Store.{may_begin_kind, of_kind};
