@@ -2,8 +2,8 @@
 use Rattle.std.proofs.Common.{◌≡◌, ◌⊎◌, inl, inr, ℕ, ◌≤◌, List, [], ◌∷◌, ◌++◌, length, Some, Result, Ok, Err, refl, sym, ap, subst, ◌∙◌, arith}
 use Rattle.std.specs.Prelude.{OnOk, OnErr}
 use Rattle.pb_outside.specs.declared.error.OutError.{OutError}
-use Rattle.disk.specs.Disk.{Torn, IsCutOrNot, WhereTold, Follows, Only, Elapses}
-use Rattle.disk.specs.Tape.{Done, Wrote, TriedWrite, Cut, TriedCut, Synced, Tape, content_after, leaves_after, content_of, BeginsWithin, AreWithin, left_now, LeftSince}
+use Rattle.disk.specs.Disk.{Torn, IsCutOrNot, Follows, Only, Elapses}
+use Rattle.disk.specs.Tape.{Done, Wrote, TriedWrite, Cut, TriedCut, Synced, Tape, content_after, leaves_after, content_of, BeginsWithin, AreWithin, left_now, left_synced, LeftSince}
 use Rattle.disk.specs.declared.memory_disk.Call.{Call}
 use Rattle.disk.specs.declared.memory_disk.MemoryDisk.TheInside.{Inside}
 use Rattle.disk.specs.Calls.{dones, total}
@@ -11,9 +11,6 @@ use Rattle.disk.specs.MemoryDisk.{tape_of, IsKept}
 use Rattle.disk.proofs.Torn.{untouched}
 use Rattle.disk.proofs.Tapes.{content_more, leaves_to, possible, no_time, time_of, dones_other, total_more}
 use Rattle.disk.proofs.Replays.{keeps_call}
-
-some_is : (file file' : List ℕ) → Some file ≡ Some file' → file ≡ file'
-some_is file file' is = cc
 
 -- the calls grew by one, or are as they were
 pub record Grew (first first' : List ℕ) (calls calls' : List Done) (c : Done) : Type 0 where
@@ -102,10 +99,23 @@ pub content_done : {T : Type 0} (result : Result T OutError) (first first' : Lis
 content_done (Ok x) first first' calls calls' c first_is done = ap Some (content_grew first first' calls calls' c first_is done)
 content_done (Err e) first first' calls calls' c first_is done = tt
 
-pub durable_done : {T : Type 0} (result : Result T OutError) (first first' : List ℕ) (calls calls' : List Done) → first' ≡ first → OnOk result (calls' ≡ calls ++ Synced ∷ [])
-    → OnOk result (WhereTold (Some (content_of first calls)) (λ file. Only file (λ image. left_now first' calls' image)))
-durable_done (Ok x) first first' calls calls' first_is done = λ file told image left. sync_only first first' calls calls' first_is done image left ∙ some_is (content_of first calls) file told
-durable_done (Err e) first first' calls calls' first_is done = tt
+pub durable_done : {T : Type 0} (result : Result T OutError) (first first' : List ℕ) (calls calls' : List Done) → AreWithin first calls → first' ≡ first → OnOk result (calls' ≡ calls ++ Synced ∷ [])
+    → OnOk result ((image : List ℕ) → left_now first' calls' image → left_synced first calls image)
+durable_done (Ok x) first first' calls calls' within first_is done = λ image left.
+    let is = sync_only first first' calls calls' first_is done image left in
+    (subst (λ file. left_now first calls file) (sym is) (possible first (λ file. file ≡ first) calls within refl), is)
+durable_done (Err e) first first' calls calls' within first_is done = tt
+
+-- what a sync makes last after a call that is made
+pub synced_done : {T : Type 0} (result : Result T OutError) (first first' : List ℕ) (calls calls' : List Done) (c : Done) (step : List ℕ → List ℕ → Type 0) → AreWithin first calls → first' ≡ first
+    → OnOk result (calls' ≡ calls ++ c ∷ []) → ((file : List ℕ) → step file (content_after file c))
+    → OnOk result (Follows step (λ image. left_synced first calls image) (λ image. left_synced first' calls' image))
+synced_done (Ok x) first first' calls calls' c step within first_is done makes = λ image left. (
+  content_of first calls,
+  (possible first (λ file. file ≡ first) calls within refl, refl),
+  subst (step (content_of first calls)) (sym (left.1 ∙ content_grew first first' calls calls' c first_is done)) (makes (content_of first calls)),
+)
+synced_done (Err e) first first' calls calls' c step within first_is done makes = tt
 
 pub grew_done : {T : Type 0} (result : Result T OutError) (first first' : List ℕ) (calls calls' : List Done) (c : Done) → first' ≡ first → OnOk result (calls' ≡ calls ++ c ∷ []) → OnErr result (calls' ≡ calls)
     → Grew first first' calls calls' c

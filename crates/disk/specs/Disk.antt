@@ -1,5 +1,6 @@
 -- A disk: what its calls do to the file on it, and what a stop at a moment may leave of the file.
 --     Torn, IsCutOrNot    what a stop in a write, and in a cut, may make of a file
+--     Overwrites          what a write that a later sync has made last makes of an image
 --     Follows             the images that may be left change by such a step
 --     Elapses             time goes on by one call
 --     LeavesOnly          a stop at any moment of some calls leaves an image with a property
@@ -19,6 +20,14 @@ pub record Torn (at n : ℕ) (old new : List ℕ) : Type 0 where
   pub after : drop (at + n) new ≡ drop (at + n) old
   pub no_shorter : length old ≤ length new
   pub no_longer : length new ≤ max (length old) (at + n)
+
+-- these bytes stand at this place, over what was there, where the image reached so far
+abbrev pub Overwrites : ℕ → List ℕ → List ℕ → List ℕ → Type 0
+Overwrites at bytes old new = at ≤ length old → new ≡ overwritten at bytes old
+
+-- a cut to n bytes that was made
+abbrev pub IsCut : ℕ → List ℕ → List ℕ → Type 0
+IsCut n old new = new ≡ take n old
 
 -- a cut to n bytes that was made or not
 abbrev pub IsCutOrNot : ℕ → List ℕ → List ℕ → Type 0

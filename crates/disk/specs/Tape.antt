@@ -1,11 +1,11 @@
 -- A disk in memory: the file as it was at first, and what each call did.
 --     leaves_of    the images that may be left after some calls
 --     left_since   the images of some moment
-use Rattle.std.specs.Prelude.{◌≡◌, ℕ, ◌≤◌, Bool, false, ◌||◌, ◌&&◌, not, nat_lt, nat_le, List, [], ◌∷◌, length, take, Option, Some, None}
-use Rattle.std.proofs.Common.{sym, subst, arith}
+use Rattle.std.specs.Prelude.{◌≡◌, ℕ, ◌≤◌, ⊤, Bool, false, ◌||◌, ◌&&◌, not, nat_lt, nat_le, List, [], ◌∷◌, length, take, Option, Some, None}
+use Rattle.std.proofs.Common.{sym, ap, subst, ◌∙◌, arith}
 use Rattle.std.proofs.lemmas.List.{take_all}
 use Rattle.pb_outside.specs.FaultPlan.{Plan, is_to_fail}
-use Rattle.disk.specs.Disk.{overwritten, Torn, IsCutOrNot, AfterStep}
+use Rattle.disk.specs.Disk.{overwritten, Torn, IsCutOrNot, WhereTold, AfterStep, Only}
 
 -- what a call came to; a call that failed changed no byte, and a stop may leave it done in part
 pub data Done : Type 0 where
@@ -79,6 +79,10 @@ has_room calls_left room_left bytes = nat_lt 0 calls_left && nat_le bytes room_l
 abbrev pub left_now : List ℕ → List Done → List ℕ → Type 0
 left_now first calls image = leaves_of first (λ file. file ≡ first) calls image
 
+-- the image that a stop may leave after a sync: the file as a read gives it
+abbrev pub left_synced : List ℕ → List Done → List ℕ → Type 0
+left_synced first calls image = left_now first calls image × (image ≡ content_of first calls)
+
 -- the images that a stop could leave after the first t calls, or later
 pub record LeftSince (first : List ℕ) (calls : List Done) (t : ℕ) (image : List ℕ) : Type 0 where
   pub moment : ℕ
@@ -93,6 +97,16 @@ counts_now tape t image earlier left = record {
   so_far = omega arith;
   left = subst (λ calls. left_now tape.first calls image) (sym (take_all (length tape.calls) tape.calls (omega arith))) left;
 }
+
+pub synced_now : (tape : Tape) (image : List ℕ) → left_synced tape.first tape.calls image → left_now tape.first tape.calls image
+synced_now tape image left = left.0
+
+abbrev told_in : Option (List ℕ) → List ℕ
+told_in None = []
+told_in (Some file) = file
+
+pub begins_sure : (tape : Tape) (name : List ℕ) → ⊤ → WhereTold (Some (content_of tape.first tape.calls)) (λ file. Only file (left_synced tape.first tape.calls))
+begins_sure tape name any file told image left = left.1 ∙ ap told_in told
 
 pub only_now : (tape : Tape) (image : List ℕ) → LeftSince tape.first tape.calls (length tape.calls) image → left_now tape.first tape.calls image
 only_now tape image since = subst (λ calls. left_now tape.first calls image) (take_all since.moment tape.calls since.later) since.left

@@ -143,13 +143,19 @@ impl<C: FileCalls> Disk for FileDisk<C> {
 
     ghost may_leave = { λ _ _. ⊥ };
 
+    ghost may_leave_synced = { λ _ _. ⊥ };
+
     ghost moment = { λ _. 0 };
 
     ghost left_since = { λ _ _ _. ⊥ };
 
-    ghost named = { λ d name. C.named d.calls name };
+    ghost may_begin = { λ d name. C.named d.calls name };
 
     ghost failures = { λ d. d.faults };
+
+    ghost synced_now = { λ _ _ never. never };
+
+    ghost begins_sure = { λ _ _ _ _ _ _ never. absurd never };
 
     ghost counts_now = { λ _ _ _ _ never. never };
 

@@ -2,9 +2,9 @@
 ghost use Rattle.std.specs.Prelude.{◌≡◌, ◌≢◌, ◌≤◌, ◌+◌, ◌⊎◌, ◌↔◌, true, false, List, ℕ, Some, Err, [], ◌∷◌, ◌++◌, length, take, replicate, IfOk, OnOk, OnErr};
 ghost use Rattle.std.specs.Option.{option_map};
 ghost use Rattle.pb_outside.specs.Faults.{Rose};
-ghost use Rattle.disk.specs.Disk.{overwritten, Torn, IsCutOrNot, WhereTold, Becomes, Follows, Only, Elapses, CountsFaults};
+ghost use Rattle.disk.specs.Disk.{overwritten, Torn, Overwrites, IsCut, IsCutOrNot, WhereTold, Becomes, Follows, Elapses, CountsFaults};
 ghost use Rattle.disk.specs.Calls.{dones, total, IsAnswered};
-ghost use Rattle.disk.specs.Tape.{Wrote, TriedWrite, Cut, TriedCut, Synced, content_of, AreWithin, left_now, LeftSince, is_stopped, is_due, has_room};
+ghost use Rattle.disk.specs.Tape.{Wrote, TriedWrite, Cut, TriedCut, Synced, content_of, AreWithin, left_now, left_synced, LeftSince, is_stopped, is_due, has_room};
 
 use crate::Disk;
 use pb_base::Memory;
@@ -382,19 +382,25 @@ impl MemoryDisk {
 
 impl Disk for MemoryDisk {
     ghost use Rattle.std.specs.Prelude.{Some, length, ⊤};
-    ghost use Rattle.disk.specs.Tape.{content_of, left_now, LeftSince, counts_now, only_now};
+    ghost use Rattle.disk.specs.Tape.{content_of, left_now, left_synced, LeftSince, synced_now, begins_sure, counts_now, only_now};
 
     ghost content = { λ d. Some (content_of d.first d.calls) };
 
     ghost may_leave = { λ d image. left_now d.first d.calls image };
 
+    ghost may_leave_synced = { λ d image. left_synced d.first d.calls image };
+
     ghost moment = { λ d. length d.calls };
 
     ghost left_since = { λ d t image. LeftSince d.first d.calls t image };
 
-    ghost named = { λ _ _. ⊤ };
+    ghost may_begin = { λ _ _. ⊤ };
 
     ghost failures = { λ d. d.plan.faults };
+
+    ghost synced_now = { synced_now };
+
+    ghost begins_sure = { begins_sure };
 
     ghost counts_now = { counts_now };
 
@@ -430,6 +436,9 @@ impl Disk for MemoryDisk {
         ensures torn { OnErr result (Becomes (Torn at (length bytes.now))
             (Some (content_of self.old.first self.old.calls))
             (Some (content_of self.new.first self.new.calls))) }
+        ensures synced { OnOk result (Follows (Overwrites at bytes.now)
+            (λ image. left_synced self.old.first self.old.calls image)
+            (λ image. left_synced self.new.first self.new.calls image)) }
         ensures crash { Follows (Torn at (length bytes.now))
             (λ image. left_now self.old.first self.old.calls image)
             (λ image. left_now self.new.first self.new.calls image) }
@@ -460,6 +469,9 @@ impl Disk for MemoryDisk {
         ensures torn { OnErr result (Becomes (IsCutOrNot len)
             (Some (content_of self.old.first self.old.calls))
             (Some (content_of self.new.first self.new.calls))) }
+        ensures synced { OnOk result (Follows (IsCut len)
+            (λ image. left_synced self.old.first self.old.calls image)
+            (λ image. left_synced self.new.first self.new.calls image)) }
         ensures crash { Follows (IsCutOrNot len)
             (λ image. left_now self.old.first self.old.calls image)
             (λ image. left_now self.new.first self.new.calls image) }
@@ -484,8 +496,8 @@ impl Disk for MemoryDisk {
     fn sync(&mut self) -> Result<(), OutError>
         ensures due { is_due self.old.plan self.old.stop (has_room self.old.calls_left self.old.room_left 0)
             ≡ true → result ≡ Err OutError.Failed }
-        ensures durable { OnOk result (WhereTold (Some (content_of self.old.first self.old.calls))
-            (λ file. Only file (λ image. left_now self.new.first self.new.calls image))) }
+        ensures durable { OnOk result ((image : List ℕ) → left_now self.new.first self.new.calls image
+            → left_synced self.old.first self.old.calls image) }
         ensures kept { Some (content_of self.new.first self.new.calls)
             ≡ Some (content_of self.old.first self.old.calls) }
         ensures crash { (image : List ℕ) → left_now self.new.first self.new.calls image

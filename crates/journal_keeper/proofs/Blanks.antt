@@ -4,7 +4,7 @@ use Rattle.std.proofs.lemmas.Bool.{cases_lt, cases_eq, lt-ltb, le-ltb, eq-eqb, n
 use Rattle.keeper.specs.Rows.{bare}
 use Rattle.journal_keeper.specs.declared.stage.Stage.{Stage}
 use Rattle.journal_keeper.specs.declared.stage.Stage.TheVariants.{Shut, Late, Open}
-use Rattle.disk.specs.Disk.{Torn, IsCutOrNot, WhereTold, Becomes, AfterStep, Only}
+use Rattle.disk.specs.Disk.{overwritten, Torn, Overwrites, IsCut, IsCutOrNot, WhereTold, Becomes, AfterStep, Follows, Only}
 use Rattle.journal_keeper.specs.Journal.{header, unopened, is_empty_store}
 use Rattle.journal_keeper.specs.Stage.{seen_by, counts_empty, IsBlank, KeepsBlank}
 use Rattle.journal_keeper.specs.Sound.{IsOpen, IsSound}
@@ -23,6 +23,18 @@ unopened_empty byte rest le ne = elim (cases_lt (length (byte ∷ rest)) 9) [
       let nine : eqb (length (byte ∷ rest)) 9 ≡ true = eq-eqb (length (byte ∷ rest)) 9 (omega (arith, le, ge)) in
       rw (no_less, nine, ne_eqb byte 1 ne) refl
 ]
+
+-- after a cut of all bytes that is on the disk no byte is left
+pub cut_only : (leaves leaves' : List ℕ → Type 0) → Follows (IsCut 0) leaves leaves' → Only [] leaves'
+cut_only leaves leaves' durable image left = (durable image left).2
+
+-- after a write that is on the disk one image may be left, where one could before
+pub written_only : (at : ℕ) (bytes file : List ℕ) (leaves leaves' : List ℕ → Type 0) → at ≤ length file → Only file leaves → Follows (Overwrites at bytes) leaves leaves'
+    → Only (overwritten at bytes file) leaves'
+written_only at bytes file leaves leaves' within only durable image left =
+    let from = durable image left in
+    let same : from.0 ≡ file = only from.0 from.1 in
+    subst (λ f. Overwrites at bytes f image) same from.2 within
 
 -- the image of a step from the one file that may be left
 pub step_from : (step : List ℕ → List ℕ → Type 0) (P : List ℕ → Type 0) (file : List ℕ) (leaves : List ℕ → Type 0) → Only file leaves

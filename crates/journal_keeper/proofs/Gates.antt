@@ -2,7 +2,7 @@
 use Rattle.std.proofs.Common.{◌≡◌, inl, inr, ℕ, ◌+◌, ◌≤◌, Bool, true, false, List, [], ◌∷◌, ◌++◌, length, drop, Some, sym, ap, subst, ◌∙◌, append_assoc, arith, length-append}
 use Rattle.keeper.specs.Rows.{bare}
 use Rattle.journal_keeper.specs.declared.stage.Stage.TheVariants.{Open}
-use Rattle.disk.specs.Disk.{overwritten, Torn, AfterStep, Follows, Only}
+use Rattle.disk.specs.Disk.{overwritten, Torn, Overwrites, AfterStep, Follows}
 use Rattle.journal_keeper.specs.Record.{Entry, effect}
 use Rattle.journal_keeper.specs.Journal.{after, IsRecord}
 use Rattle.journal_keeper.specs.Stage.{seen_by, doubted_by, StillStands, StandsOrGrew}
@@ -43,21 +43,29 @@ module _ (gate : ℕ) (file : List ℕ) (leaves : List ℕ → Type 0) (o : IsOp
   }
 
   -- it was made
-  pub shut_again : (file' : List ℕ) (leaves' : List ℕ → Type 0) → file' ≡ overwritten gate (0 ∷ []) file → Only file' leaves' → IsOpen gate false file' leaves'
-  shut_again file' leaves' is only =
-      let here : IsClosed o.front file' = record {
-        gate = 0;
-        rest = o.ends.bytes ++ 0 ∷ o.ends.here.rest;
-        shut = λ e. absurd cc;
-        file_is = is ∙ written_gate o.front o.ends.here.gate (o.ends.bytes ++ 0 ∷ o.ends.here.rest) file gate o.place o.ends.here.file_is 0;
-      } in
+  shut_from : (old new : List ℕ) → IsInDoubt o.front o.ends.bytes old → Overwrites gate (0 ∷ []) old new → IsClosed o.front new
+  shut_from old new doubt over =
+      let behind = o.ends.bytes ++ 0 ∷ doubt.rest in
       record {
-        front = o.front;
-        entries = o.entries;
-        is_front = o.is_front;
-        place = o.place;
-        ends = record { here = here; each = λ image left. subst (IsClosed o.front) (sym (only image left)) here };
+        gate = 0;
+        rest = behind;
+        shut = λ e. absurd cc;
+        file_is = over (omega (arith, long o.front doubt.gate behind old gate o.place doubt.file_is)) ∙ written_gate o.front doubt.gate behind old gate o.place doubt.file_is 0;
       }
+
+  pub shut_again : (file' : List ℕ) (leaves' : List ℕ → Type 0) → file' ≡ overwritten gate (0 ∷ []) file → Follows (Overwrites gate (0 ∷ [])) leaves leaves' → IsOpen gate false file' leaves'
+  shut_again file' leaves' is durable = record {
+    front = o.front;
+    entries = o.entries;
+    is_front = o.is_front;
+    place = o.place;
+    ends = record {
+      here = shut_from file file' o.ends.here (λ within. is);
+      each = λ image left.
+          let from = durable image left in
+          shut_from from.0 image (o.ends.each from.0 from.1) from.2;
+    };
+  }
 
   same_seen : (in_doubt : Bool) (file' : List ℕ) (rest : List ℕ) → file' ≡ o.front ++ rest → seen_by (Open gate in_doubt) file' ≡ seen_by (Open gate true) file
   same_seen in_doubt file' rest is = seen_front gate in_doubt o.front rest o.entries file' o.is_front o.place is ∙ sym (open_seen gate true file leaves o)
@@ -127,44 +135,47 @@ pub record IsStaged (gate : ℕ) (entry : Entry) (bytes old file : List ℕ) (le
   pub line : List ℕ
   pub made : bytes ≡ line ++ 0 ∷ []
   pub is_record : IsRecord line entry
-  pub shut : ℕ
-  pub rest : List ℕ
-  pub file_is : file ≡ front ++ shut ∷ (line ++ 0 ∷ rest)
-  pub only : Only file leaves
+  pub here : IsInDoubt front line file
+  pub each : (image : List ℕ) → leaves image → IsInDoubt front line image
+
+-- the record, behind a gate that was closed
+staged_from : (front line bytes old new : List ℕ) (gate : ℕ) → gate ≡ length front → bytes ≡ line ++ 0 ∷ [] → IsClosed front old → Overwrites (gate + 1) bytes old new → IsInDoubt front line new
+staged_from front line bytes old new gate place made closed over = record {
+  gate = closed.gate;
+  rest = drop (length bytes) closed.rest;
+  file_is =
+      over (omega (arith, long front closed.gate closed.rest old gate place closed.file_is))
+      ∙ written_tail front closed.gate closed.rest old gate place closed.file_is bytes
+      ∙ ap (λ l. front ++ closed.gate ∷ (l ++ drop (length bytes) closed.rest)) made
+      ∙ ap (λ l. front ++ closed.gate ∷ l) (append_assoc line (0 ∷ []) (drop (length bytes) closed.rest));
+}
 
 pub staged : (gate : ℕ) (entry : Entry) (bytes old file : List ℕ) (before leaves : List ℕ → Type 0) → IsOpen gate false old before → IsMade bytes entry
-    → file ≡ overwritten (gate + 1) bytes old → Only file leaves → IsStaged gate entry bytes old file leaves
-staged gate entry bytes old file before leaves o made is only =
-    let closed = o.ends.here in
-    record {
-      front = o.front;
-      entries = o.entries;
-      is_front = o.is_front;
-      place = o.place;
-      was = open_seen gate false old before o;
-      line = made.front;
-      made = made.bytes_are;
-      is_record = made.is_record;
-      shut = closed.gate;
-      rest = drop (length bytes) closed.rest;
-      file_is =
-          is ∙ written_tail o.front closed.gate closed.rest old gate o.place closed.file_is bytes
-          ∙ ap (λ l. o.front ++ closed.gate ∷ (l ++ drop (length bytes) closed.rest)) made.bytes_are
-          ∙ ap (λ l. o.front ++ closed.gate ∷ l) (append_assoc made.front (0 ∷ []) (drop (length bytes) closed.rest));
-      only = only;
-    }
+    → file ≡ overwritten (gate + 1) bytes old → Follows (Overwrites (gate + 1) bytes) before leaves → IsStaged gate entry bytes old file leaves
+staged gate entry bytes old file before leaves o made is durable = record {
+  front = o.front;
+  entries = o.entries;
+  is_front = o.is_front;
+  place = o.place;
+  was = open_seen gate false old before o;
+  line = made.front;
+  made = made.bytes_are;
+  is_record = made.is_record;
+  here = staged_from o.front made.front bytes old file gate o.place made.bytes_are o.ends.here (λ within. is);
+  each = λ image left.
+      let from = durable image left in
+      staged_from o.front made.front bytes from.0 image gate o.place made.bytes_are (o.ends.each from.0 from.1) from.2;
+}
 
 module _ (gate : ℕ) (entry : Entry) (bytes old file : List ℕ) (leaves : List ℕ → Type 0) (s : IsStaged gate entry bytes old file leaves) where
   staged_torn : (image : List ℕ) → Torn gate 1 file image → IsInDoubt s.front s.line image
-  staged_torn image torn =
-      let t = torn_gate s.front s.shut (s.line ++ 0 ∷ s.rest) file gate s.place s.file_is image torn in
-      record { gate = t.0; rest = s.rest; file_is = t.1 }
+  staged_torn image torn = doubt_torn s.front s.line file image gate s.place s.here torn
 
   pub staged_within : gate ≤ length file
-  staged_within = omega (arith, long s.front s.shut (s.line ++ 0 ∷ s.rest) file gate s.place s.file_is)
+  staged_within = omega (arith, long s.front s.here.gate (s.line ++ 0 ∷ s.here.rest) file gate s.place s.here.file_is)
 
   after_torn : (image : List ℕ) → AfterStep (Torn gate 1) leaves image → IsInDoubt s.front s.line image
-  after_torn image from = staged_torn image (subst (λ f. Torn gate 1 f image) (s.only from.0 from.1) from.2)
+  after_torn image from = doubt_torn s.front s.line from.0 image gate s.place (s.each from.0 from.1) from.2
 
   pub staged_step : (image : List ℕ) → AfterStep (Torn gate 1) leaves image → StandsOrGrew entry (Open gate false) old image
   staged_step image from = elim (kept_in_doubt s.front s.line s.entries entry image s.is_front s.is_record (after_torn image from)) [
@@ -191,24 +202,33 @@ module _ (gate : ℕ) (entry : Entry) (bytes old file : List ℕ) (leaves : List
   next_place : gate + length bytes ≡ length (s.front ++ 1 ∷ s.line)
   next_place = omega (arith, s.place, ap length s.made, length-append s.line (0 ∷ []), length-append s.front (1 ∷ s.line))
 
-  opened_is : (file' : List ℕ) → file' ≡ overwritten gate (1 ∷ []) file → file' ≡ (s.front ++ 1 ∷ s.line) ++ 0 ∷ s.rest
-  opened_is file' is =
-      is ∙ written_gate s.front s.shut (s.line ++ 0 ∷ s.rest) file gate s.place s.file_is 1 ∙ sym (append_assoc s.front (1 ∷ s.line) (0 ∷ s.rest))
+  opened_is : (was now : List ℕ) (doubt : IsInDoubt s.front s.line was) → Overwrites gate (1 ∷ []) was now → now ≡ (s.front ++ 1 ∷ s.line) ++ 0 ∷ doubt.rest
+  opened_is was now doubt over =
+      let behind = s.line ++ 0 ∷ doubt.rest in
+      over (omega (arith, long s.front doubt.gate behind was gate s.place doubt.file_is))
+      ∙ written_gate s.front doubt.gate behind was gate s.place doubt.file_is 1 ∙ sym (append_assoc s.front (1 ∷ s.line) (0 ∷ doubt.rest))
+
+  opened_from : (was now : List ℕ) → IsInDoubt s.front s.line was → Overwrites gate (1 ∷ []) was now → IsClosed (s.front ++ 1 ∷ s.line) now
+  opened_from was now doubt over = record { gate = 0; rest = doubt.rest; shut = λ e. absurd cc; file_is = opened_is was now doubt over }
 
   -- the gate is open, and the next one ends the journal
-  pub now_open : (file' : List ℕ) (leaves' : List ℕ → Type 0) → file' ≡ overwritten gate (1 ∷ []) file → Only file' leaves' → IsOpen (gate + length bytes) false file' leaves'
-  now_open file' leaves' is only =
-      let here : IsClosed (s.front ++ 1 ∷ s.line) file' = record { gate = 0; rest = s.rest; shut = λ e. absurd cc; file_is = opened_is file' is } in
-      record {
-        front = s.front ++ 1 ∷ s.line;
-        entries = s.entries ++ entry ∷ [];
-        is_front = front_more s.front s.line s.entries entry s.is_front s.is_record;
-        place = next_place;
-        ends = record { here = here; each = λ image left. subst (IsClosed (s.front ++ 1 ∷ s.line)) (sym (only image left)) here };
-      }
+  pub now_open : (file' : List ℕ) (leaves' : List ℕ → Type 0) → file' ≡ overwritten gate (1 ∷ []) file → Follows (Overwrites gate (1 ∷ [])) leaves leaves'
+      → IsOpen (gate + length bytes) false file' leaves'
+  now_open file' leaves' is durable = record {
+    front = s.front ++ 1 ∷ s.line;
+    entries = s.entries ++ entry ∷ [];
+    is_front = front_more s.front s.line s.entries entry s.is_front s.is_record;
+    place = next_place;
+    ends = record {
+      here = opened_from file file' s.here (λ within. is);
+      each = λ image left.
+          let from = durable image left in
+          opened_from from.0 image (s.each from.0 from.1) from.2;
+    };
+  }
 
   pub seen_grown : (file' : List ℕ) → file' ≡ overwritten gate (1 ∷ []) file → seen_by (Open (gate + length bytes) false) file' ≡ effect entry (seen_by (Open gate false) old)
   seen_grown file' is =
-      seen_front (gate + length bytes) false (s.front ++ 1 ∷ s.line) (0 ∷ s.rest) (s.entries ++ entry ∷ []) file'
-      (front_more s.front s.line s.entries entry s.is_front s.is_record) next_place (opened_is file' is)
+      seen_front (gate + length bytes) false (s.front ++ 1 ∷ s.line) (0 ∷ s.here.rest) (s.entries ++ entry ∷ []) file'
+      (front_more s.front s.line s.entries entry s.is_front s.is_record) next_place (opened_is file file' s.here (λ within. is))
       ∙ after_more s.entries entry (bare 2) ∙ sym (ap (effect entry) s.was)

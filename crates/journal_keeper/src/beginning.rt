@@ -19,8 +19,7 @@ const BEHIND_FIRST: &[u8] = b"PBJOURN\0";
 // Writes a journal without records but for its first byte.
 fn clear<D: Disk>(disk: &mut D) -> Result<(), OutError>
     ensures done { OnOk result (D.content disk.new ≡ option_map (λ _. unopened) (D.content disk.old)) }
-    ensures durable { OnOk result (WhereTold (D.content disk.new) (λ file. Only file
-        (D.may_leave disk.new))) }
+    ensures durable { OnOk result (Only unopened (D.may_leave disk.new)) }
     ensures kept { OnErr result (Becomes KeepsBlank (D.content disk.old) (D.content disk.new)) }
     ensures any_moment { WhereTold (D.content disk.old) (λ file. IsBlank file → Only file
         (D.may_leave disk.old)
@@ -91,6 +90,7 @@ fn begin_with<D: Disk>(disk: &mut D, stage: &mut Stage, file: &[u8]) -> Result<(
 
 // The file, all of it on the disk.
 fn read_synced<D: Disk>(alloc: Global, disk: &mut D) -> Result<Vec<u8>, OutError>
+    requires { WhereTold (D.content disk.old) (λ file. Only file (D.may_leave_synced disk.old)) }
     ensures bytes { IfOk result (λ bytes. WhereTold (D.content disk.new) (λ file. bytes.items ≡ file)) }
     ensures kept { D.content disk.new ≡ D.content disk.old }
     ensures durable { OnOk result (WhereTold (D.content disk.new) (λ file. Only file
@@ -106,7 +106,8 @@ fn read_synced<D: Disk>(alloc: Global, disk: &mut D) -> Result<Vec<u8>, OutError
 /// Begins to keep rows. A store that counts as empty becomes a journal without records, and every other file is left as
 /// it is.
 pub(crate) fn begin<D: Disk>(alloc: Global, disk: &mut D, stage: &mut Stage) -> Result<(), OutError>
-    requires { IsSound stage.old (D.content disk.old) (D.may_leave disk.old) }
+    requires sound { IsSound stage.old (D.content disk.old) (D.may_leave disk.old) }
+    requires sure { WhereTold (D.content disk.old) (λ file. Only file (D.may_leave_synced disk.old)) }
     ensures sound { IsSound stage.new (D.content disk.new) (D.may_leave disk.new) }
     ensures done { OnOk result (option_map (seen_by stage.new) (D.content disk.new)
         ≡ option_map begun (option_map (seen_by stage.old) (D.content disk.old))) }

@@ -19,7 +19,7 @@ use std::alloc::Global;
 use std::marker::Model;
 
 /// Rows in a journal on a disk. A stop at any moment leaves the rows that were put so far, each put that was answered
-/// with Ok among them. The name that `begin` is given is one of the disk.
+/// with Ok among them. The name that `begin` is given is one of the disk, of which no sync has failed so far.
 #[derive(Drop)]
 pub struct JournalKeeper<D: Disk> {
     alloc: Global,
@@ -74,7 +74,7 @@ impl<D: Disk> Keeper for JournalKeeper<D> {
 
     ghost failures = { λ k. count_of (D.failures k.disk) k.refusals };
 
-    ghost may_begin = { λ k name. D.named k.disk name };
+    ghost may_begin = { λ k name. D.may_begin k.disk name };
 
     fn begin(&mut self, _: &str) -> Result<(), OutError>
         ensures done { OnOk result (option_map (seen_by self.new.stage) (D.content self.new.disk)

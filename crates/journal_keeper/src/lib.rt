@@ -2,6 +2,7 @@
 #![tactic(auto)]
 
 mod beginning;
+mod file_journal;
 mod journal;
 mod keeping;
 mod loading;
@@ -12,5 +13,6 @@ mod recorded;
 mod stage;
 mod tables;
 
+pub use file_journal::FileJournal;
 pub use keeping::JournalKeeper;
 pub use stage::Stage;

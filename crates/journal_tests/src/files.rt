@@ -2,8 +2,7 @@
 ghost use Rattle.std.specs.Prelude.{IfOk};
 
 use crate::rows::shown;
-use disk::{FileDisk, SystemFile};
-use journal_keeper::JournalKeeper;
+use journal_keeper::FileJournal;
 use keeper::Keeper;
 use pb_outside::OutError;
 use std::fs;
@@ -12,13 +11,10 @@ use std::test::Fail;
 // One record: book 1 is withdrawn.
 const WITHDRAWN: &[u8] = b"\x01PBJOURN\x01\x04\x00\x00\x00\x08\x00\x00\x00\x00\x00\x00\x00\x01\x00";
 
-type FileJournal = JournalKeeper<FileDisk<SystemFile>>;
-
 fn keeper_of(rt: HostRuntime, name: &str) -> Result<FileJournal, Fail>
     ensures { IfOk result (λ keeper. ⟦<FileJournal as Keeper>⟧.may_begin keeper name.now) }
 {
-    let name = String::from_str(rt.alloc(), name)?;
-    Ok(JournalKeeper::new(rt.alloc(), FileDisk::new(SystemFile::new(rt, name))))
+    Ok(FileJournal::new(rt, String::from_str(rt.alloc(), name)?))
 }
 
 fn new_folder(rt: HostRuntime, folder: &str) -> Result<(), Fail> {
@@ -65,7 +61,8 @@ fn a_second_keeper_is_refused_and_touches_nothing(rt: HostRuntime) -> Result<(),
         WITHDRAWN
     );
     drop(first);
-    second.begin("journal_locked/s.journal")?;
+    let mut third = keeper_of(rt, "journal_locked/s.journal")?;
+    third.begin("journal_locked/s.journal")?;
     fs::remove_dir_all(&rt, "journal_locked")?;
     Ok(())
 }

@@ -3,34 +3,31 @@ ghost use Rattle.std.specs.Prelude.{◌≡◌};
 ghost use Rattle.keeper.specs.Causes.{HasCause};
 ghost use Rattle.keeper.specs.Counting.{fallible};
 
-use disk::{FileDisk, SystemFile};
-use journal_keeper::JournalKeeper;
+use journal_keeper::FileJournal;
 use keeper::{BookRow, DraftRow, Keeper, OrderRow, Rows};
 use keeper_sql::FileKeeper;
 use pb_outside::OutError;
 
-/// A store of the system: a journal in a file where its name ends in `.journal`, and a file of SQLite else.
-pub(crate) type FileStore = Store<FileKeeper, JournalKeeper<FileDisk<SystemFile>>>;
-
 /// The keeper of a store. It is the keeper that it holds, so a run is made once for both kinds. It holds none before it begins,
 /// and nothing but `begin` is called on it then: any other call is answered want of memory. It tells no rows.
 #[derive(Drop)]
-pub(crate) enum Store<S, J> {
+pub(crate) enum Store {
     Unopened(HostRuntime),
-    Sql(S),
-    Journal(J),
+    Sql(FileKeeper),
+    Journal(FileJournal),
 }
 
-impl Keeper for Store<FileKeeper, JournalKeeper<FileDisk<SystemFile>>> {
+#[tactic(auto, using(crate::proofs::Fresh::wanting))]
+impl Keeper for Store {
     ghost use Rattle.keeper.specs.Counting.{fallible};
     ghost use Rattle.partsbook.specs.Store.{may_begin_kind, of_kind};
     ghost use Rattle.std.specs.Prelude.{None};
 
     ghost told = { λ _. None };
 
-    ghost failures = { of_kind (fallible 0) ⟦<FileKeeper as Keeper>⟧.failures ⟦<JournalKeeper<FileDisk<SystemFile>> as Keeper>⟧.failures };
+    ghost failures = { of_kind (fallible 0) ⟦<FileKeeper as Keeper>⟧.failures ⟦<FileJournal as Keeper>⟧.failures };
 
-    ghost may_begin = { may_begin_kind ⟦<FileKeeper as Keeper>⟧.may_begin ⟦<JournalKeeper<FileDisk<SystemFile>> as Keeper>⟧.may_begin };
+    ghost may_begin = { may_begin_kind ⟦<FileKeeper as Keeper>⟧.may_begin ⟦<FileJournal as Keeper>⟧.may_begin };
 
     fn begin(&mut self, name: &str) -> Result<(), OutError> {
         let rt = match self {
@@ -103,21 +100,21 @@ impl Keeper for Store<FileKeeper, JournalKeeper<FileDisk<SystemFile>>> {
 }
 
 // Opens the journal of this path.
-fn begin_journal(store: &mut FileStore, rt: HostRuntime, name: &str) -> Result<(), OutError>
-    requires { (⟦<FileStore as Keeper>⟧.failures store.old) ≡ fallible 0 }
-    ensures { HasCause result (⟦<FileStore as Keeper>⟧.failures store.old) (⟦<FileStore as Keeper>⟧.failures store.new) }
+fn begin_journal(store: &mut Store, rt: HostRuntime, name: &str) -> Result<(), OutError>
+    requires { (⟦<Store as Keeper>⟧.failures store.old) ≡ fallible 0 }
+    ensures { HasCause result (⟦<Store as Keeper>⟧.failures store.old) (⟦<Store as Keeper>⟧.failures store.new) }
 {
     let path = String::from_str(rt.alloc(), name)?;
-    let mut keeper = JournalKeeper::new(rt.alloc(), FileDisk::new(SystemFile::new(rt, path)));
+    let mut keeper = FileJournal::new(rt, path);
     let begun = keeper.begin(name);
     *store = Store::Journal(keeper);
     begun
 }
 
 // Opens the file of SQLite of this path.
-fn begin_file(store: &mut FileStore, rt: HostRuntime, name: &str) -> Result<(), OutError>
-    requires { (⟦<FileStore as Keeper>⟧.failures store.old) ≡ fallible 0 }
-    ensures { HasCause result (⟦<FileStore as Keeper>⟧.failures store.old) (⟦<FileStore as Keeper>⟧.failures store.new) }
+fn begin_file(store: &mut Store, rt: HostRuntime, name: &str) -> Result<(), OutError>
+    requires { (⟦<Store as Keeper>⟧.failures store.old) ≡ fallible 0 }
+    ensures { HasCause result (⟦<Store as Keeper>⟧.failures store.old) (⟦<Store as Keeper>⟧.failures store.new) }
 {
     let mut keeper = FileKeeper::new(rt);
     let begun = keeper.begin(name);

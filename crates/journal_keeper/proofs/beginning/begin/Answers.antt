@@ -12,7 +12,7 @@ use Rattle.journal_keeper.proofs.beginning.begin.Goals as goal
 pub returns-in_err-file-clause-sound : goal.returns-in_err-file-clause-sound
 returns-in_err-file-clause-sound g c =
     sound_stays c.args.stage.now (g.D.Disk.content c.args.disk.now) (g.D.Disk.content c.read_synced.new.disk) (g.D.Disk.may_leave c.args.disk.now) (g.D.Disk.may_leave c.read_synced.new.disk)
-    c.read_synced.ensures.kept c.read_synced.ensures.crash c.requires
+    c.read_synced.ensures.kept c.read_synced.ensures.crash c.requires.sound
 
 pub returns-in_err-file-clause-unchanged : goal.returns-in_err-file-clause-unchanged
 returns-in_err-file-clause-unchanged g c = at_err c.from_residual.result (ap (option_map (seen_by c.args.stage.now)) c.read_synced.ensures.kept)
@@ -21,12 +21,12 @@ pub returns-in_err-file-clause-any_moment : goal.returns-in_err-file-clause-any_
 returns-in_err-file-clause-any_moment g c = λ file told.
     let leaves = g.D.Disk.may_leave c.args.disk.now in
     widened g.D.Disk.moment g.D.Disk.left_since c.args.disk.now c.read_synced.new.disk (IsBegun c.args.stage.now file leaves) leaves c.read_synced.ensures.any_moment
-    (λ image left. begun_left c.args.stage.now (g.D.Disk.content c.args.disk.now) leaves file image c.requires told left)
+    (λ image left. begun_left c.args.stage.now (g.D.Disk.content c.args.disk.now) leaves file image c.requires.sound told left)
 
 pub begin_with-requires-clause-sound : goal.begin_with-requires-clause-sound
 begin_with-requires-clause-sound g c =
     sound_stays c.args.stage.now (g.D.Disk.content c.args.disk.now) (g.D.Disk.content c.read_synced.new.disk) (g.D.Disk.may_leave c.args.disk.now) (g.D.Disk.may_leave c.read_synced.new.disk)
-    c.read_synced.ensures.kept c.read_synced.ensures.crash c.requires
+    c.read_synced.ensures.kept c.read_synced.ensures.crash c.requires.sound
 
 pub returns-clause-done : goal.returns-clause-done
 returns-clause-done g c =
@@ -42,7 +42,7 @@ returns-clause-any_moment g c = λ file told.
     let leaves' = g.D.Disk.may_leave c.read_synced.new.disk in
     let P = IsBegun c.args.stage.now file leaves in
     let first = widened g.D.Disk.moment g.D.Disk.left_since c.args.disk.now c.read_synced.new.disk P leaves c.read_synced.ensures.any_moment
-    (λ image left. begun_left c.args.stage.now (g.D.Disk.content c.args.disk.now) leaves file image c.requires told left) in
+    (λ image left. begun_left c.args.stage.now (g.D.Disk.content c.args.disk.now) leaves file image c.requires.sound told left) in
     and_then g.D.Disk.moment g.D.Disk.left_since c.args.disk.now c.read_synced.new.disk c.begin_with.new.disk P (IsBegun c.args.stage.now file leaves') first
     (c.begin_with.ensures.any_moment file (c.read_synced.ensures.kept ∙ told))
     (λ image begun. begun_wider c.args.stage.now file leaves leaves' image c.read_synced.ensures.crash begun)
@@ -52,3 +52,6 @@ returns-in_err-file-clause-doubt g c = ap (doubted c.args.stage.now) c.read_sync
 
 pub returns-clause-doubt : goal.returns-clause-doubt
 returns-clause-doubt g c = c.begin_with.ensures.doubt ∙ ap (doubted c.args.stage.now) c.read_synced.ensures.kept
+
+pub read_synced-requires : goal.read_synced-requires
+read_synced-requires g c = c.requires.sure

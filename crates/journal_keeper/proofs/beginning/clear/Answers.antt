@@ -1,10 +1,10 @@
-use Rattle.std.proofs.Common.{◌≡◌, ℕ, List, [], ◌∷◌, length, take, Some, inl, ap, subst, ◌∙◌, arith}
+use Rattle.std.proofs.Common.{◌≡◌, ℕ, List, [], ◌∷◌, length, take, inl, ap, subst, ◌∙◌, arith}
 use Rattle.std.specs.Option.{option_map}
 use Rattle.disk.specs.Disk.{overwritten, Torn, IsCutOrNot, AfterStep}
 use Rattle.journal_keeper.specs.Stage.{IsBlank, KeepsBlank}
 use Rattle.disk.proofs.Moments.{and_then, widened}
 use Rattle.journal_keeper.proofs.Told.{came_from, mapped, map_map, Both, both, at_err}
-use Rattle.journal_keeper.proofs.Blanks.{step_from, becomes_weaker, keeps_empty, cut_blank, first_empty, others_empty}
+use Rattle.journal_keeper.proofs.Blanks.{cut_only, written_only, step_from, becomes_weaker, keeps_empty, cut_blank, first_empty, others_empty}
 use Rattle.journal_keeper.proofs.beginning.clear.Goals as goal
 
 pub write_through-requires-2 : goal.write_through-requires-2
@@ -43,11 +43,10 @@ returns-in_err-write_through-clause-any_moment g c = λ file told blank only.
     let content' = g.D.Disk.content c.cut_through.new.disk in
     let leaves = g.D.Disk.may_leave c.args.disk.now in
     let leaves' = g.D.Disk.may_leave c.cut_through.new.disk in
-    let told' : content' ≡ Some [] = c.in_ok-cut_through.ensures.cut ∙ ap (option_map (take 0)) told in
     let first = widened g.D.Disk.moment g.D.Disk.left_since c.args.disk.now c.cut_through.new.disk IsBlank (AfterStep (IsCutOrNot 0) leaves) c.cut_through.ensures.any_moment
     (step_from (IsCutOrNot 0) IsBlank file leaves only (λ image cut. (cut_blank file image cut).blank blank)) in
     and_then g.D.Disk.moment g.D.Disk.left_since c.args.disk.now c.cut_through.new.disk c.write_through.new.disk IsBlank (AfterStep (Torn 0 1) leaves') first c.write_through.ensures.any_moment
-    (step_from (Torn 0 1) IsBlank [] leaves' (c.in_ok-cut_through.ensures.durable [] told') (λ image torn. inl (first_empty image torn)))
+    (step_from (Torn 0 1) IsBlank [] leaves' (cut_only leaves leaves' c.in_ok-cut_through.ensures.durable) (λ image torn. inl (first_empty image torn)))
 
 pub returns-in_err-write_through-2-clause-kept : goal.returns-in_err-write_through-2-clause-kept
 returns-in_err-write_through-2-clause-kept g c =
@@ -68,14 +67,12 @@ returns-in_err-write_through-2-clause-any_moment g c = λ file told blank only.
     let leaves = g.D.Disk.may_leave c.args.disk.now in
     let leaves' = g.D.Disk.may_leave c.cut_through.new.disk in
     let leaves'' = g.D.Disk.may_leave c.write_through.new.disk in
-    let told' : content' ≡ Some [] = c.in_ok-cut_through.ensures.cut ∙ ap (option_map (take 0)) told in
-    let told'' : content'' ≡ Some (0 ∷ []) = c.in_ok-write_through.ensures.written ∙ ap (option_map (overwritten 0 (0 ∷ []))) told' in
     let first = widened g.D.Disk.moment g.D.Disk.left_since c.args.disk.now c.cut_through.new.disk IsBlank (AfterStep (IsCutOrNot 0) leaves) c.cut_through.ensures.any_moment
     (step_from (IsCutOrNot 0) IsBlank file leaves only (λ image cut. (cut_blank file image cut).blank blank)) in
     let second = and_then g.D.Disk.moment g.D.Disk.left_since c.args.disk.now c.cut_through.new.disk c.write_through.new.disk IsBlank (AfterStep (Torn 0 1) leaves') first c.write_through.ensures.any_moment
-    (step_from (Torn 0 1) IsBlank [] leaves' (c.in_ok-cut_through.ensures.durable [] told') (λ image torn. inl (first_empty image torn))) in
+    (step_from (Torn 0 1) IsBlank [] leaves' (cut_only leaves leaves' c.in_ok-cut_through.ensures.durable) (λ image torn. inl (first_empty image torn))) in
     and_then g.D.Disk.moment g.D.Disk.left_since c.args.disk.now c.write_through.new.disk c.write_through-2.new.disk IsBlank (AfterStep (Torn 1 8) leaves'') second c.write_through-2.ensures.any_moment
-    (step_from (Torn 1 8) IsBlank (0 ∷ []) leaves'' (c.in_ok-write_through.ensures.durable (0 ∷ []) told'') (λ image torn. inl (others_empty image torn)))
+    (step_from (Torn 1 8) IsBlank (0 ∷ []) leaves'' (written_only 0 (0 ∷ []) [] leaves' leaves'' (omega arith) (cut_only leaves leaves' c.in_ok-cut_through.ensures.durable) c.in_ok-write_through.ensures.durable) (λ image torn. inl (others_empty image torn)))
 
 pub returns-clause-done : goal.returns-clause-done
 returns-clause-done g c =
@@ -86,6 +83,16 @@ returns-clause-done g c =
     let others = 80 ∷ 66 ∷ 74 ∷ 79 ∷ 85 ∷ 82 ∷ 78 ∷ 0 ∷ [] in
     c.in_ok-write_through-2.ensures.written ∙ ap (option_map (overwritten 1 others)) two ∙ map_map (λ _. 0 ∷ []) (overwritten 1 others) content
 
+pub returns-clause-durable : goal.returns-clause-durable
+returns-clause-durable g c =
+    let leaves = g.D.Disk.may_leave c.args.disk.now in
+    let leaves' = g.D.Disk.may_leave c.cut_through.new.disk in
+    let leaves'' = g.D.Disk.may_leave c.write_through.new.disk in
+    let leaves''' = g.D.Disk.may_leave c.write_through-2.new.disk in
+    written_only 1 (80 ∷ 66 ∷ 74 ∷ 79 ∷ 85 ∷ 82 ∷ 78 ∷ 0 ∷ []) (0 ∷ []) leaves'' leaves''' (omega arith)
+    (written_only 0 (0 ∷ []) [] leaves' leaves'' (omega arith) (cut_only leaves leaves' c.in_ok-cut_through.ensures.durable) c.in_ok-write_through.ensures.durable)
+    c.in_ok-write_through-2.ensures.durable
+
 pub returns-clause-any_moment : goal.returns-clause-any_moment
 returns-clause-any_moment g c = λ file told blank only.
     let content' = g.D.Disk.content c.cut_through.new.disk in
@@ -93,11 +100,9 @@ returns-clause-any_moment g c = λ file told blank only.
     let leaves = g.D.Disk.may_leave c.args.disk.now in
     let leaves' = g.D.Disk.may_leave c.cut_through.new.disk in
     let leaves'' = g.D.Disk.may_leave c.write_through.new.disk in
-    let told' : content' ≡ Some [] = c.in_ok-cut_through.ensures.cut ∙ ap (option_map (take 0)) told in
-    let told'' : content'' ≡ Some (0 ∷ []) = c.in_ok-write_through.ensures.written ∙ ap (option_map (overwritten 0 (0 ∷ []))) told' in
     let first = widened g.D.Disk.moment g.D.Disk.left_since c.args.disk.now c.cut_through.new.disk IsBlank (AfterStep (IsCutOrNot 0) leaves) c.cut_through.ensures.any_moment
     (step_from (IsCutOrNot 0) IsBlank file leaves only (λ image cut. (cut_blank file image cut).blank blank)) in
     let second = and_then g.D.Disk.moment g.D.Disk.left_since c.args.disk.now c.cut_through.new.disk c.write_through.new.disk IsBlank (AfterStep (Torn 0 1) leaves') first c.write_through.ensures.any_moment
-    (step_from (Torn 0 1) IsBlank [] leaves' (c.in_ok-cut_through.ensures.durable [] told') (λ image torn. inl (first_empty image torn))) in
+    (step_from (Torn 0 1) IsBlank [] leaves' (cut_only leaves leaves' c.in_ok-cut_through.ensures.durable) (λ image torn. inl (first_empty image torn))) in
     and_then g.D.Disk.moment g.D.Disk.left_since c.args.disk.now c.write_through.new.disk c.write_through-2.new.disk IsBlank (AfterStep (Torn 1 8) leaves'') second c.write_through-2.ensures.any_moment
-    (step_from (Torn 1 8) IsBlank (0 ∷ []) leaves'' (c.in_ok-write_through.ensures.durable (0 ∷ []) told'') (λ image torn. inl (others_empty image torn)))
+    (step_from (Torn 1 8) IsBlank (0 ∷ []) leaves'' (written_only 0 (0 ∷ []) [] leaves' leaves'' (omega arith) (cut_only leaves leaves' c.in_ok-cut_through.ensures.durable) c.in_ok-write_through.ensures.durable) (λ image torn. inl (others_empty image torn)))

@@ -1,14 +1,14 @@
-use Rattle.std.proofs.Common.{◌≡◌, ℕ, List, [], ◌∷◌, ◌++◌, Some, refl, ap, subst, ◌∙◌}
+use Rattle.std.proofs.Common.{◌≡◌, ℕ, List, [], ◌∷◌, ◌++◌, Some, refl, sym, ap, subst, ◌∙◌, arith}
 use Rattle.std.specs.Option.{option_map}
 use Rattle.keeper.specs.Rows.{bare}
 use Rattle.journal_keeper.specs.declared.stage.Stage.TheVariants.{Late, Open}
 use Rattle.std.proofs.Common.{false}
-use Rattle.disk.specs.Disk.{overwritten, Torn, AfterStep}
+use Rattle.disk.specs.Disk.{overwritten, Torn, AfterStep, Only}
 use Rattle.journal_keeper.specs.Journal.{header, unopened}
 use Rattle.journal_keeper.specs.Stage.{seen_by, IsBlank, KeepsBlank}
 use Rattle.disk.proofs.Moments.{and_then}
 use Rattle.journal_keeper.proofs.Told.{came_from, mapped, told_by, map_map, Both, both, at_err}
-use Rattle.journal_keeper.proofs.Blanks.{step_from, last_blank, new_open, counted_seen, counted_still, counted_sound}
+use Rattle.journal_keeper.proofs.Blanks.{written_only, step_from, last_blank, new_open, counted_seen, counted_still, counted_sound}
 use Rattle.journal_keeper.proofs.Doubts.{empty_undoubted}
 use Rattle.journal_keeper.proofs.beginning.format.Goals as goal
 
@@ -58,20 +58,22 @@ pub returns-in_err-write_through-clause-any_moment : goal.returns-in_err-write_t
 returns-in_err-write_through-clause-any_moment g c = λ file told.
     let content' = g.D.Disk.content c.clear.new.disk in
     let leaves' = g.D.Disk.may_leave c.clear.new.disk in
-    let told' : content' ≡ Some unopened = c.in_ok-clear.ensures.done ∙ ap (option_map (λ _. unopened)) told in
     and_then g.D.Disk.moment g.D.Disk.left_since c.args.disk.now c.clear.new.disk c.write_through.new.disk IsBlank (AfterStep (Torn 0 1) leaves')
     (c.clear.ensures.any_moment file told (c.requires.empty file told).1 (c.requires.durable file told)) c.write_through.ensures.any_moment
-    (step_from (Torn 0 1) IsBlank unopened leaves' (c.in_ok-clear.ensures.durable unopened told') last_blank)
+    (step_from (Torn 0 1) IsBlank unopened leaves' c.in_ok-clear.ensures.durable last_blank)
 
 pub returns-clause-sound : goal.returns-clause-sound
 returns-clause-sound g c =
     let content = g.D.Disk.content c.args.disk.now in
     let content'' = g.D.Disk.content c.write_through.new.disk in
+    let leaves' = g.D.Disk.may_leave c.clear.new.disk in
+    let leaves'' = g.D.Disk.may_leave c.write_through.new.disk in
     let made : content'' ≡ option_map (λ _. header ++ 0 ∷ []) content =
     c.in_ok-write_through.ensures.written ∙ ap (option_map (overwritten 0 (1 ∷ []))) c.in_ok-clear.ensures.done ∙ map_map (λ _. unopened) (overwritten 0 (1 ∷ [])) content in
     λ file told.
     let from = came_from (λ f f'. f' ≡ header ++ 0 ∷ []) content content'' file (mapped (λ _. header ++ 0 ∷ []) content content'' made) told in
-    new_open file (g.D.Disk.may_leave c.write_through.new.disk) from.2 (c.in_ok-write_through.ensures.durable file told)
+    new_open file leaves'' from.2 (subst (λ f. Only f leaves'') (sym from.2)
+    (written_only 0 (1 ∷ []) unopened leaves' leaves'' (omega arith) c.in_ok-clear.ensures.durable c.in_ok-write_through.ensures.durable))
 
 pub returns-clause-done : goal.returns-clause-done
 returns-clause-done g c =
@@ -85,7 +87,6 @@ pub returns-clause-any_moment : goal.returns-clause-any_moment
 returns-clause-any_moment g c = λ file told.
     let content' = g.D.Disk.content c.clear.new.disk in
     let leaves' = g.D.Disk.may_leave c.clear.new.disk in
-    let told' : content' ≡ Some unopened = c.in_ok-clear.ensures.done ∙ ap (option_map (λ _. unopened)) told in
     and_then g.D.Disk.moment g.D.Disk.left_since c.args.disk.now c.clear.new.disk c.write_through.new.disk IsBlank (AfterStep (Torn 0 1) leaves')
     (c.clear.ensures.any_moment file told (c.requires.empty file told).1 (c.requires.durable file told)) c.write_through.ensures.any_moment
-    (step_from (Torn 0 1) IsBlank unopened leaves' (c.in_ok-clear.ensures.durable unopened told') last_blank)
+    (step_from (Torn 0 1) IsBlank unopened leaves' c.in_ok-clear.ensures.durable last_blank)

@@ -73,7 +73,7 @@ write_through-requires-2 g c =
     λ file' told.
     let from = came_from (λ file file'. file' ≡ overwritten (c.args.gate + 1) bytes file) content content' file' (mapped (overwritten (c.args.gate + 1) bytes) content content' c.in_ok-write_through.ensures.written) told in
     staged_within c.args.gate c.requires.made.0 bytes from.0 file' leaves'
-    (staged c.args.gate c.requires.made.0 bytes from.0 file' leaves leaves' (sound from.0 from.1) c.requires.made.1 from.2 (c.in_ok-write_through.ensures.durable file' told))
+    (staged c.args.gate c.requires.made.0 bytes from.0 file' leaves leaves' (sound from.0 from.1) c.requires.made.1 from.2 c.in_ok-write_through.ensures.durable)
 
 pub returns-in_err-write_through-2-clause-sound : goal.returns-in_err-write_through-2-clause-sound
 returns-in_err-write_through-2-clause-sound g c =
@@ -88,7 +88,7 @@ returns-in_err-write_through-2-clause-sound g c =
     λ file'' told.
     let torn = came_from (Torn c.args.gate 1) content' content'' file'' c.in_err-write_through-2.ensures.torn told in
     let from = came_from (λ file file'. file' ≡ overwritten (c.args.gate + 1) bytes file) content content' torn.0 (mapped (overwritten (c.args.gate + 1) bytes) content content' c.in_ok-write_through.ensures.written) torn.1 in
-    let s = staged c.args.gate c.requires.made.0 bytes from.0 torn.0 leaves leaves' (sound from.0 from.1) c.requires.made.1 from.2 (c.in_ok-write_through.ensures.durable torn.0 torn.1) in
+    let s = staged c.args.gate c.requires.made.0 bytes from.0 torn.0 leaves leaves' (sound from.0 from.1) c.requires.made.1 from.2 c.in_ok-write_through.ensures.durable in
     now_doubted c.args.gate c.requires.made.0 bytes from.0 torn.0 leaves' s file'' leaves'' torn.2 c.write_through-2.ensures.crash
 
 pub returns-in_err-write_through-2-clause-unchanged : goal.returns-in_err-write_through-2-clause-unchanged
@@ -105,7 +105,7 @@ returns-in_err-write_through-2-clause-unchanged g c =
     (told_by (Both one (Torn c.args.gate 1) content') (seen_by (Open c.args.gate false)) (seen_by (Open c.args.gate true)) content content''
     (both one (Torn c.args.gate 1) content content' content'' (mapped (overwritten (c.args.gate + 1) bytes) content content' c.in_ok-write_through.ensures.written) c.in_err-write_through-2.ensures.torn)
     (λ file file'' told steps.
-    let s = staged c.args.gate c.requires.made.0 bytes file steps.0 leaves leaves' (sound file told) c.requires.made.1 steps.2 (c.in_ok-write_through.ensures.durable steps.0 steps.1) in
+    let s = staged c.args.gate c.requires.made.0 bytes file steps.0 leaves leaves' (sound file told) c.requires.made.1 steps.2 c.in_ok-write_through.ensures.durable in
     seen_doubted c.args.gate c.requires.made.0 bytes file steps.0 leaves' s file'' steps.3)
     ∙ ap (λ s. option_map (seen_by s) content) (sym c.requires.at))
 
@@ -120,8 +120,7 @@ returns-in_err-write_through-2-clause-any_moment g c =
     let sound = subst (λ s. IsSound s content leaves) c.requires.at c.requires.sound in
     λ entry made file told.
     let P = StandsOrGrew entry c.args.stage.now file in
-    let told' : content' ≡ Some (overwritten (c.args.gate + 1) bytes file) = c.in_ok-write_through.ensures.written ∙ ap (option_map (overwritten (c.args.gate + 1) bytes)) told in
-    let s = staged c.args.gate entry bytes file (overwritten (c.args.gate + 1) bytes file) leaves leaves' (sound file told) made refl (c.in_ok-write_through.ensures.durable _ told') in
+    let s = staged c.args.gate entry bytes file (overwritten (c.args.gate + 1) bytes file) leaves leaves' (sound file told) made refl c.in_ok-write_through.ensures.durable in
     let first = widened g.D.Disk.moment g.D.Disk.left_since c.args.disk.now c.write_through.new.disk P
     (AfterStep (Torn (c.args.gate + 1) n) leaves) c.write_through.ensures.any_moment
     (λ image from. subst (λ s. StandsOrGrew entry s file image) (sym c.requires.at) (inl (shut_step c.args.gate n file leaves (sound file told) image from))) in
@@ -141,7 +140,7 @@ returns-in_err-write_through-2-clause-doubt g c =
     let own : WhereTold content'' (λ file''. doubted_by (Open c.args.gate true) file'' ≡ Some entry) = λ file'' told.
     let torn = came_from (Torn c.args.gate 1) content' content'' file'' c.in_err-write_through-2.ensures.torn told in
     let from = came_from (λ file file'. file' ≡ overwritten (c.args.gate + 1) bytes file) content content' torn.0 (mapped (overwritten (c.args.gate + 1) bytes) content content' c.in_ok-write_through.ensures.written) torn.1 in
-    let s = staged c.args.gate entry bytes from.0 torn.0 leaves leaves' (sound from.0 from.1) made from.2 (c.in_ok-write_through.ensures.durable torn.0 torn.1) in
+    let s = staged c.args.gate entry bytes from.0 torn.0 leaves leaves' (sound from.0 from.1) made from.2 c.in_ok-write_through.ensures.durable in
     doubt_own c.args.gate entry bytes from.0 torn.0 leaves' s file'' torn.2 in
     let given = err_from_is_err_and c.from_residual-in_err-write_through-2.result c.from_residual-in_err-write_through-2.ensures.1 in
     let failed = failed_again c.from_residual-in_err-write_through-2.result c.write_through-2.result given.0 c.in_err-write_through-2.field-0.0 given.1 given.2
@@ -164,8 +163,8 @@ returns-clause-sound g c =
     λ file'' told.
     let opened = came_from (λ file file'. file' ≡ overwritten c.args.gate (1 ∷ []) file) content' content'' file'' (mapped (overwritten c.args.gate (1 ∷ [])) content' content'' c.in_ok-write_through-2.ensures.written) told in
     let from = came_from (λ file file'. file' ≡ overwritten (c.args.gate + 1) bytes file) content content' opened.0 (mapped (overwritten (c.args.gate + 1) bytes) content content' c.in_ok-write_through.ensures.written) opened.1 in
-    let s = staged c.args.gate c.requires.made.0 bytes from.0 opened.0 leaves leaves' (sound from.0 from.1) c.requires.made.1 from.2 (c.in_ok-write_through.ensures.durable opened.0 opened.1) in
-    now_open c.args.gate c.requires.made.0 bytes from.0 opened.0 leaves' s file'' leaves'' opened.2 (c.in_ok-write_through-2.ensures.durable file'' told)
+    let s = staged c.args.gate c.requires.made.0 bytes from.0 opened.0 leaves leaves' (sound from.0 from.1) c.requires.made.1 from.2 c.in_ok-write_through.ensures.durable in
+    now_open c.args.gate c.requires.made.0 bytes from.0 opened.0 leaves' s file'' leaves'' opened.2 c.in_ok-write_through-2.ensures.durable
 
 pub returns-clause-done : goal.returns-clause-done
 returns-clause-done g c =
@@ -183,7 +182,7 @@ returns-clause-done g c =
     (both one two content content' content'' (mapped (overwritten (c.args.gate + 1) bytes) content content' c.in_ok-write_through.ensures.written)
     (mapped (overwritten c.args.gate (1 ∷ [])) content' content'' c.in_ok-write_through-2.ensures.written))
     (λ file file'' told steps.
-    let s = staged c.args.gate entry bytes file steps.0 leaves leaves' (sound file told) made steps.2 (c.in_ok-write_through.ensures.durable steps.0 steps.1) in
+    let s = staged c.args.gate entry bytes file steps.0 leaves leaves' (sound file told) made steps.2 c.in_ok-write_through.ensures.durable in
     seen_grown c.args.gate entry bytes file steps.0 leaves' s file'' steps.3)
     ∙ sym (map_map (seen_by (Open c.args.gate false)) (effect entry) content)
     ∙ ap (λ s. option_map (effect entry) (option_map (seen_by s) content)) (sym c.requires.at)
@@ -199,8 +198,7 @@ returns-clause-any_moment g c =
     let sound = subst (λ s. IsSound s content leaves) c.requires.at c.requires.sound in
     λ entry made file told.
     let P = StandsOrGrew entry c.args.stage.now file in
-    let told' : content' ≡ Some (overwritten (c.args.gate + 1) bytes file) = c.in_ok-write_through.ensures.written ∙ ap (option_map (overwritten (c.args.gate + 1) bytes)) told in
-    let s = staged c.args.gate entry bytes file (overwritten (c.args.gate + 1) bytes file) leaves leaves' (sound file told) made refl (c.in_ok-write_through.ensures.durable _ told') in
+    let s = staged c.args.gate entry bytes file (overwritten (c.args.gate + 1) bytes file) leaves leaves' (sound file told) made refl c.in_ok-write_through.ensures.durable in
     let first = widened g.D.Disk.moment g.D.Disk.left_since c.args.disk.now c.write_through.new.disk P
     (AfterStep (Torn (c.args.gate + 1) n) leaves) c.write_through.ensures.any_moment
     (λ image from. subst (λ s. StandsOrGrew entry s file image) (sym c.requires.at) (inl (shut_step c.args.gate n file leaves (sound file told) image from))) in

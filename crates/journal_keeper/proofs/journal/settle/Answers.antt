@@ -73,7 +73,7 @@ returns-in_ok-write_through-clause-sound g c =
     λ file' told.
     let from = came_from (λ file file'. file' ≡ overwritten c.in-Open.gate (0 ∷ []) file) content content' file'
     (mapped (overwritten c.in-Open.gate (0 ∷ [])) content content' c.in_ok-write_through.ensures.written) told in
-    shut_again c.in-Open.gate from.0 leaves (sound from.0 from.1) file' leaves' from.2 (c.in_ok-write_through.ensures.durable file' told)
+    shut_again c.in-Open.gate from.0 leaves (sound from.0 from.1) file' leaves' from.2 c.in_ok-write_through.ensures.durable
 
 pub returns-in_ok-write_through-clause-told : goal.returns-in_ok-write_through-clause-told
 returns-in_ok-write_through-clause-told g c =

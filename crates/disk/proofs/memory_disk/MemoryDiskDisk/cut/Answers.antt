@@ -1,11 +1,16 @@
 use Rattle.std.proofs.Common.{inl, Some, refl, ap}
+use Rattle.disk.specs.Disk.{IsCut}
 use Rattle.disk.specs.Tape.{Cut, TriedCut}
-use Rattle.disk.proofs.Disks.{grew_done, grew_time, content_done, content_left, cut_follows, try_cut_follows}
+use Rattle.disk.proofs.Disks.{grew_done, grew_time, content_done, synced_done, content_left, cut_follows, try_cut_follows}
 use Rattle.disk.proofs.memory_disk.MemoryDiskDisk.cut.Goals as goal
 
 pub returns-in-Goes-clause-cut : goal.returns-in-Goes-clause-cut
 returns-in-Goes-clause-cut c = rw (← c.self.view_is)
     (content_done c.shorten.result _ _ _ _ (Cut c.args.len) c.shorten.ensures.first c.shorten.ensures.done)
+
+pub returns-in-Goes-clause-synced : goal.returns-in-Goes-clause-synced
+returns-in-Goes-clause-synced c = rw (← c.self.view_is)
+    (synced_done c.shorten.result _ _ _ _ (Cut c.args.len) (IsCut c.args.len) c.self.invariant.within c.shorten.ensures.first c.shorten.ensures.done (λ file. refl))
 
 pub returns-in-Goes-clause-crash : goal.returns-in-Goes-clause-crash
 returns-in-Goes-clause-crash c = rw (← c.self.view_is)

@@ -4,7 +4,7 @@ use Rattle.disk.proofs.Disks.{grew_done, grew_time, durable_done, content_left, 
 use Rattle.disk.proofs.memory_disk.MemoryDiskDisk.sync.Goals as goal
 
 pub returns-in-Goes-clause-durable : goal.returns-in-Goes-clause-durable
-returns-in-Goes-clause-durable c = rw (← c.self.view_is) (durable_done c.settle.result _ _ _ _ c.settle.ensures.first c.settle.ensures.done)
+returns-in-Goes-clause-durable c = rw (← c.self.view_is) (durable_done c.settle.result _ _ _ _ c.self.invariant.within c.settle.ensures.first c.settle.ensures.done)
 
 pub returns-in-Goes-clause-kept : goal.returns-in-Goes-clause-kept
 returns-in-Goes-clause-kept c = rw (← c.self.view_is)

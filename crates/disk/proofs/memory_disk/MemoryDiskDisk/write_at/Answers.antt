@@ -1,12 +1,17 @@
 use Rattle.std.proofs.Common.{◌≤◌, length, Some, refl, sym, ap, subst}
+use Rattle.disk.specs.Disk.{Overwrites}
 use Rattle.disk.specs.Tape.{Wrote, TriedWrite, Tape, content_of}
 use Rattle.disk.proofs.Torn.{untouched}
-use Rattle.disk.proofs.Disks.{grew_done, grew_time, content_done, content_left, write_follows, try_write_follows}
+use Rattle.disk.proofs.Disks.{grew_done, grew_time, content_done, synced_done, content_left, write_follows, try_write_follows}
 use Rattle.disk.proofs.memory_disk.MemoryDiskDisk.write_at.Goals as goal
 
 pub returns-in-Goes-clause-written : goal.returns-in-Goes-clause-written
 returns-in-Goes-clause-written c = rw (← c.self.view_is)
     (content_done c.write.result _ _ _ _ (Wrote c.args.at c.args.bytes.now) c.write.ensures.first c.write.ensures.done)
+
+pub returns-in-Goes-clause-synced : goal.returns-in-Goes-clause-synced
+returns-in-Goes-clause-synced c = rw (← c.self.view_is)
+    (synced_done c.write.result _ _ _ _ (Wrote c.args.at c.args.bytes.now) (Overwrites c.args.at c.args.bytes.now) c.self.invariant.within c.write.ensures.first c.write.ensures.done (λ file within. refl))
 
 pub returns-in-Goes-clause-crash : goal.returns-in-Goes-clause-crash
 returns-in-Goes-clause-crash c = rw (← c.self.view_is)

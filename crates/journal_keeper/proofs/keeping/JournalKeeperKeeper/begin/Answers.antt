@@ -9,3 +9,8 @@ returns-clause-count g c =
 pub returns-clause-stands : goal.returns-clause-stands
 returns-clause-stands g c =
     sound_stands c.begin.new.stage (g.D.Disk.content c.begin.new.disk) (g.D.Disk.may_leave c.begin.new.disk) c.begin.ensures.sound
+
+pub begin-requires-clause-sure : goal.begin-requires-clause-sure
+begin-requires-clause-sure g c =
+    let begins = rw (← c.self.view_is) at c.requires in
+    g.met.D.Disk.begins_sure c.self.inside.disk _ begins
