@@ -48,7 +48,7 @@ unset IFS
 PATH=$path
 holds 'there is no rt' sh -c '! command -v rt'
 first=$work/first.md
-sed '/^## Orders/,$d' "$home/README.md" > "$first"
+sed '/^## Get it/,$d' "$home/README.md" > "$first"
 export PAGES_FROM="$home"
 holds "README's first screen comes out as it is shown" "$top/tests/pages.sh" "$program" "$first"
 holds 'README.md and docs/TOOLS.md do' "$top/tests/pages.sh" "$program" "$home/README.md" "$home/docs/TOOLS.md"

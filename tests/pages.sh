@@ -8,7 +8,9 @@
 # of its own, which has `partsbook`, `tools` and `examples` and nothing else at first. A command is a line of a block (between ```) that
 # begins with `$ `; what follows it, up to the next one or the end of the block, has to be its standard output. There `..` on a
 # line of its own stands for any lines, and blank lines at the end and the CR of lines that end in CR LF don't count.
-# Commands of the tools that prove and build (see `is_left_out`) are not typed. The status is 1 where a page differs.
+# Nothing may stand on standard error (see `said_of`), and the status has to be that which docs/COMMANDS.md has for what was
+# written, or 0 of other programs (see `due_status`). Commands of the tools that prove and build (see `is_left_out`) are not
+# typed. The status is 1 where a page differs.
 # Where PAGES_FROM names a folder, pages are typed in copies of it, as of an archive that was unpacked (tests/archive.sh).
 # It needs curl, sqlite3, xxd, python3, soffice (LibreOffice) and haproxy, for the pages that use them.
 top=$(cd "$(dirname "$0")/.." && pwd) || exit 1
@@ -18,6 +20,7 @@ program=$(realpath "${1:-$top/crates/partsbook/out/partsbook}") || exit 1
 cd "$top" && [ $# -gt 0 ] || set -- README.md docs/*.md
 work=$(mktemp -d) || exit 1
 listeners=
+services=
 trap '[ -z "$listeners" ] || kill $listeners; rm -rf "$work"' EXIT
 failed=0
 typed=0
@@ -61,6 +64,63 @@ is_left_out() {
     esac
 }
 
+# What the last program of a command is called by: the words behind the last `|`, `;` or `&` outside quotes.
+last_call() { # text
+    printf '%s\n' "$1" | awk -v single="'" '{
+        for (i = 1; i <= length($0); i++) {
+            byte = substr($0, i, 1)
+            if (quote != "") { if (byte == quote) quote = "" }
+            else if (byte == single || byte == "\"") quote = byte
+            else if (byte == "|" || byte == ";" || byte == "&" && substr($0, i - 1, 1) != ">") { call = ""; continue }
+            call = call byte
+        }
+    } END { sub(/^ */, "", call); print call }'
+}
+
+# The status that docs/COMMANDS.md has for a text of the program.
+status_of_text() { # call, text
+    awk -v call="$1" '
+        { sub(/\r$/, "") }
+        $0 != "" { if (first == "") first = $0; last = $0 }
+        /^undecided / { left = 1 }
+        END {
+            if (first ~ /^(refused|unfit) |^no car is in both|: blocked,/) print 1
+            else if (first ~ /^usage: /) print 2
+            else if (first ~ /^(book|order) fault |^limit |^day outside / || first == "no such book") print 3
+            else if (first == "read fault") print 4
+            else if (first == "store fault" || first ~ /^bad row /) print 6
+            else if (first ~ /^certificate fault /) print 8
+            else if (first == "want of memory") print 9
+            else if (first == "door fault") print 10
+            else if (last == "end blocked" || last ~ /^end [1-9]/ && call !~ / rejudge /) print 1
+            else if (last == "end undecided" || last == "end 0" && left) print 7
+            else print 0
+        }' "$2"
+}
+
+# The status that a command should end with, by what its last program wrote to standard output or to a file.
+due_status() { # text, folder, found
+    call=$(last_call "$1")
+    file=$(printf '%s\n' "$call" | sed -n 's/.*[^0-9&]> *\([^ ]*\).*/\1/p')
+    [ -n "$file" ] && file=$2/$file || file=$3
+    case $call in
+    'timeout -s KILL '*) echo 137 ;;
+    diff\ *) [ -s "$file" ] && echo 1 || echo 0 ;;
+    ./partsbook\ * | ./partsbook | tools/compare\ * | tools/report\ *) status_of_text "$call" "$file" ;;
+    *) echo 0 ;;
+    esac
+}
+
+# What stands on standard error that shouldn't: of LibreOffice and HAProxy nothing counts, nor that a killed desk was killed,
+# nor what the launcher of an archive says.
+said_of() { # text, said
+    [ -z "$PAGES_FROM" ] || return
+    case $1 in
+    soffice\ * | haproxy\ *) ;;
+    *) grep -v '^Killed$' "$2" ;;
+    esac
+}
+
 type_page() { # page
     folder=$work/$(basename "$1" .md)
     mkdir -p "$folder/page" "$folder/steps"
@@ -82,19 +142,28 @@ type_page() { # page
             continue
         fi
         typed=$((typed + 1))
+        why=
         case $text in
         *'&') # It goes on while the page is typed, which waits for its first line, or for two seconds where none is shown.
             (cd "$folder/page" && exec sh -c "exec ${text%&}") > "$step.found" 2> "$step.said" < /dev/null &
             listeners="$listeners $!"
+            services="$services $step"
             tries=60
             [ -s "$step.wanted" ] || tries=4
             while [ ! -s "$step.found" ] && [ $((tries -= 1)) -gt 0 ]; do sleep 0.5; done
             ;;
-        *) (cd "$folder/page" && sh -c "$text") > "$step.found" 2> "$step.said" < /dev/null ;;
+        *)
+            (cd "$folder/page" && sh -c "$text") > "$step.found" 2> "$step.said" < /dev/null
+            status=$?
+            due=$(due_status "$text" "$folder/page" "$step.found")
+            [ "$status" = "$due" ] || why="its status is $status, and not $due"
+            ;;
         esac
-        if ! fits "$step.wanted" "$step.found"; then
+        fits "$step.wanted" "$step.found" || why="what it writes differs${why:+, and $why}"
+        [ -z "$(said_of "$text" "$step.said")" ] || why="${why:+$why, and }it writes to standard error"
+        if [ -n "$why" ]; then
             failed=1
-            echo "differs: $1:$line: $text"
+            echo "differs: $1:$line: $text: $why"
             diff "$step.wanted" "$step.found" | sed 's/^/    /'
             sed 's/^/    said: /' "$step.said"
         fi
@@ -104,6 +173,13 @@ type_page() { # page
         wait $listeners 2> /dev/null
         listeners=
     fi
+    for step in $services; do
+        [ -n "$(said_of "$(cat "$step.command")" "$step.said")" ] || continue
+        failed=1
+        echo "differs: $1: $(cat "$step.command"): it writes to standard error"
+        sed 's/^/    said: /' "$step.said"
+    done
+    services=
 }
 
 # The text of this name among the cases of worked_runs.

@@ -78,9 +78,7 @@ WOULD = {
 
 HEAD = """# Wrong bodies that have to be refused
 
-A contract that is too weak would let wrong code pass. So the gate changes the code at a few places, in the ways that would do harm, and asks the prover about each: it has to refuse every one. A wrong body is an edit in the folder `must-fail` of a crate; `rt must-fail NAME` tries those of one crate.
-
-This page is made by `tests/wrong-bodies.py` from these edits. At most four stand in a crate, those that nothing else tells. Further ones were tried once and are tried no more, since a contract above, a worked run or a test tells the same (docs/DECISIONS.md, "Proof and gate").
+A contract that is too weak would let wrong code pass. So the gate changes the code at a few places, in the ways that would do harm, and the prover has to refuse each change. A wrong body is an edit in the folder `must-fail` of a crate; `rt must-fail NAME` tries those of one crate. At most four stand in a crate, those that nothing else tells (docs/DECISIONS.md, "Proof and gate"). `tests/wrong-bodies.py` makes this page from them.
 """
 
 
@@ -90,38 +88,23 @@ def crate_names():
     return [line.split()[0].rstrip(":") for line in lines if line[:1].isalpha()]
 
 
-def purpose(crate):
-    """The first sentence of the crate's README."""
-    text = (TOP / "crates" / crate / "README.md").read_text()
-    return " ".join(text.split("\n\n")[1].split()).split(". ")[0].rstrip(".") + "."
-
-
-def files_of(edit):
-    """The files that an edit changes, each once."""
-    lines = edit.read_text().splitlines()
-    return dict.fromkeys(line.removeprefix("file: ") for line in lines if line.startswith("file: "))
-
-
-def section(crate):
-    """The part of the page on one crate, or nothing where it has no wrong body."""
+def rows(crate):
+    """The rows of the page for one crate, one for each wrong body."""
     edits = sorted((TOP / "crates" / crate / "must-fail").glob("*.edit"))
-    if not edits:
-        return ""
-    rows = [f"## `{crate}`\n", purpose(crate) + "\n", "| Wrong body | What it would do | Changed in |", "|---|---|---|"]
-    for edit in edits:
-        name = edit.stem.replace("_", " ")
-        link = f"../crates/{crate}/must-fail/{edit.name}"
-        files = ", ".join(f"`{file}`" for file in files_of(edit))
-        rows.append(f"| [{name}]({link}) | {WOULD.get(edit.stem, '')} | {files} |")
-    return "\n".join(rows) + "\n"
+    return [f"| `{crate}` | {linked(crate, edit)} | {WOULD.get(edit.stem, '')} |" for edit in edits]
+
+
+def linked(crate, edit):
+    """The name of a wrong body in plain words, with a link to it."""
+    return f"[{edit.stem.replace('_', ' ')}](../crates/{crate}/must-fail/{edit.name})"
 
 
 def page():
     """The whole text."""
-    sections = [text for text in map(section, crate_names()) if text]
-    count = sum(1 for _ in TOP.glob("crates/*/must-fail/*.edit"))
-    sums = f"There are {count} in {len(sections)} crates.\n"
-    return "\n".join([HEAD, sums, *sections])
+    parts = [found for found in map(rows, crate_names()) if found]
+    sums = f"There are {sum(map(len, parts))} in {len(parts)} crates.\n"
+    table = ["| Crate | Wrong body | What it would do |", "|---|---|---|"]
+    return "\n".join([HEAD, sums, *table, *(row for part in parts for row in part)]) + "\n"
 
 
 if sys.argv[1:] == ["--check"]:

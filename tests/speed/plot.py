@@ -1,5 +1,6 @@
 #!/usr/bin/env python3
-"""Draws the plot of docs/SPEED.md, docs/speed.svg, from the numbers in docs/speed.csv, and prints the page's tables.
+"""Draws the plot of docs/SPEED.md, docs/speed.svg, from the numbers in docs/speed.csv, and prints the page's first tables: the
+rows of the fewest and of the most slices.
 
     plot.py [NUMBERS [PICTURE]]
 """
@@ -101,9 +102,11 @@ if __name__ == "__main__":
     words = sys.argv[1:]
     rows = read(words[0] if words else DOCS / "speed.csv")
     pathlib.Path(words[1] if words[1:] else DOCS / "speed.svg").write_text(picture(rows))
+    counts = {row["slices"] for row in rows}
+    rows = [row for row in rows if row["slices"] in (min(counts), max(counts))]
     size = [("Codes", "codes", True), ("Slices", "slices", True)]
     print(table(rows, size + [("Variants", "variants", True), ("Questions", "questions", True),
-        ("`check` s", "check_s", False), ("MB", "check_mb", False), ("`prove` s", "prove_s", False), ("MB", "prove_mb", False),
+        ("`check` s", "check_s", False), ("MB", "check_mb", False), ("`prove` s", "prove_s", False),
         ("certificate MB", "cert_mb", False), ("`verify` s", "verify_s", False), ("MB", "verify_mb", False)]))
     print()
     print(table(rows, size + [("Book KB", "kb", True), ("`order`, million instructions", "order_mi", True), ("MB", "order_mb", False),
