@@ -12,7 +12,7 @@ returns-clause-takes g c =
 pub returns-clause-tells : goal.returns-clause-tells
 returns-clause-tells g c =
     let one = called c.args.book.now c.args.pass c.call.result.1 c.args.event c.call.result.0 c.requires.seated c.call.ensures.book
-        c.call.ensures.history c.call.ensures.machine c.call.ensures.entry c.call.ensures.place c.call.ensures.left in
+    c.call.ensures.history c.call.ensures.machine c.call.ensures.entry c.call.ensures.place c.call.ensures.left in
     tells_taken (hand_of (sitting c.args.book.now c.args.pass)) c.args.event c.call.result.0 (hand_of (sitting c.args.book.now c.call.result.1))
     (inr one.step)
 
