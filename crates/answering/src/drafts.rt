@@ -44,6 +44,7 @@ pub(crate) fn check_draft<T: Turns, G: Gate>(
 }
 
 // The report of all questions about a text, or why there is none.
+#[tactic(auto, using(crate::proofs::CheckedLaws::why_told))]
 fn judge_text(alloc: Global, text: &[u8], budget: u32) -> Reply
     requires some { 0 < budget }
     requires most { budget ≤ MOST_BUDGET }

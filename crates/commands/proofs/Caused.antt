@@ -29,7 +29,7 @@ use Rattle.commands.specs.Outside.{Outside}
 use Rattle.commands.specs.Rejudged.{RejudgeEnd, unjudged, judged, JudgesBy, RunsRejudge}
 use Rattle.command_words.specs.Rejudging.{Rejudging}
 use Rattle.command_words.specs.Service.{Service}
-use Rattle.commands.specs.Serves.{ServiceEnd, unstarted, served, ServesBy, RunsService, told_of}
+use Rattle.commands.specs.Serves.{ServiceEnd, unstarted, served, ServesBy, RunsService}
 use Rattle.commands.specs.Causes.{IsDeskStatus, IsServiceStatus, IsRejudgeStatus, IsUsageStatus, IsCaused, by_words, by_inputs, by_sink, by_memory, by_reply, by_sample, by_desk, by_door, by_service, by_rejudge}
 use Rattle.commands.specs.Does.{AnswersBook, AnswersSample, AnswersUsage, DoesTask, Does}
 use Rattle.command_words.specs.Meaning.{Asks, AsksNothing}

@@ -10,7 +10,6 @@ use Rattle.book_commands.proofs.Valid.{same_input}
 use Rattle.commands.specs.Ample.{AskAmple}
 use Rattle.commands.specs.Causes.{GivesReply, IsCaused, by_words, by_inputs, by_sink, by_memory, by_reply, by_sample, by_desk, by_door, by_service, by_rejudge}
 use Rattle.commands.specs.Outside.{Outside}
-use Rattle.command_words.specs.Meaning.{Asks}
 use Rattle.command_words.specs.declared.task.Task.TheVariants.{Book, Desk, Serve, Rejudge, Sample}
 use Rattle.command_words.proofs.Meanings.{one_task}
 use Rattle.commands.proofs.Releasable.{same_command}

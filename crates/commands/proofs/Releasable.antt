@@ -22,7 +22,7 @@ use Rattle.commands.specs.Outside.{Outside}
 use Rattle.commands.specs.Causes.{GivesReply, IsCaused, by_words, by_inputs, by_sink, by_memory, by_reply, by_sample, by_desk, by_door, by_service, by_rejudge}
 use Rattle.commands.specs.Does.{Does}
 use Rattle.command_words.specs.Service.{Service}
-use Rattle.commands.specs.Serves.{ServiceEnd, unstarted, served, ServesBy, RunsService}
+use Rattle.commands.specs.Serves.{ServiceEnd, unstarted, served, ServesBy}
 use Rattle.commands.specs.Released.{AskRelease, AskCheck, AskDesk, AskService, IsReleasableInput, IsBlockedInput, KeepsBooks, KeepsReleased, KeepsServed, ServesReleased}
 use Rattle.command_words.specs.Meaning.{Asks}
 use Rattle.command_words.specs.declared.task.Task.TheVariants.{Book, Desk, Serve, Rejudge, Sample}

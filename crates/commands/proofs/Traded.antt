@@ -25,7 +25,7 @@ use Rattle.commands.specs.Outside.{Outside}
 use Rattle.command_words.specs.Service.{Service}
 use Rattle.commands.specs.Serves.{ServiceEnd, unstarted, served, ServesBy}
 use Rattle.commands.specs.Released.{AskDesk, AskService}
-use Rattle.commands.specs.Traded.{TradesBy, Trades, DealsLinks, HaveTradedPorts, HasServedTrade, TradesServed, ServesTrades}
+use Rattle.commands.specs.Traded.{TradesBy, Trades, DealsLinks, HaveTradedPorts, TradesServed, ServesTrades}
 use Rattle.command_words.specs.declared.task.Task.TheVariants.{Desk, Serve}
 use Rattle.commands.proofs.DeskTold.{Ran, ToldFrom, same_reads, unstarted_status}
 

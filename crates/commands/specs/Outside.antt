@@ -1,5 +1,5 @@
 -- The outside of a run: what it reads from, what it writes to, what keeps the rows of its desk, and where connections come from.
-use Rattle.std.specs.Prelude.{Bool, List, Option}
+use Rattle.std.specs.Prelude.{Bool, Option}
 use Rattle.pb_door.specs.DoorTold.{DoorTold}
 use Rattle.pb_outside.specs.Faults.{Faults}
 use Rattle.pb_outside.specs.Source.{SourceTold}

@@ -3,7 +3,7 @@
 --     AreStock books orders stock             all kept orders, each with its own book
 --     RepliesToRejudge asked t reply          the reply over what a desk keeps
 --     RunsRejudge asked before after status   a desk was started, its orders were judged again, and it was finished
-use Rattle.std.specs.Prelude.{◌≡◌, ◌⊎◌, ℕ, List, [], ◌∷◌, Option, None, Some, IfSome, codes}
+use Rattle.std.specs.Prelude.{◌≡◌, ◌⊎◌, List, [], ◌∷◌, Option, None, Some, IfSome, codes}
 use Rattle.book_model.specs.Contents.{Contents}
 use Rattle.pb_base.specs.declared.answer.Fail.{Fail}
 use Rattle.desk_words.specs.declared.order_words.OrderWords.{OrderWords}

@@ -6,10 +6,8 @@
 --     RunsService service before after status a service that was run, and told
 use Rattle.std.specs.Prelude.{◌≡◌, ◌⊎◌, true, ℕ, ◌/◌, List, [], ◌∷◌, ◌++◌, IfSome, codes, length}
 use Rattle.pb_base.specs.declared.answer.Fail.{Fail}
-use Rattle.pb_outside.specs.Faults.{IsLater}
 use Rattle.pb_outside.specs.declared.error.OutError.TheVariants as out
 use Rattle.desk_words.specs.Lines.{line, number_behind}
-use Rattle.order_desk.specs.History.{Reaches}
 use Rattle.order_desk.specs.Rows.{rows_of}
 use Rattle.order_desk.specs.Tables.{State, Tables}
 use Rattle.order_desk.specs.Valid.{IsValid}

@@ -6,6 +6,7 @@ ghost use Rattle.commands.specs.Outside.{seen};
 
 use crate::run_end::RunEnd;
 use crate::world::World;
+use answering::Gate;
 use book_commands::{
     Object, RunLog, RunReply, RunStatus, note_write_fault, tell_made, tell_want_of_memory,
 };
@@ -15,7 +16,6 @@ use keeper::Keeper;
 use order_desk::StartFault;
 use pb_base::{Fail, Memory};
 use pb_door::Door;
-use answering::Gate;
 use pb_outside::{Files, Sink, Source};
 use session::SessionEnd;
 use std::alloc::Global;

@@ -5,8 +5,8 @@ use Rattle.commands.proofs.beginning.do_task.Goals as goal
 pub returns-in-Book-clause-ended : goal.returns-in-Book-clause-ended
 returns-in-Book-clause-ended g c = rw c.in-Book.is (c.answer-status.ensures _)
 
-pub run_store-requires : goal.run_store-requires
-run_store-requires g c = record { named = c.requires.named _ (ap store_of c.in-Desk.is) }
+pub run_store-requires-clause-named : goal.run_store-requires-clause-named
+run_store-requires-clause-named g c κs within = c.requires.named _ (ap store_of c.in-Desk.is)
 
 pub returns-in-Desk-clause-ended : goal.returns-in-Desk-clause-ended
 returns-in-Desk-clause-ended g c = rw c.in-Desk.is c.run_store.ensures
