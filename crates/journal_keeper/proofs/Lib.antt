@@ -11,4 +11,3 @@ mod Written
 mod Sets
 mod Doubts
 mod Answered
-pub mod Crossing

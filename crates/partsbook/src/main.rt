@@ -9,7 +9,7 @@ ghost use Rattle.book_commands.specs.Numbers.{status_number};
 ghost use Rattle.command_words.specs.Prepared.{texts_of};
 ghost use Rattle.commands.specs.Words.{NamesStore};
 
-use crate::store::Store;
+use crate::store::{FileStore, Store};
 use answering::NoGate;
 use commands::{Channels, RunEnd, RunLog, RunStatus, World, run_given};
 use keeper::Keeper;
@@ -45,7 +45,7 @@ fn given_words(rt: &HostRuntime) -> io::Result<Vec<String>> {
 
 // The status of a run, whose store is closed. What a store that can't be closed has in its log is there for the next run, so
 // the status stays what it is, and standard error says what is left.
-fn closed(rt: HostRuntime, status: RunStatus, store: Store) -> ExitCode
+fn closed(rt: HostRuntime, status: RunStatus, store: FileStore) -> ExitCode
     ensures { exit_status result ≡ status_number status }
 {
     if !close(store) {
@@ -57,7 +57,7 @@ fn closed(rt: HostRuntime, status: RunStatus, store: Store) -> ExitCode
 }
 
 // Whether the store is in its file alone. A journal always is.
-fn close(store: Store) -> bool {
+fn close(store: FileStore) -> bool {
     match store {
         Store::Sql(keeper) => keeper.close(),
         Store::Journal(_keeper) => true,
