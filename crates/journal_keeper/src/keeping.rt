@@ -76,7 +76,8 @@ impl<D: Disk> Keeper for JournalKeeper<D> {
 
     ghost may_begin = { λ k name. D.may_begin k.disk name };
 
-    fn begin(&mut self, _: &str) -> Result<(), OutError>
+    fn begin(&mut self, name: &str) -> Result<(), OutError>
+        requires { D.may_begin self.old.disk name.now }
         ensures done { OnOk result (option_map (seen_by self.new.stage) (D.content self.new.disk)
             ≡ option_map begun (option_map (seen_by self.old.stage) (D.content self.old.disk))) }
         ensures unchanged { OnErr result (option_map (seen_by self.new.stage) (D.content self.new.disk)

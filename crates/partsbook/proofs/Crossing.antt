@@ -7,14 +7,8 @@ use Rattle.keeper_sql.below.sqlite_disk.proofs.modelled.Modelled.TheSendSync as 
 use Rattle.keeper_sql.below.sqlite_store.proofs.store.FileStore.TheSendSync as file_store
 use Rattle.keeper_sql.proofs.sql_keeper.SqlKeeper.TheSendSync as sql
 use Rattle.keeper_sql.specs.contracts.file_keeper.FileKeeper as FileKeeper
-use Rattle.journal_keeper.specs.contracts.keeping.JournalKeeper as JournalKeeper
-use Rattle.disk.specs.contracts.file_disk.FileDisk as FileDisk
-use Rattle.disk.specs.contracts.file_disk.FileDiskDisk as FileDiskDisk
-use Rattle.disk.specs.contracts.system_file.SystemFile as SystemFile
-use Rattle.disk.specs.contracts.system_file.SystemFileFileCalls as SystemFileFileCalls
-use Rattle.journal_keeper.proofs.keeping.JournalKeeper.TheSendSync as journal
-use Rattle.disk.proofs.file_disk.FileDisk.TheSendSync as disk
-use Rattle.disk.proofs.system_file.SystemFile.TheSendSync as system
+use Rattle.journal_keeper.specs.contracts.file_journal.FileJournal as FileJournal
+use Rattle.journal_keeper.proofs.file_journal.FileJournal.TheSendSync as journal
 use Rattle.partsbook.specs.contracts.store.Store as Store
 use Rattle.partsbook.proofs.store.Store.TheSendSync as either
 
@@ -25,11 +19,5 @@ host_send = search (os_file.the_field_send, sendable) depth 20
 file_send : IsSend FileKeeper.the_row
 file_send = recorded_send _ _ _ FileKeeper.the_type.to_one (struct_send (shape FileKeeper.the_type) (search (sql.the_field_send, file_store.the_send, modelled.the_send, host_send) depth 20, tt))
 
-system_send : IsSend SystemFile.the_row
-system_send = system.the_send
-
-journal_send : IsSend (JournalKeeper.the_row (FileDisk.the_row SystemFile.the_row SystemFileFileCalls.TheImpl.ghosts) (FileDiskDisk.TheImpl.ghosts SystemFile.the_row SystemFileFileCalls.TheImpl.ghosts SystemFileFileCalls.TheImpl.dict))
-journal_send = search (journal.the_send, disk.the_send, system_send)
-
-pub store_send : IsSend (Store.the_row FileKeeper.the_row (JournalKeeper.the_row (FileDisk.the_row SystemFile.the_row SystemFileFileCalls.TheImpl.ghosts) (FileDiskDisk.TheImpl.ghosts SystemFile.the_row SystemFileFileCalls.TheImpl.ghosts SystemFileFileCalls.TheImpl.dict)))
-store_send = either.the_send _ _ file_send journal_send
+pub store_send : IsSend (Store.the_row FileKeeper.the_row FileJournal.the_row)
+store_send = either.the_send _ _ file_send journal.the_send

@@ -9,7 +9,7 @@ ghost use Rattle.book_commands.specs.Numbers.{status_number};
 ghost use Rattle.command_words.specs.Prepared.{texts_of};
 ghost use Rattle.commands.specs.Words.{NamesStore};
 
-use crate::store::Store;
+use crate::store::{FileStore, Store};
 use answering::NoGate;
 use commands::{Channels, RunEnd, RunLog, RunStatus, World, run_given};
 use keeper::Keeper;
@@ -25,8 +25,7 @@ use tcp_door::TcpDoor;
 
 fn main(rt: HostRuntime) -> ExitCode {
     let words = given_words(&rt);
-    let (status, store) = run_with(&rt, rt.alloc(), words, Store::Unopened(rt));
-    closed(rt, status, store)
+    closed(rt, run_with(&rt, rt.alloc(), words, Store::Unopened(rt)))
 }
 
 // The status, as the system takes it.
@@ -45,9 +44,10 @@ fn given_words(rt: &HostRuntime) -> io::Result<Vec<String>> {
 
 // The status of a run, whose store is closed. What a store that can't be closed has in its log is there for the next run, so
 // the status stays what it is, and standard error says what is left.
-fn closed(rt: HostRuntime, status: RunStatus, store: Store) -> ExitCode
-    ensures { exit_status result ≡ status_number status }
+fn closed(rt: HostRuntime, ended: (RunStatus, FileStore)) -> ExitCode
+    ensures { exit_status result ≡ status_number ended.0 }
 {
+    let (status, store) = ended;
     if !close(store) {
         let _told = rt.eprintln(
             "the store's log stays beside it: keep both, the next run takes both",
@@ -57,7 +57,7 @@ fn closed(rt: HostRuntime, status: RunStatus, store: Store) -> ExitCode
 }
 
 // Whether the store is in its file alone. A journal always is.
-fn close(store: Store) -> bool {
+fn close(store: FileStore) -> bool {
     match store {
         Store::Sql(keeper) => keeper.close(),
         Store::Journal(_keeper) => true,

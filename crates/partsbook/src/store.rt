@@ -8,17 +8,20 @@ use keeper::{BookRow, DraftRow, Keeper, OrderRow, Rows};
 use keeper_sql::FileKeeper;
 use pb_outside::OutError;
 
+/// A store of the system: a journal in a file where its name ends in `.journal`, and a file of SQLite else.
+pub(crate) type FileStore = Store<FileKeeper, FileJournal>;
+
 /// The keeper of a store. It is the keeper that it holds, so a run is made once for both kinds. It holds none before it begins,
 /// and nothing but `begin` is called on it then: any other call is answered want of memory. It tells no rows.
 #[derive(Drop)]
-pub(crate) enum Store {
+pub(crate) enum Store<S, J> {
     Unopened(HostRuntime),
-    Sql(FileKeeper),
-    Journal(FileJournal),
+    Sql(S),
+    Journal(J),
 }
 
 #[tactic(auto, using(crate::proofs::Fresh::wanting))]
-impl Keeper for Store {
+impl Keeper for Store<FileKeeper, FileJournal> {
     ghost use Rattle.keeper.specs.Counting.{fallible};
     ghost use Rattle.partsbook.specs.Store.{may_begin_kind, of_kind};
     ghost use Rattle.std.specs.Prelude.{None};
@@ -100,11 +103,14 @@ impl Keeper for Store {
 }
 
 // Opens the journal of this path.
-fn begin_journal(store: &mut Store, rt: HostRuntime, name: &str) -> Result<(), OutError>
-    requires { (⟦<Store as Keeper>⟧.failures store.old) ≡ fallible 0 }
-    ensures { HasCause result (⟦<Store as Keeper>⟧.failures store.old) (⟦<Store as Keeper>⟧.failures store.new) }
+#[tactic(auto, using(crate::proofs::Fresh::wanting))]
+fn begin_journal(store: &mut FileStore, rt: HostRuntime, name: &str) -> Result<(), OutError>
+    requires { (⟦<FileStore as Keeper>⟧.failures store.old) ≡ fallible 0 }
+    ensures { HasCause result (⟦<FileStore as Keeper>⟧.failures store.old) (⟦<FileStore as Keeper>⟧.failures store.new) }
 {
-    let path = String::from_str(rt.alloc(), name)?;
+    let Ok(path) = String::from_str(rt.alloc(), name) else {
+        return Err(OutError::Memory);
+    };
     let mut keeper = FileJournal::new(rt, path);
     let begun = keeper.begin(name);
     *store = Store::Journal(keeper);
@@ -112,9 +118,9 @@ fn begin_journal(store: &mut Store, rt: HostRuntime, name: &str) -> Result<(), O
 }
 
 // Opens the file of SQLite of this path.
-fn begin_file(store: &mut Store, rt: HostRuntime, name: &str) -> Result<(), OutError>
-    requires { (⟦<Store as Keeper>⟧.failures store.old) ≡ fallible 0 }
-    ensures { HasCause result (⟦<Store as Keeper>⟧.failures store.old) (⟦<Store as Keeper>⟧.failures store.new) }
+fn begin_file(store: &mut FileStore, rt: HostRuntime, name: &str) -> Result<(), OutError>
+    requires { (⟦<FileStore as Keeper>⟧.failures store.old) ≡ fallible 0 }
+    ensures { HasCause result (⟦<FileStore as Keeper>⟧.failures store.old) (⟦<FileStore as Keeper>⟧.failures store.new) }
 {
     let mut keeper = FileKeeper::new(rt);
     let begun = keeper.begin(name);
