@@ -103,6 +103,7 @@ due_status() { # text, folder, found
     call=$(last_call "$1")
     file=$(printf '%s\n' "$call" | sed -n 's/.*[^0-9&]> *\([^ ]*\).*/\1/p')
     [ -n "$file" ] && file=$2/$file || file=$3
+    [ -r "$file" ] || file=/dev/null
     case $call in
     'timeout -s KILL '*) echo 137 ;;
     diff\ *) [ -s "$file" ] && echo 1 || echo 0 ;;
