@@ -1,5 +1,5 @@
 -- What is told of a store, by what its keeper is.
-use Rattle.std.specs.Prelude.{ℕ, List}
+use Rattle.std.specs.Prelude.{ℕ, List, ⊤}
 use Rattle.partsbook.specs.declared.store.Store.{Store}
 use Rattle.partsbook.specs.declared.store.Store.TheVariants.{Unopened, Sql, Journal}
 
