@@ -3,7 +3,7 @@ use Rattle.std.proofs.Common.{◌≡◌, ◌≤◌, ℕ, false, true, refl, sym,
 use Rattle.std.specs.Prelude.{Result, Ok, Err, OnOk}
 use Rattle.pb_outside.specs.Faults.{Faults, Fails, Rose}
 use Rattle.pb_outside.specs.declared.error.OutError.{OutError}
-use Rattle.pb_outside.specs.declared.error.OutError.TheVariants.{Failed, Memory}
+use Rattle.pb_outside.specs.declared.error.OutError.TheVariants.{Failed}
 use Rattle.keeper.specs.Causes.{HasCause}
 use Rattle.keeper.specs.Counting.{fallible}
 
@@ -22,11 +22,3 @@ from_fresh result fresh old after none is h = subst (λ (f : Faults). HasCause r
     kept = λ faultless. let clash : false ≡ true = faultless in cc;
   };
 })
-
--- memory was wanting before anything was called
-pub wanting : {T : Type 0} (faults : Faults) → HasCause {T} (Err Memory) faults faults
-wanting faults = record {
-  stays = tt;
-  cause = λ failed. cc;
-  later = record { never_falls = omega arith; kept = λ faultless. faultless };
-}

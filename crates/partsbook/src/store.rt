@@ -20,7 +20,6 @@ pub(crate) enum Store<S, J> {
     Journal(J),
 }
 
-#[tactic(auto, using(crate::proofs::Fresh::wanting))]
 impl Keeper for Store<FileKeeper, FileJournal> {
     ghost use Rattle.keeper.specs.Counting.{fallible};
     ghost use Rattle.partsbook.specs.Store.{may_begin_kind, of_kind};
@@ -103,7 +102,6 @@ impl Keeper for Store<FileKeeper, FileJournal> {
 }
 
 // Opens the journal of this path.
-#[tactic(auto, using(crate::proofs::Fresh::wanting))]
 fn begin_journal(store: &mut FileStore, rt: HostRuntime, name: &str) -> Result<(), OutError>
     requires { (⟦<FileStore as Keeper>⟧.failures store.old) ≡ fallible 0 }
     ensures { HasCause result (⟦<FileStore as Keeper>⟧.failures store.old) (⟦<FileStore as Keeper>⟧.failures store.new) }
