@@ -196,6 +196,13 @@ for copy in T:engine VAN:van COMPACT:compact COMPACTG:compact-groups YEAR:year T
     fi
 done
 "$top/tests/wrong-bodies.py" --check || failed=1
-for page; do type_page "$page"; done
+for page; do
+    if [ -r "$page" ]; then
+        type_page "$page"
+    else
+        failed=1
+        echo "pages: there is no page $page"
+    fi
+done
 [ "$failed" = 0 ] && echo "pages: all $typed commands come out as they are shown"
 exit "$failed"
