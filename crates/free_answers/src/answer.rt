@@ -1,0 +1,97 @@
+//! What an order comes to, and what can be chosen beside its codes.
+ghost use Rattle.std.specs.Prelude.{◌≡◌, ◌<◌, ◌≤◌, IfOk, None, Some};
+ghost use Rattle.pb_base.specs.Answers.{IfRefused};
+ghost use Rattle.pb_base.specs.declared.limits.TheConstants.{MOST_BUDGET};
+ghost use Rattle.pb_base.specs.NamedSet.{named};
+ghost use Rattle.parts_usage.specs.Fault.{order_fault};
+ghost use Rattle.parts_usage.specs.Outcome.{outcome_of_set};
+ghost use Rattle.free_answers.specs.Answer.{IsAnswer, completed_of};
+
+use crate::chosen::chosen_of;
+use book_model::Book;
+use left_cars::{Freedom, free_codes};
+use parts_usage::{OrderFault, Outcome, outcome};
+use pb_base::{CodeName, CodeSet, Day, Fail, Memory};
+use std::alloc::Global;
+use supplement::Completer;
+
+/// What an order comes to as it stands, its completed set, and what can still be chosen beside its codes.
+#[derive(Drop)]
+pub struct FreeAnswer {
+    pub outcome: Outcome,
+    pub completed: CodeSet,
+    pub freedom: Freedom,
+}
+
+/// The answer to an order of these codes for this day. It is refused where the order is at fault. A search is left where so many
+/// clauses were learnt for it.
+pub fn free_answer(
+    alloc: Global,
+    book: &Book,
+    day: Day,
+    names: &[CodeName],
+    budget: u32,
+) -> Result<FreeAnswer, Fail<OrderFault>>
+    requires some { 0 < budget }
+    requires most { budget ≤ MOST_BUDGET }
+    ensures fault { IfRefused result (λ fault. order_fault book.now day names.now ≡ Some fault) }
+    ensures answer { IfOk result (IsAnswer book.now day names.now budget) }
+{
+    match outcome(alloc, book, day, names) {
+        Ok(judged) => Ok(beside(alloc, book, day, names, budget, judged)?),
+        Err(fail) => Err(fail),
+    }
+}
+
+// The answer to an order without a fault that comes to this.
+fn beside(
+    alloc: Global,
+    book: &Book,
+    day: Day,
+    names: &[CodeName],
+    budget: u32,
+    judged: Outcome,
+) -> Result<FreeAnswer, Memory>
+    requires some { 0 < budget }
+    requires most { budget ≤ MOST_BUDGET }
+    requires faultless { order_fault book.now day names.now ≡ None }
+    requires judged { judged ≡ outcome_of_set book.now day (completed_of book.now day names.now) }
+    ensures { IfOk result (IsAnswer book.now day names.now budget) }
+{
+    let completed = completed_set(alloc, book, day, names)?;
+    let chosen = chosen_of(alloc, book.codes(), names)?;
+    let freedom = free_codes(alloc, book, day, &chosen, budget)?;
+    Ok(FreeAnswer {
+        outcome: judged,
+        completed,
+        freedom,
+    })
+}
+
+// The set of the codes that the names name, with what the supplementing rules add.
+fn completed_set(
+    alloc: Global,
+    book: &Book,
+    day: Day,
+    names: &[CodeName],
+) -> Result<CodeSet, Memory>
+    requires { order_fault book.now day names.now ≡ None }
+    ensures { IfOk result (λ set. set ≡ completed_of book.now day names.now) }
+{
+    let ordered = ordered_set(alloc, book, day, names)?;
+    let completer = Completer::new(alloc, book, day)?;
+    let completed = completer.complete(alloc, ordered)?;
+    Ok(completed.set)
+}
+
+// The set of the codes that the names name.
+fn ordered_set(alloc: Global, book: &Book, day: Day, names: &[CodeName]) -> Result<CodeSet, Memory>
+    requires { order_fault book.now day names.now ≡ None }
+    ensures { IfOk result (λ set. set ≡ named book.now.codes names.now) }
+{
+    match CodeSet::of_names(alloc, book.codes(), names) {
+        Ok(set) => Ok(set),
+        Err(Fail::Refused(_)) => unreachable!(),
+        Err(Fail::Memory) => Err(Memory),
+    }
+}

@@ -1,0 +1,2 @@
+pub mod EncodedLaws
+pub mod SearchLaws

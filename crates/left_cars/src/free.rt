@@ -1,0 +1,213 @@
+//! What can still be chosen beside some codes.
+ghost use Rattle.std.specs.Prelude.{◌≡◌, ◌*◌, ◌<◌, ◌≤◌, ◌∷◌, [], IfOk, true, false, length, if◌then◌else◌};
+ghost use Rattle.pb_base.specs.declared.limits.TheConstants.{MOST_BUDGET};
+ghost use Rattle.clause_pool.specs.Literal.{literal};
+ghost use Rattle.propagate.specs.Quiet.{IsConsistent};
+ghost use Rattle.propagate.specs.Trail.{AreBelow as AreLiterals};
+ghost use Rattle.item_search.specs.Search.{IsOver, IsOutcome};
+ghost use Rattle.left_cars.specs.Freedom.{HasStates, IsFree, IsState};
+ghost use Rattle.left_cars.specs.Left.{is_chosen, is_left, left_items, AreChosen, IsShown};
+ghost use Rattle.left_cars.specs.Seen.{AllSeen, IsSeen};
+ghost use Rattle.left_cars.specs.declared.states.CodeState.TheVariants as state;
+
+use crate::asking::begin;
+use crate::seen::{Seen, none_seen, see};
+use crate::states::{CodeState, Freedom};
+use book_model::Book;
+use clause_pool::Lit;
+use item_search::{Outcome, search};
+use pb_base::{CodeSet, Day, Memory};
+use solver::Solver;
+use std::alloc::Global;
+
+/// What can still be chosen on a day beside codes, which are told by their places in the book, counted from 0. A search is left
+/// where so many clauses were learnt for it, each of which says what propagation did not.
+pub fn free_codes(
+    alloc: Global,
+    book: &Book,
+    day: Day,
+    chosen: &[u32],
+    budget: u32,
+) -> Result<Freedom, Memory>
+    requires chosen { AreChosen book.now chosen.now }
+    requires some { 0 < budget }
+    requires most { budget ≤ MOST_BUDGET }
+    ensures { IfOk result (IsFree book.now day chosen.now budget) }
+{
+    let mut solver = begin(alloc, book, day, chosen)?;
+    let outcome = ask(book, day, chosen, &[], budget, &mut solver)?;
+    match outcome {
+        Outcome::NotShown(_) => Ok(Freedom::NoneLeft),
+        Outcome::Left(learnt) => Ok(Freedom::NotDecided(learnt)),
+        Outcome::Shown(car) => {
+            let states = states_from(alloc, book, day, chosen, budget, &mut solver, &car)?;
+            Ok(Freedom::Codes(states))
+        }
+    }
+}
+
+// Looks for a car that is left, of which these literals of codes are true.
+fn ask(
+    book: &Book,
+    day: Day,
+    chosen: &[u32],
+    lits: &[Lit],
+    budget: u32,
+    solver: &mut Solver,
+) -> Result<Outcome, Memory>
+    requires chosen { AreChosen book.now chosen.now }
+    requires below { AreLiterals lits.now (2 * length book.now.codes) }
+    requires consistent { IsConsistent lits.now }
+    requires some { 0 < budget }
+    requires most { budget ≤ MOST_BUDGET }
+    requires over { IsOver (length book.now.codes) (left_items book.now day chosen.now) solver.old }
+    ensures over { IsOver (length book.now.codes) (left_items book.now day chosen.now) solver.new }
+    ensures outcome { let items = left_items book.now day chosen.now in let test = is_left book.now day chosen.now in
+        IfOk result (IsOutcome (length book.now.codes) items test lits.now budget) }
+{
+    book.codes();
+    search(solver, lits, budget)
+}
+
+// Looks for one that shows this value of a code.
+fn ask_value(
+    book: &Book,
+    day: Day,
+    chosen: &[u32],
+    place: u32,
+    value: bool,
+    budget: u32,
+    solver: &mut Solver,
+) -> Result<Outcome, Memory>
+    requires chosen { AreChosen book.now chosen.now }
+    requires place { place < length book.now.codes }
+    requires some { 0 < budget }
+    requires most { budget ≤ MOST_BUDGET }
+    requires over { IsOver (length book.now.codes) (left_items book.now day chosen.now) solver.old }
+    ensures over { IsOver (length book.now.codes) (left_items book.now day chosen.now) solver.new }
+    ensures outcome { let items = left_items book.now day chosen.now in let test = is_left book.now day chosen.now in
+        IfOk result (IsOutcome (length book.now.codes) items test (literal place value ∷ []) budget) }
+{
+    let lit = Lit::new(place, value);
+    ask(book, day, chosen, &[lit], budget, solver)
+}
+
+// The states of all codes, from the first car that was found.
+#[tactic(auto, using(crate::proofs::StateLaws::states_more))]
+fn states_from(
+    alloc: Global,
+    book: &Book,
+    day: Day,
+    chosen: &[u32],
+    budget: u32,
+    solver: &mut Solver,
+    car: &CodeSet,
+) -> Result<Vec<CodeState>, Memory>
+    requires chosen { AreChosen book.now chosen.now }
+    requires some { 0 < budget }
+    requires most { budget ≤ MOST_BUDGET }
+    requires over { IsOver (length book.now.codes) (left_items book.now day chosen.now) solver.old }
+    requires left { is_left book.now day chosen.now car.now ≡ true }
+    requires counted { length car.now ≡ length book.now.codes }
+    ensures { IfOk result (λ states. HasStates book.now day chosen.now budget states.items) }
+{
+    let mut seen = none_seen(alloc, book, day, chosen)?;
+    see(book, day, chosen, &mut seen, car);
+    let mut hints = Vec::new(alloc);
+    let mut states = Vec::new(alloc);
+    for place in 0..car.len() {
+        let state = state_of(
+            book, day, chosen, budget, solver, &mut seen, &mut hints, place,
+        )?;
+        states.push(state)?;
+    }
+    Ok(states)
+}
+
+// The state of a code. What a car shows that is found for it is noted.
+fn state_of(
+    book: &Book,
+    day: Day,
+    chosen: &[u32],
+    budget: u32,
+    solver: &mut Solver,
+    seen: &mut Seen,
+    hints: &mut Vec<Lit>,
+    place: u32,
+) -> Result<CodeState, Memory>
+    requires chosen { AreChosen book.now chosen.now }
+    requires some { 0 < budget }
+    requires most { budget ≤ MOST_BUDGET }
+    requires over { IsOver (length book.now.codes) (left_items book.now day chosen.now) solver.old }
+    requires seen { IsSeen book.now day chosen.now seen.old }
+    requires all { AllSeen (length book.now.codes) seen.old }
+    requires place { place < length book.now.codes }
+    ensures over { IsOver (length book.now.codes) (left_items book.now day chosen.now) solver.new }
+    ensures seen { IsSeen book.now day chosen.now seen.new }
+    ensures all { AllSeen (length book.now.codes) seen.new }
+    ensures state { IfOk result (IsState book.now day chosen.now budget place) }
+{
+    if is_chosen(chosen, place) {
+        return Ok(CodeState::Ordered);
+    }
+    match seen.only_value(place) {
+        Some(value) => state_beside(book, day, chosen, budget, solver, seen, hints, place, value),
+        None => Ok(CodeState::Open),
+    }
+}
+
+fn is_chosen(chosen: &[u32], place: u32) -> bool
+    ensures { result ≡ is_chosen chosen.now place }
+{
+    chosen.iter().any(|code| *code == place)
+}
+
+// The state of a code of which some car shows this value. The other value is looked for.
+fn state_beside(
+    book: &Book,
+    day: Day,
+    chosen: &[u32],
+    budget: u32,
+    solver: &mut Solver,
+    seen: &mut Seen,
+    hints: &mut Vec<Lit>,
+    place: u32,
+    value: bool,
+) -> Result<CodeState, Memory>
+    requires chosen { AreChosen book.now chosen.now }
+    requires further { is_chosen chosen.now place ≡ false }
+    requires some { 0 < budget }
+    requires most { budget ≤ MOST_BUDGET }
+    requires over { IsOver (length book.now.codes) (left_items book.now day chosen.now) solver.old }
+    requires seen { IsSeen book.now day chosen.now seen.old }
+    requires all { AllSeen (length book.now.codes) seen.old }
+    requires place { place < length book.now.codes }
+    requires shown { IsShown book.now day chosen.now place value }
+    ensures over { IsOver (length book.now.codes) (left_items book.now day chosen.now) solver.new }
+    ensures seen { IsSeen book.now day chosen.now seen.new }
+    ensures all { AllSeen (length book.now.codes) seen.new }
+    ensures state { IfOk result (IsState book.now day chosen.now budget place) }
+{
+    seen.hint_new(hints)?;
+    solver.prefer(hints);
+    let outcome = ask_value(book, day, chosen, place, !value, budget, solver)?;
+    match outcome {
+        Outcome::Shown(car) => {
+            see(book, day, chosen, seen, &car);
+            Ok(CodeState::Open)
+        }
+        Outcome::NotShown(_) => Ok(refuted(value)),
+        Outcome::Left(learnt) => Ok(CodeState::Undecided(learnt)),
+    }
+}
+
+// The state of a code that each car shows with this value.
+fn refuted(value: bool) -> CodeState
+    ensures { result ≡ (if value then state.Forced else state.Excluded) }
+{
+    if value {
+        CodeState::Forced
+    } else {
+        CodeState::Excluded
+    }
+}
