@@ -1,0 +1,4 @@
+pub mod ListLaws
+mod EntryLaws
+mod CodeLaws
+mod ShrinkLaws

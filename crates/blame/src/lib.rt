@@ -1,0 +1,14 @@
+//! A car that meets a rule, or the rules that are to blame that none does.
+#![tactic(auto)]
+
+mod blamed;
+mod coding;
+mod entries;
+mod looking;
+mod shrinking;
+mod telling;
+mod used;
+
+pub use blamed::{Blamed, Told};
+pub use entries::Entry;
+pub use telling::find_or_blame;

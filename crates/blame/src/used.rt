@@ -1,0 +1,65 @@
+//! Which given clauses a derived clause rests on. That is a hint: nothing is claimed of it.
+ghost use Rattle.std.specs.Prelude.{◌<◌, length};
+
+use clause_pool::{Kernel, Ref};
+use pb_base::Memory;
+use std::alloc::Global;
+
+/// For each run of given clauses, of which these are the first ones, whether the clause at a place rests on one of them. A run ends
+/// where the next begins; the last has none.
+pub(crate) fn used_marks(
+    alloc: Global,
+    kernel: &Kernel,
+    at: Ref,
+    starts: &[Ref],
+) -> Result<Vec<bool>, Memory> {
+    let used = used_clauses(alloc, kernel, at)?;
+    let mut marks = Vec::new(alloc);
+    for place in 0..starts.len() {
+        let end = match starts.get(place + 1) {
+            Some(next) => *next,
+            None => 0,
+        };
+        marks.push(is_used_between(&used, starts[place], end))?;
+    }
+    Ok(marks)
+}
+
+// For each clause of the kernel, whether that at a place rests on it.
+fn used_clauses(alloc: Global, kernel: &Kernel, at: Ref) -> Result<Vec<bool>, Memory> {
+    let mut used = vec![in alloc; false; kernel.pool().len()]?;
+    mark(&mut used, at);
+    for place in (kernel.given()..kernel.pool().len()).rev() {
+        if used.get(place) == Some(&true) {
+            mark_chain(&mut used, kernel, place);
+        }
+    }
+    Ok(used)
+}
+
+fn mark(used: &mut [bool], at: Ref) {
+    match used.get_mut(at) {
+        Some(mark) => *mark = true,
+        None => {}
+    }
+}
+
+fn mark_chain(used: &mut [bool], kernel: &Kernel, at: Ref)
+    requires { at < length kernel.now.clauses }
+{
+    if let Some(start) = kernel.start_of(at) {
+        mark(used, start);
+    }
+    for pair in kernel.pairs_of(at) {
+        mark(used, pair.pair().with);
+    }
+}
+
+fn is_used_between(used: &[bool], first: Ref, end: Ref) -> bool {
+    for at in first..end {
+        if used.get(at) == Some(&true) {
+            return true;
+        }
+    }
+    false
+}

@@ -1,0 +1,2 @@
+mod AcceptLaws
+mod PassLaws

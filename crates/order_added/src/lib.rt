@@ -1,0 +1,7 @@
+//! Codes that are added to an order so that it is accepted, none of them without need.
+#![tactic(auto)]
+
+mod accepting;
+mod adding;
+
+pub use adding::add;

@@ -1,0 +1,3 @@
+mod PlaceLaws
+mod OrderLaws
+mod RepairLaws

@@ -1,0 +1,4 @@
+pub mod Places
+pub mod Ordered
+pub mod Repair
+pub mod RepairText

@@ -1,0 +1,2 @@
+mod FindLaws
+mod StayLaws
