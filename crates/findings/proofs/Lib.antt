@@ -6,4 +6,9 @@ pub mod BookLaws
 pub mod SolverLaws
 pub mod AgainLaws
 pub mod LeftLaws
+pub mod CoreLaws
+pub mod AssumeLaws
+pub mod QuestionSteps
+pub mod QuestionRanges
+pub mod CoreTold
 mod WorkedReports

@@ -87,7 +87,7 @@ parts_more {X} {N} IsPart [] x notes own h part = (own, [], ap (λ (l : List N).
 parts_more {X} {N} IsPart (y ∷ xs) x notes own h part =
     (h.0, h.1 ++ own, ap (λ (l : List N). l ++ own) h.2 ∙ append_assoc h.0 h.1 own, h.3, parts_more IsPart xs x h.1 own h.4 part)
 
-own_notes : (i : Inquiry) (s : Slice) (clauses : List (List ℕ)) (a : Asked) (outcome : Outcome) → IsOutcome i s clauses a outcome → OwnNotes i s a (notes_of outcome)
+pub own_notes : (i : Inquiry) (s : Slice) (clauses : List (List ℕ)) (a : Asked) (outcome : Outcome) → IsOutcome i s clauses a outcome → OwnNotes i s a (notes_of outcome)
 own_notes i s clauses a Fine h = h.0
 own_notes i s clauses a (Closed at) h = h.0
 own_notes i s clauses a (Noted note) h = h.0

@@ -3,3 +3,4 @@ pub mod Notes
 pub mod Left
 pub mod Outcomes
 pub mod Answering
+pub mod Core

@@ -89,8 +89,8 @@ fn answer_by_search(
     }
 }
 
-// What comes of a question whose goal a set meets, which is kept.
-fn keep(
+/// What comes of a question whose goal a set meets, which is kept.
+pub(crate) fn keep(
     alloc: Global,
     book: &Book,
     day: Day,

@@ -15,6 +15,7 @@ ghost use Rattle.findings.specs.Answering.{IsShownIn, ShowsUnlessStopped, inquir
 ghost use Rattle.derivation.specs.Accepted.{IsAccepted};
 ghost use Rattle.pb_base.specs.declared.limits.TheConstants.{MOST_BUDGET, MOST_QUESTIONS};
 
+use crate::core_report::report_slice;
 use crate::earlier::Earlier;
 use crate::laws::book_laws;
 use crate::report::{Ask, Note, Report, Verdict};
@@ -136,11 +137,7 @@ fn report_each(
             slice: *slice,
             effort,
         };
-        let checked = check_slice(alloc, book, task, earlier)?;
-        let SliceCheck {
-            mut notes,
-            proof: _,
-        } = checked;
+        let mut notes = report_slice(alloc, book, task, earlier)?;
         all.append(&mut notes)?;
     }
     Ok(())

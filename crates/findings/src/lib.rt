@@ -3,15 +3,22 @@
 #![tactic(auto)]
 
 mod answer;
+mod assuming;
 mod check;
+mod core_known;
+mod core_pairs;
+mod core_report;
+mod cores;
 mod earlier;
 mod known;
 mod laws;
 mod outcome;
 mod pairs;
+mod questions;
 mod refuting;
 mod report;
 mod slice;
+mod slice_core;
 mod task;
 
 pub use check::{Checked, check_book, report_book};

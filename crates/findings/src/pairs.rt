@@ -1,6 +1,6 @@
 //! The pairs of variants, asked before the other questions of the positions. A refutation then rests on no answer of those,
 //! so it stands in a later slice too where only they change. No answer hangs on it.
-ghost use Rattle.std.specs.Prelude.{◌≡◌, ◌<◌, ◌≤◌, All, length};
+ghost use Rattle.std.specs.Prelude.{◌<◌, All, length};
 ghost use Rattle.slice_hints.specs.Found.{IsFound};
 ghost use Rattle.solver.specs.Solver.{Onwards};
 ghost use Rattle.findings.specs.Answering.{IsTask, IsAsked, IsOver};
@@ -8,16 +8,13 @@ ghost use Rattle.findings.specs.Answering.{IsTask, IsAsked, IsOver};
 use crate::answer::answer;
 use crate::known::Known;
 use crate::outcome::Outcome;
-use crate::task::{Effort, SliceTask};
+use crate::task::{SliceTask, with_few};
 use book_model::Book;
 use clausify::Asked;
 use pb_base::Memory;
 use slice_hints::{Sets, by_second, implied, is_pair, may_be_met, pairs_at};
 use solver::Solver;
 use std::alloc::Global;
-
-// Behind so many learnt clauses a pair is left until its turn comes.
-const PAIR_BUDGET: u32 = 1_000;
 
 /// Looks for what answers the questions for pairs.
 #[tactic(auto, using(solver::proofs::PoolLaws::onwards_same, solver::proofs::PoolLaws::onwards_twice))]
@@ -52,17 +49,6 @@ pub(crate) fn answer_pairs(
         }
     }
     Ok(())
-}
-
-// The same with no more clauses than may be learnt for a pair before its turn.
-fn with_few(effort: Effort) -> Effort
-    ensures some { 0 < effort.budget → 0 < result.budget }
-    ensures most { result.budget ≤ effort.budget }
-{
-    Effort {
-        ask: effort.ask,
-        budget: effort.budget.min(PAIR_BUDGET),
-    }
 }
 
 // Refutes the pair at a place of the questions without a search, if it can, and those of its position before the first of them.

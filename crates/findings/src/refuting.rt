@@ -20,6 +20,10 @@ enum Derived {
     False(Lit, Implied),
     // The clause at this place is false by the two that the goal implies.
     Conflict(Lit, Implied, Implied, Ref),
+    // This literal is false, where it is, by what was assumed.
+    Against(Lit),
+    // The clause at this place is false by what was assumed, this literal and another one.
+    Core(Lit, Ref),
 }
 
 /// A refuter of the goals of a solver. What it answers is a hint: a clause is looked at before it counts.
@@ -46,6 +50,14 @@ impl<'a> Deriver for Refuting<'a> {
                 self.found = self
                     .refuter
                     .close_conflict(kernel, engine, goal, &implied, at)?;
+                Ok(())
+            }
+            Derived::Against(lit) => {
+                self.found = self.refuter.core_against(kernel, engine, lit)?;
+                Ok(())
+            }
+            Derived::Core(assumed, at) => {
+                self.found = self.refuter.core_of_conflict(kernel, engine, assumed, at)?;
                 Ok(())
             }
         }
@@ -144,6 +156,77 @@ impl<'a> Refuting<'a> {
             return Ok(None);
         };
         let found = self.derive_next(solver, Derived::Conflict(goal, *first, *second, at))?;
+        self.forget();
+        Ok(found)
+    }
+
+    /// The place of a clause of the complements of two literals, or of one of them, where propagation of the first makes one of
+    /// them false. While the same literal is the first, it is propagated once.
+    #[tactic(auto, using(solver::proofs::PoolLaws::onwards_equal, solver::proofs::PoolLaws::onwards_after))]
+    pub(crate) fn against(
+        &mut self,
+        solver: &mut Solver,
+        first: Lit,
+        second: Lit,
+    ) -> Result<Option<Ref>, Memory>
+        ensures { Onwards solver.old solver.new }
+    {
+        let is_new = solver.assume(first)?;
+        if is_new {
+            self.forget();
+        }
+        self.against_one(solver, first, second)
+    }
+
+    // The same where what is assumed is propagated.
+    #[tactic(auto, using(solver::proofs::PoolLaws::onwards_twice))]
+    fn against_one(
+        &mut self,
+        solver: &mut Solver,
+        first: Lit,
+        second: Lit,
+    ) -> Result<Option<Ref>, Memory>
+        ensures { Onwards solver.old solver.new }
+    {
+        let found = self.derive_next(solver, Derived::Against(second))?;
+        if found.is_some() {
+            return Ok(found);
+        }
+        self.derive_next(solver, Derived::Against(first))
+    }
+
+    /// The same where both are assumed, one after the other.
+    #[tactic(auto, using(solver::proofs::PoolLaws::onwards_twice))]
+    pub(crate) fn against_both(
+        &mut self,
+        solver: &mut Solver,
+        first: Lit,
+        second: Lit,
+    ) -> Result<Option<Ref>, Memory>
+        ensures { Onwards solver.old solver.new }
+    {
+        let found = self.against(solver, first, second)?;
+        if found.is_some() {
+            return Ok(found);
+        }
+        self.core_of(solver, first, second)
+    }
+
+    // Assumes the second literal too, and derives from the clause that is false then, if one is.
+    #[tactic(auto, using(solver::proofs::PoolLaws::onwards_equal, solver::proofs::PoolLaws::onwards_after))]
+    fn core_of(
+        &mut self,
+        solver: &mut Solver,
+        first: Lit,
+        second: Lit,
+    ) -> Result<Option<Ref>, Memory>
+        ensures { Onwards solver.old solver.new }
+    {
+        let conflict = solver.assume_further(second)?;
+        let Some(at) = conflict else {
+            return Ok(None);
+        };
+        let found = self.derive_next(solver, Derived::Core(first, at))?;
         self.forget();
         Ok(found)
     }

@@ -111,9 +111,9 @@ fn check_coded(
     conclude(book, &task.slice, told, solver, earlier)
 }
 
-// A solver over the clauses of a slice, with what can be derived again of the slice before.
+/// A solver over clauses of a slice, with what can be derived again of the slice before.
 #[tactic(auto, using(crate::proofs::AgainLaws::over_grown, crate::proofs::AgainLaws::below_grown))]
-fn begin(
+pub(crate) fn begin(
     alloc: Global,
     book: &Book,
     slice: &Slice,
@@ -282,6 +282,19 @@ fn behind_first(questions: &[Asked]) -> &[Asked]
     &questions[1..]
 }
 
+/// The notes of a slice without a good set.
+pub(crate) fn void_note(alloc: Global, slice: &Slice) -> Result<Vec<Note>, Memory>
+    ensures { IfOk result (λ notes. notes.items
+        ≡ Note.Days slice.now.first slice.now.last ∷ Note.Finding Question.Void None ∷ []) }
+{
+    let mut notes = days_note(alloc, slice)?;
+    notes.push(Note::Finding {
+        question: Question::Void,
+        set: None,
+    })?;
+    Ok(notes)
+}
+
 // The notes of a slice of which only Void was asked.
 fn only_void(alloc: Global, slice: &Slice, note: Note) -> Result<SliceTold, Memory>
     ensures notes { IfOk result (λ t. t.notes.items
@@ -362,8 +375,8 @@ fn ask_later(
     Ok(told)
 }
 
-// This set, and those of the slice before that are good in this one too.
-fn first_sets(
+/// This set, and those of the slice before that are good in this one too.
+pub(crate) fn first_sets(
     alloc: Global,
     book: &Book,
     slice: &Slice,
@@ -407,8 +420,12 @@ fn put_together(alloc: Global, slice: &Slice, told: Told, set: CodeSet) -> Resul
     Ok(shown_unless(stopped, notes, Shown { set, closed }))
 }
 
-// The notes of a slice whose questions have these.
-fn with_days(alloc: Global, slice: &Slice, own: &mut Vec<Note>) -> Result<Vec<Note>, Memory>
+/// The notes of a slice whose questions have these.
+pub(crate) fn with_days(
+    alloc: Global,
+    slice: &Slice,
+    own: &mut Vec<Note>,
+) -> Result<Vec<Note>, Memory>
     ensures { IfOk result (λ notes. notes.items
         ≡ Note.Days slice.now.first slice.now.last ∷ own.old.items) }
 {

@@ -1,5 +1,5 @@
 //! Goals that the propagation of what they imply refutes, closed without a search.
-ghost use Rattle.std.specs.Prelude.{IfOk, IfSome};
+ghost use Rattle.std.specs.Prelude.{◌<◌, length, IfOk, IfSome};
 ghost use Rattle.chains.specs.Growth.{ClosedBy, Grows};
 
 use crate::shortcut::{Shortcuts, next_ahead, put_others, way_back};
@@ -16,6 +16,17 @@ use std::mem::replace;
 pub struct Implied {
     pub lit: Lit,
     pub by: Ref,
+}
+
+// Where a way back ends.
+#[derive(Clone, Copy)]
+enum End<'a> {
+    // At shared disjunctions.
+    Shared,
+    // At a goal, which implies what was assumed.
+    Goal(&'a [Implied]),
+    // At what was assumed.
+    Assumed,
 }
 
 /// A chain in the making: its pairs, and the places of the trail that it has to come to, the latest first.
@@ -121,7 +132,7 @@ fn derive_shared(
 {
     walk.is_last = false;
     walk.begin(engine, kernel.pool(), at, goal)?;
-    go_back(kernel, engine, shortcuts, walk, &[])?;
+    go_back(kernel, engine, shortcuts, walk, End::Shared)?;
     let derived = derive(kernel, at, &walk.pairs)?;
     Ok(derived.unwrap_or(at))
 }
@@ -141,22 +152,21 @@ fn close_from(
     ensures closed { IfOk result (λ found. IfSome found (ClosedBy kernel.new goal)) }
 {
     walk.begin(engine, kernel.pool(), start, goal)?;
-    go_back(kernel, engine, shortcuts, walk, implied)?;
+    go_back(kernel, engine, shortcuts, walk, End::Goal(implied))?;
     let Some(at) = derive(kernel, start, &walk.pairs)? else {
         return Ok(None);
     };
     Ok(refuting_unit(kernel, goal, at))
 }
 
-// Puts down the pairs that lead back along the trail, to what the goal implies and there on to the goal. Without that they lead
-// to shared disjunctions and no further.
+// Puts down the pairs that lead back along the trail to this end.
 #[tactic(auto, using(chains::proofs::GrowthLaws::grows_same))]
 fn go_back(
     kernel: &mut Kernel,
     engine: &Engine,
     shortcuts: &mut Shortcuts,
     walk: &mut Walk,
-    implied: &[Implied],
+    to: End<'_>,
 ) -> Result<(), Memory>
     ensures { Grows kernel.old kernel.new }
 {
@@ -166,7 +176,7 @@ fn go_back(
             return Ok(());
         };
         end = place;
-        step_back(kernel, engine, shortcuts, walk, implied, place)?;
+        step_back(kernel, engine, shortcuts, walk, to, place)?;
     }
     Ok(())
 }
@@ -178,7 +188,7 @@ fn step_back(
     engine: &Engine,
     shortcuts: &mut Shortcuts,
     walk: &mut Walk,
-    implied: &[Implied],
+    to: End<'_>,
     place: usize,
 ) -> Result<(), Memory>
     ensures { Grows kernel.old kernel.new }
@@ -186,7 +196,7 @@ fn step_back(
     let Some(lit) = engine.trail().get(place).copied() else {
         return Ok(());
     };
-    if implied.is_empty() && shortcuts.is_shared(lit.var()) {
+    if to.is_shared() && shortcuts.is_shared(lit.var()) {
         return Ok(());
     }
     match engine.reason_at(place) {
@@ -195,10 +205,24 @@ fn step_back(
             let with = way_back(kernel, engine, shortcuts, place, reason, is_last)?;
             walk.step(engine, kernel.pool(), lit, with)
         }
-        None => match by(implied, lit) {
+        None => match to.by(lit) {
             Some(with) => walk.step(engine, kernel.pool(), lit, with),
             None => Ok(()),
         },
+    }
+}
+
+impl End<'_> {
+    fn is_shared(self) -> bool {
+        matches!(self, End::Shared)
+    }
+
+    // The clause by which a goal implies what was assumed.
+    fn by(self, lit: Lit) -> Option<Ref> {
+        match self {
+            End::Goal(implied) => by(implied, lit),
+            End::Shared | End::Assumed => None,
+        }
     }
 }
 
@@ -210,4 +234,72 @@ fn by(implied: &[Implied], lit: Lit) -> Option<Ref> {
         }
     }
     None
+}
+
+/// The place of a clause of the complement of a literal that is false on the trail, and of those of literals that were assumed,
+/// if there is one.
+#[tactic(auto, using(chains::proofs::GrowthLaws::grows_same))]
+pub(crate) fn core_against(
+    kernel: &mut Kernel,
+    engine: &Engine,
+    shortcuts: &mut Shortcuts,
+    walk: &mut Walk,
+    lit: Lit,
+) -> Result<Option<Ref>, Memory>
+    ensures { Grows kernel.old kernel.new }
+{
+    let Some(place) = place_against(engine, lit) else {
+        return Ok(None);
+    };
+    let Some(reason) = engine.reason_at(place) else {
+        return Ok(None);
+    };
+    let start = way_back(kernel, engine, shortcuts, place, reason, true)?;
+    core_from(kernel, engine, shortcuts, walk, lit, start)
+}
+
+// The place of the trail at which a literal is false.
+fn place_against(engine: &Engine, lit: Lit) -> Option<usize>
+    ensures { IfSome result (λ place. place < length engine.now.lits) }
+{
+    if lit.var() >= engine.vars() || engine.value(lit) != Some(false) {
+        return None;
+    }
+    engine.place_of(lit.var())
+}
+
+/// The place of a clause of complements of literals that were assumed, this one among them, where the clause at a place is false.
+/// What that says of disjunctions alone is derived first.
+#[tactic(auto, using(chains::proofs::GrowthLaws::grows_same))]
+pub(crate) fn core_of_conflict(
+    kernel: &mut Kernel,
+    engine: &Engine,
+    shortcuts: &mut Shortcuts,
+    walk: &mut Walk,
+    assumed: Lit,
+    at: Ref,
+) -> Result<Option<Ref>, Memory>
+    ensures { Grows kernel.old kernel.new }
+{
+    let start = derive_shared(kernel, engine, shortcuts, walk, assumed, at)?;
+    core_from(kernel, engine, shortcuts, walk, assumed, start)
+}
+
+// The place of a clause of complements of what was assumed, and of this literal's, derived from one that is false but for it.
+#[tactic(auto, using(chains::proofs::GrowthLaws::grows_same))]
+fn core_from(
+    kernel: &mut Kernel,
+    engine: &Engine,
+    shortcuts: &mut Shortcuts,
+    walk: &mut Walk,
+    lit: Lit,
+    start: Ref,
+) -> Result<Option<Ref>, Memory>
+    ensures { Grows kernel.old kernel.new }
+{
+    walk.is_last = false;
+    walk.begin(engine, kernel.pool(), start, lit)?;
+    go_back(kernel, engine, shortcuts, walk, End::Assumed)?;
+    let derived = derive(kernel, start, &walk.pairs)?;
+    Ok(Some(derived.unwrap_or(start)))
 }

@@ -2,7 +2,7 @@
 ghost use Rattle.std.specs.Prelude.{IfOk, IfSome};
 ghost use Rattle.chains.specs.Growth.{ClosedBy, Grows};
 
-use crate::refute::{Implied, Walk, close_conflict, close_false};
+use crate::refute::{Implied, Walk, close_conflict, close_false, core_against, core_of_conflict};
 use crate::share::share_disjunctions;
 use crate::shortcut::Shortcuts;
 use clause_pool::{Kernel, Lit, Ref};
@@ -97,6 +97,39 @@ impl Refuter {
             &mut self.walk,
             goal,
             implied,
+            at,
+        )
+    }
+
+    /// The place of a clause of complements of what was assumed and of this literal, which is false on the trail, where one is
+    /// found.
+    pub fn core_against(
+        &mut self,
+        kernel: &mut Kernel,
+        engine: &Engine,
+        lit: Lit,
+    ) -> Result<Option<Ref>, Memory>
+        ensures { Grows kernel.old kernel.new }
+    {
+        core_against(kernel, engine, &mut self.shortcuts, &mut self.walk, lit)
+    }
+
+    /// The same of complements of what was assumed, this literal among it, where the clause at this place is false on the trail.
+    pub fn core_of_conflict(
+        &mut self,
+        kernel: &mut Kernel,
+        engine: &Engine,
+        assumed: Lit,
+        at: Ref,
+    ) -> Result<Option<Ref>, Memory>
+        ensures { Grows kernel.old kernel.new }
+    {
+        core_of_conflict(
+            kernel,
+            engine,
+            &mut self.shortcuts,
+            &mut self.walk,
+            assumed,
             at,
         )
     }

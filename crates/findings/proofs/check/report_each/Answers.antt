@@ -19,6 +19,6 @@ loop-slice-preserved c =
       notes =
           subst (λ (ss : List Slice). InParts (SliceNotes i) ss c.append.new.self.items) (sym next)
           (subst (InParts (SliceNotes i) (take k slices ++ s ∷ [])) (sym c.in_ok-append.ensures.items)
-          (parts_more (SliceNotes i) (take k slices) s c.loop-slice.all.items c.in_ok-checked.checked.notes.items c.loop-slice.invariant.notes c.in_ok-checked.ensures.notes));
-      earlier = c.in_ok-checked.ensures.earlier;
+          (parts_more (SliceNotes i) (take k slices) s c.loop-slice.all.items c.in_ok-notes.notes.items c.loop-slice.invariant.notes c.in_ok-notes.ensures.notes));
+      earlier = c.in_ok-notes.ensures.earlier;
     }
