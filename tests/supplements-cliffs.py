@@ -4,9 +4,9 @@
     tests/supplements-cliffs.py [PROGRAM]
 
 PROGRAM is crates/partsbook/out/partsbook without the word. The books are: 10,000 rules of 27 codes each that one code touches, and
-256 supplementing rules that add it (1 MB); 5,000 supplementing rules that add one code, and 10,000 rules of it; 200 and 200 rules
+256 supplementing rules that add it (0.8 MB); 5,000 supplementing rules that add one code, and 10,000 rules of it; 200 and 200 rules
 over 18 codes of which each of the first makes each of the second false (23 kB). The first two are to take at most twice the memory
-and three times the time of `check`, the third at most 3 seconds.
+and three times the time of `check`, the third at most 3 seconds. Times are those of the processor.
 
 It isn't part of the gate. It needs the built program and python3. The status is 1 where a book takes more."""
 
@@ -15,7 +15,6 @@ import resource
 import subprocess
 import sys
 import tempfile
-import time
 
 TOP = os.path.dirname(os.path.dirname(os.path.abspath(__file__)))
 PROGRAM = os.path.join(TOP, "crates", "partsbook", "out", "partsbook")
@@ -24,12 +23,13 @@ MEMORY = 12 * 2 ** 30
 
 def long_rules():
     """Each rule of K asks for one of 27 codes."""
-    codes = ["K"] + ["C%d" % n for n in range(40)]
-    rows = ["book,LONG,1,10"] + ["code,%s," % code for code in codes]
+    letters = list("ABCDEFGHIJLMNOPQRSTUVWXYZ")
+    codes = letters + ["B" + letter for letter in letters[:15]]
+    rows = ["book,LONG,1,10"] + ["code,%s," % code for code in ["K"] + codes]
     for n in range(256):
-        rows.append("supplement,S%d,%d,K,C%d,," % (n, n + 1, n % 40))
+        rows.append("supplement,S%d,%d,K,%s,," % (n, n + 1, codes[n % 40]))
     for n in range(10_000):
-        asked = "/".join("C%d" % ((n + k) % 40) for k in range(27))
+        asked = "/".join(codes[(n + k) % 40] for k in range(27))
         rows.append("construct,R%d,K,%s,," % (n, asked))
     return rows
 
@@ -53,8 +53,7 @@ def pairs():
 
 
 def run(program, words, book):
-    """The status, the seconds and the most megabytes that a run takes."""
-    begun = time.monotonic()
+    """The status, the seconds of processor and the most megabytes that a run takes."""
     with tempfile.TemporaryFile() as out, open(book, "rb") as text:
         child = subprocess.Popen(
             [program, *words], stdin=text, stdout=out,
@@ -62,7 +61,7 @@ def run(program, words, book):
         )
         _, status, use = os.wait4(child.pid, 0)
         child.returncode = os.waitstatus_to_exitcode(status)
-    return child.returncode, time.monotonic() - begun, use.ru_maxrss / 1024
+    return child.returncode, use.ru_utime + use.ru_stime, use.ru_maxrss / 1024
 
 
 def main():

@@ -16,7 +16,7 @@ use Rattle.book_model.specs.declared.record.Supplement.{Supplement}
 use Rattle.clausify.specs.Questions.{and_none, none_rule}
 use Rattle.clausify.proofs.ListLaws.{all-append, all-map, all_filtered, all_weaker}
 use Rattle.clausify.proofs.ItemLaws.{AllBelow}
-use Rattle.supplement_findings.specs.Clauses.{own, all_own}
+use Rattle.supplement_findings.specs.Clauses.{own, and_all, all_rule, unbroken_rules, other_own, all_other, shared_rules, asked_rules}
 use Rattle.supplement_findings.specs.Questions.{no_rule, rule_at, QuestionFits}
 use Rattle.supplement_findings.specs.Touching.{touches, no_other, after, touched, afters}
 use Rattle.supplement_findings.specs.declared.question.SupplementQuestion.{SupplementQuestion}
@@ -72,7 +72,32 @@ own_below b day (Swaps first second) book fits =
     let below_t : codes_below n t.rule ≡ true = (supplement_fits b second book fits.1).rule.in_range in
     (below_s, (below_t, (codes_below-with_present n s.code t.rule below_t, (codes_below-with_present n t.code s.rule below_s, tt))))
 
-pub all_own_below : (b : Contents) (day : ℕ) (qs : List SupplementQuestion) → IsBook b → AllByRecursion (QuestionFits b) qs → AllBelow (length b.codes) (all_own b day qs)
-all_own_below b day [] book fits = tt
-all_own_below b day (q ∷ qs) book fits =
-    all-append (λ (f : Rule). codes_below (length b.codes) f ≡ true) (own b day q) (all_own b day qs) (own_below b day q book fits.0) (all_own_below b day qs book fits.1)
+below_and_all : (n : ℕ) (f : Rule) (gs : List Rule) → codes_below n f ≡ true → AllBelow n gs → codes_below n (and_all f gs) ≡ true
+below_and_all n f [] h hs = h
+below_and_all n f (g ∷ gs) h hs = below_and_all n (both f g) gs (and_from _ _ h hs.0) hs.1
+
+below_all_rule : (n : ℕ) (fs : List Rule) → AllBelow n fs → codes_below n (all_rule fs) ≡ true
+below_all_rule n [] hs = refl
+below_all_rule n (f ∷ fs) hs = below_and_all n f fs hs.0 hs.1
+
+pub unbroken_below : (b : Contents) (day : ℕ) (codes : List ℕ) → IsBook b → AllBelow (length b.codes) (unbroken_rules b day codes)
+unbroken_below b day [] book = tt
+unbroken_below b day (c ∷ codes) book = (below_all_rule (length b.codes) (afters b day c) (below_afters b day c book), unbroken_below b day codes book)
+
+pub other_below : (b : Contents) (q : SupplementQuestion) → IsBook b → QuestionFits b q → AllBelow (length b.codes) (other_own b q)
+other_below b (Breaks place) book fits = ((supplement_fits b place book fits).rule.in_range, tt)
+other_below b (Swaps first second) book fits = own_below b 0 (Swaps first second) book fits
+
+all_other_below : (b : Contents) (qs : List SupplementQuestion) → IsBook b → AllByRecursion (QuestionFits b) qs → AllBelow (length b.codes) (all_other b qs)
+all_other_below b [] book fits = tt
+all_other_below b (q ∷ qs) book fits =
+    all-append (λ (f : Rule). codes_below (length b.codes) f ≡ true) (other_own b q) (all_other b qs) (other_below b q book fits.0) (all_other_below b qs book fits.1)
+
+shared_below : (b : Contents) (day : ℕ) (codes : List ℕ) (qs : List SupplementQuestion) → IsBook b → AllByRecursion (QuestionFits b) qs → AllBelow (length b.codes) (shared_rules b day codes qs)
+shared_below b day codes qs book fits =
+    all-append (λ (f : Rule). codes_below (length b.codes) f ≡ true) (unbroken_rules b day codes) (all_other b qs) (unbroken_below b day codes book) (all_other_below b qs book fits)
+
+pub asked_below : (b : Contents) (day : ℕ) (codes : List ℕ) (qs : List SupplementQuestion) → IsBook b → AllByRecursion (QuestionFits b) qs → AllBelow (length b.codes) (asked_rules b day codes qs)
+asked_below b day codes [] book fits = shared_below b day codes [] book fits
+asked_below b day codes (q ∷ []) book fits = own_below b day q book fits.0
+asked_below b day codes (p ∷ q ∷ qs) book fits = shared_below b day codes (p ∷ q ∷ qs) book fits

@@ -1,12 +1,12 @@
 -- The clauses of questions: a constructible set that shows what one of them asks for begins an assignment that satisfies the
 -- clauses with the variable of its goal true, and what satisfies them so begins with such a set.
-use Rattle.std.proofs.Common.{◌≡◌, ℕ, zero, suc, ◌+◌, ◌<◌, Bool, true, false, not, ◌&&◌, ◌||◌, eqb, List, [], ◌∷◌, ◌++◌, Some, length, map, drop, get_or, refl, sym, ap, subst, ◌∙◌, arith}
-use Rattle.std.specs.List.{list_any, slice_get, AllByRecursion}
-use Rattle.std.proofs.lemmas.Bool.{and_parts, and_from, or_left, not-true, false≢true}
+use Rattle.std.proofs.Common.{inl, inr, ◌≡◌, ℕ, zero, suc, ◌+◌, ◌<◌, Bool, true, false, not, ◌&&◌, ◌||◌, eqb, List, [], ◌∷◌, ◌++◌, Some, length, map, drop, get_or, refl, sym, ap, subst, ◌∙◌, arith}
+use Rattle.std.specs.List.{list_any, slice_get, AllByRecursion, AllZip}
+use Rattle.std.proofs.lemmas.Bool.{and_parts, and_from, or_left, not-true, cases_Bool, cond-true, cond-false, eqb-true, false≢true}
 use Rattle.std.proofs.lemmas.Option.{none-some, same_Some}
 use Rattle.std.proofs.lemmas.List.{map-append}
 use Rattle.pb_base.specs.Leaves.{with_present}
-use Rattle.pb_base.specs.Rule.{Rule, always, never, holds}
+use Rattle.pb_base.specs.Rule.{Rule, both, always, never, holds}
 use Rattle.pb_base.specs.Sets.{has}
 use Rattle.pb_base.proofs.LeafLaws.{holds-with_present}
 use Rattle.book_model.specs.Activity.{is_within}
@@ -21,14 +21,14 @@ use Rattle.clause_pool.proofs.ClauseLaws.{clause_true-clause_of}
 use Rattle.clause_pool.proofs.LiteralLaws.{is_true-complement}
 use Rattle.clausify.specs.Coded.{construct_variables}
 use Rattle.clausify.specs.Formulas.{connectives, formula_literal, literals_from}
-use Rattle.clausify.specs.Items.{Item, construct_items, free_item, encoded_items}
+use Rattle.clausify.specs.Items.{Item, construct_items, free_item, encoded_items, variables_of}
 use Rattle.clausify.proofs.FormulaLaws.{Names, Begins, names_first, names_last}
-use Rattle.clausify.proofs.ItemLaws.{AllFit, AllMeet, items_named, items_named-append, length-items_named, literals_true, free_items_fit, free_items_met, construct_items_fit, constructible_from_meets, meets_from_constructible}
+use Rattle.clausify.proofs.ItemLaws.{AllBelow, AllFit, AllMeet, items_named, items_named-append, length-items_named, literals_true, free_items_fit, free_items_met, construct_items_fit, constructible_from_meets, meets_from_constructible}
 use Rattle.clausify.proofs.LiftLaws.{lifted, IsLiftedOver, lift_items, IsOver, items_over}
 use Rattle.clausify.proofs.ListLaws.{all-append, all_first, all_last, all_weaker}
 use Rattle.clausify.proofs.Truth.{true_negative}
 use Rattle.supplement_findings.specs.Answering.{IsPosed}
-use Rattle.supplement_findings.specs.Clauses.{breaks_own, swaps_own, own, own_variables, breaks_lits, swaps_lits, question_lits, goal_clauses, all_own, all_lits, all_goal_clauses, asked_items, goals_start, questions_clauses}
+use Rattle.supplement_findings.specs.Clauses.{breaks_own, swaps_own, own, breaks_lits, swaps_lits, question_lits, goal_clauses, all_goal_clauses, and_all, all_rule, unbroken, unbroken_rules, unbroken_variables, other_own, other_lits, other_variables, all_other, all_other_lits, literal_with, shared_rules, shared_lits, asked_rules, asked_lits, asked_items, goals_start, questions_clauses}
 use Rattle.supplement_findings.specs.Ends.{with_code, breaks_with, swaps_with}
 use Rattle.supplement_findings.specs.Questions.{rule_at, meets, QuestionFits}
 use Rattle.supplement_findings.specs.Touching.{after, touched, afters}
@@ -36,7 +36,7 @@ use Rattle.supplement_findings.specs.declared.lits.QuestionLits.{QuestionLits}
 use Rattle.supplement_findings.specs.declared.lits.QuestionLits.TheVariants.{BreaksLits, SwapsLits}
 use Rattle.supplement_findings.specs.declared.question.SupplementQuestion.{SupplementQuestion}
 use Rattle.supplement_findings.specs.declared.question.SupplementQuestion.TheVariants.{Breaks, Swaps}
-use Rattle.supplement_findings.proofs.FitLaws.{supplement_fits, constructs_fit, own_below, all_own_below}
+use Rattle.supplement_findings.proofs.FitLaws.{supplement_fits, constructs_fit, own_below, unbroken_below, asked_below}
 use Rattle.supplement_findings.proofs.QuestionLaws.{breaks_over, swaps_over}
 use Rattle.supplement_findings.proofs.TouchLaws.{broken_after}
 
@@ -250,10 +250,10 @@ swaps_shown b day s t x within_s within_t active_s active_t apart len built =
     (sym (holds-with_present x t.code (subst (λ (m : ℕ). t.code < m) (sym len) within_t) s.rule))
     ∙ swaps_table (holds s.rule x) (has x s.code) (holds t.rule x) (has x t.code) (holds (with_present s.code t.rule) x) (holds (with_present t.code s.rule) x)
 
-pub meets_shown : (b : Contents) (day : ℕ) (q : SupplementQuestion) (x : List Bool) → IsBook b → IsPosed b day q → length x ≡ length b.codes → is_constructible b day x ≡ true
+pub meets_shown : (b : Contents) (day : ℕ) (codes : List ℕ) (q : SupplementQuestion) (x : List Bool) → IsBook b → IsPosed b day codes q → length x ≡ length b.codes → is_constructible b day x ≡ true
     → meets b day q x ≡ shown b day q x
-meets_shown b day (Breaks place) x book posed len built = breaks_shown b day (rule_at b place) x book (supplement_fits b place book posed.fits).code posed.put len built
-meets_shown b day (Swaps first second) x book posed len built =
+meets_shown b day codes (Breaks place) x book posed len built = breaks_shown b day (rule_at b place) x book (supplement_fits b place book posed.fits).code posed.put len built
+meets_shown b day codes (Swaps first second) x book posed len built =
     let both = and_parts (is_within (rule_at b first).from (rule_at b first).until day) (is_within (rule_at b second).from (rule_at b second).until day) posed.put in
     let apart = and_parts (not (eqb (rule_at b first).code (rule_at b second).code)) _ posed.fits.2 in
     swaps_shown b day (rule_at b first) (rule_at b second) x (supplement_fits b first book posed.fits.0).code (supplement_fits b second book posed.fits.1).code both.0 both.1
@@ -264,22 +264,65 @@ pub built_from_meets : (b : Contents) (day : ℕ) (q : SupplementQuestion) (x : 
 built_from_meets b day (Breaks place) x h = (breaks_over b day (rule_at b place) x h).built
 built_from_meets b day (Swaps first second) x h = (swaps_over b day (rule_at b first) (rule_at b second) x h).built
 
--- The names of the questions' formulas, each behind the other.
-abbrev NamesEach : (ℕ → Bool) → List Bool → Contents → ℕ → ℕ → List SupplementQuestion → Type 0
-NamesEach a x b day v [] = Unit {0}
-NamesEach a x b day v (q ∷ qs) = Names a x v (items_named (map free_item (own b day q))) × NamesEach a x b day (v + own_variables b day q) qs
+-- the formula of all is false just where one of them is
+or_false : (t : Bool) → t ≡ (t || false)
+or_false true = refl
+or_false false = refl
 
-names_each : (a : ℕ → Bool) (x : List Bool) (b : Contents) (day v : ℕ) (qs : List SupplementQuestion) → Names a x v (items_named (map free_item (all_own b day qs))) → NamesEach a x b day v qs
-names_each a x b day v [] h = tt
-names_each a x b day v (q ∷ qs) h =
-    let here : List Item = map free_item (own b day q) in
-    let later : List Item = map free_item (all_own b day qs) in
+not_both : (t u v : Bool) → (not (t && u) || v) ≡ (not t || (not u || v))
+not_both true u v = refl
+not_both false u v = refl
+
+not_and_all : (x : List Bool) (f : Rule) (gs : List Rule) → not (holds (and_all f gs) x) ≡ (not (holds f x) || list_any (λ g. not (holds g x)) gs)
+not_and_all x f [] = or_false (not (holds f x))
+not_and_all x f (g ∷ gs) = not_and_all x (both f g) gs ∙ not_both (holds f x) (holds g x) (list_any (λ h. not (holds h x)) gs)
+
+not_all_rule : (x : List Bool) (fs : List Rule) → not (holds (all_rule fs) x) ≡ list_any (λ f. not (holds f x)) fs
+not_all_rule x [] = refl
+not_all_rule x (f ∷ fs) = not_and_all x f fs
+
+any_after : (c : ℕ) (x : List Bool) (rs : List Construct) → list_any (λ f. not (holds f x)) (map (λ r. after c r.demand) rs) ≡ list_any (λ r. not (holds (after c r.demand) x)) rs
+any_after c x [] = refl
+any_after c x (r ∷ rs) = ap (λ t. not (holds (after c r.demand) x) || t) (any_after c x rs)
+
+pub not_unbroken : (b : Contents) (day c : ℕ) (x : List Bool) → not (holds (unbroken b day c) x) ≡ list_any (λ r. not (holds (after c r.demand) x)) (touched b day c)
+not_unbroken b day c x = not_all_rule x (afters b day c) ∙ any_after c x (touched b day c)
+
+-- the literal that stands with one of the codes has the truth of its formula
+literal_with_true : (a : ℕ → Bool) (x : List Bool) (rule : ℕ → Rule) (codes lits : List ℕ) (c : ℕ) → map (is_true a) lits ≡ map (λ f. holds f x) (map rule codes)
+    → list_any (λ k. eqb k c) codes ≡ true → is_true a (literal_with codes lits c) ≡ holds (rule c) x
+literal_with_true a x rule [] lits c all there = absurd (false≢true there)
+literal_with_true a x rule (k ∷ codes) [] c all there = absurd (cc)
+literal_with_true a x rule (k ∷ codes) (l ∷ lits) c all there =
+    let first : is_true a l ≡ holds (rule k) x = ap (λ (ts : List Bool). get_or ts 0 false) all in
+    let rest : map (is_true a) lits ≡ map (λ f. holds f x) (map rule codes) = ap (λ (ts : List Bool). drop 1 ts) all in
+    elim (cases_Bool (eqb k c)) [
+      | inl same ↦
+          ap (is_true a) (cond-true (eqb k c) l (literal_with codes lits c) same) ∙ first ∙ ap (λ (n : ℕ). holds (rule n) x) (eqb-true k c same)
+      | inr apart ↦
+          ap (is_true a) (cond-false (eqb k c) l (literal_with codes lits c) apart)
+          ∙ literal_with_true a x rule codes lits c rest (sym (ap (λ t. t || list_any (λ j. eqb j c) codes) apart) ∙ there)
+    ]
+
+abbrev NamesOf : (ℕ → Bool) → List Bool → ℕ → List Rule → Type 0
+NamesOf a x v fs = Names a x v (items_named (map free_item fs))
+
+-- the names of formulas, those of the others behind
+record NamesOfBoth (a : ℕ → Bool) (x : List Bool) (v : ℕ) (fs gs : List Rule) : Type 0 where
+  first : NamesOf a x v fs
+  then : NamesOf a x (v + variables_of (map free_item fs)) gs
+
+names_of_both : (a : ℕ → Bool) (x : List Bool) (v : ℕ) (fs gs : List Rule) → NamesOf a x v (fs ++ gs) → NamesOfBoth a x v fs gs
+names_of_both a x v fs gs h =
+    let here : List Item = map free_item fs in
+    let later : List Item = map free_item gs in
     let split : Names a x v (items_named here ++ items_named later) =
-    subst (λ (fs : List Rule). Names a x v fs) (ap items_named (map-append free_item (own b day q) (all_own b day qs)) ∙ items_named-append here later) h in (
-      names_first a x v (items_named here) (items_named later) split,
-      names_each a x b day (v + own_variables b day q) qs
-          (subst (λ (k : ℕ). Names a x (v + k) (items_named later)) (length-items_named here) (names_last a x v (items_named here) (items_named later) split)),
-    )
+    subst (λ (rs : List Rule). Names a x v rs) (ap items_named (map-append free_item fs gs) ∙ items_named-append here later) h in
+    record {
+      first = names_first a x v (items_named here) (items_named later) split;
+      then =
+          subst (λ (k : ℕ). Names a x (v + k) (items_named later)) (length-items_named here) (names_last a x v (items_named here) (items_named later) split);
+    }
 
 -- a rule that has this truth over every set
 abbrev truth_rule : Bool → Rule
@@ -293,30 +336,76 @@ holds-truth_rule false x = refl
 abbrev values : Contents → ℕ → List Bool → List SupplementQuestion → List Rule
 values b day x qs = map (λ q. truth_rule (meets b day q x)) qs
 
-module _ (b : Contents) (day : ℕ) (book : IsBook b) (x : List Bool) (len : length x ≡ length b.codes) (built : is_constructible b day x ≡ true)
-    (a : ℕ → Bool) (begins : Begins (length b.codes) (length b.codes) x a) where
-  goal_meets : (q : SupplementQuestion) (v : ℕ) → IsPosed b day q → Names a x v (items_named (map free_item (own b day q))) → goal_met a (question_lits b day v q) ≡ meets b day q x
-  goal_meets q v posed names = goal_shown b day q x a v book posed.fits begins names ∙ sym (meets_shown b day q x book posed len built)
+-- each goal is met just where its question is
+abbrev GoalsMean : (ℕ → Bool) → List Bool → Contents → ℕ → List QuestionLits → List SupplementQuestion → Type 0
+GoalsMean a x b day lits qs = AllZip (λ (q : SupplementQuestion) (l : QuestionLits). goal_met a l ≡ meets b day q x) qs lits
 
-  sat_goals : (v w : ℕ) (qs : List SupplementQuestion) → AllByRecursion (IsPosed b day) qs → NamesEach a x b day v qs → Names a x w (values b day x qs)
-      → Sat (all_goal_clauses w (all_lits b day v qs)) a
-  sat_goals v w [] posed names values_ = tt
-  sat_goals v w (q ∷ qs) posed names values_ =
-      all-append _ (goal_clauses w (question_lits b day v q)) _
-      (sat_goal a w (question_lits b day v q) (λ e. goal_meets q v posed.0 names.0 ∙ sym (holds-truth_rule (meets b day q x) x) ∙ sym values_.0 ∙ e))
-      (sat_goals (v + own_variables b day q) (w + 1) qs posed.1 names.1 values_.1)
+module _ (b : Contents) (day : ℕ) (codes : List ℕ) (book : IsBook b) (x : List Bool) (len : length x ≡ length b.codes) (built : is_constructible b day x ≡ true)
+    (a : ℕ → Bool) (begins : Begins (length b.codes) (length b.codes) x a) where
+  goal_meets : (q : SupplementQuestion) (v : ℕ) → IsPosed b day codes q → NamesOf a x v (own b day q) → goal_met a (question_lits b day v q) ≡ meets b day q x
+  goal_meets q v posed names = goal_shown b day q x a v book posed.fits begins names ∙ sym (meets_shown b day codes q x book posed len built)
+
+  -- the same where the literal of the question's code is known
+  other_meets : (known : List ℕ) (v : ℕ) (q : SupplementQuestion) → IsPosed b day codes q → map (is_true a) known ≡ map (λ f. holds f x) (unbroken_rules b day codes)
+      → NamesOf a x v (other_own b q) → goal_met a (other_lits b codes known v q) ≡ meets b day q x
+  other_meets known v (Swaps first second) posed are names =
+      goal_shown b day (Swaps first second) x a v book posed.fits begins names ∙ sym (meets_shown b day codes (Swaps first second) x book posed len built)
+  other_meets known v (Breaks place) posed are names =
+      let s : Supplement = rule_at b place in
+      let n : ℕ = length b.codes in
+      let fits = supplement_fits b place book posed.fits in
+      let u : ℕ = literal_with codes known s.code in
+      let fired : is_true a (formula_literal n v s.rule) ≡ holds s.rule x =
+      ap (λ (ts : List Bool). get_or ts 0 false) (literals_true n x a begins v (s.rule ∷ []) (fits.rule.in_range, tt) names) in
+      let unmet : (is_true a (complement u) || false) ≡ list_any (λ r. not (holds (after s.code r.demand) x)) (touched b day s.code) =
+      sym (or_false (is_true a (complement u))) ∙ is_true-complement a u ∙ ap not (literal_with_true a x (unbroken b day) codes known s.code are posed.read)
+      ∙ not_unbroken b day s.code x in
+      ap (λ t. t && (is_true a (literal s.code false) && (is_true a (complement u) || false))) fired
+      ∙ ap (λ t. holds s.rule x && (t && (is_true a (complement u) || false))) (absent_true b x a begins s.code fits.code)
+      ∙ ap (λ t. holds s.rule x && (not (has x s.code) && t)) unmet
+      ∙ sym (meets_shown b day codes (Breaks place) x book posed len built)
+
+  others_meet : (known : List ℕ) (v : ℕ) (qs : List SupplementQuestion) → AllByRecursion (IsPosed b day codes) qs → map (is_true a) known ≡ map (λ f. holds f x) (unbroken_rules b day codes)
+      → NamesOf a x v (all_other b qs) → GoalsMean a x b day (all_other_lits b codes known v qs) qs
+  others_meet known v [] posed are names = tt
+  others_meet known v (q ∷ qs) posed are names =
+      let both = names_of_both a x v (other_own b q) (all_other b qs) names in
+      (other_meets known v q posed.0 are both.first, others_meet known (v + other_variables b q) qs posed.1 are both.then)
+
+  shared_meet : (v : ℕ) (qs : List SupplementQuestion) → AllByRecursion (IsPosed b day codes) qs → NamesOf a x v (shared_rules b day codes qs)
+      → GoalsMean a x b day (shared_lits b day codes v qs) qs
+  shared_meet v qs posed names =
+      let both = names_of_both a x v (unbroken_rules b day codes) (all_other b qs) names in
+      let n : ℕ = length b.codes in
+      others_meet (literals_from n v (unbroken_rules b day codes)) (v + unbroken_variables b day codes) qs posed
+      (literals_true n x a begins v (unbroken_rules b day codes) (unbroken_below b day codes book) both.first) both.then
+
+  asked_meet : (v : ℕ) (qs : List SupplementQuestion) → AllByRecursion (IsPosed b day codes) qs → NamesOf a x v (asked_rules b day codes qs)
+      → GoalsMean a x b day (asked_lits b day codes v qs) qs
+  asked_meet v [] posed names = tt
+  asked_meet v (q ∷ []) posed names = (goal_meets q v posed.0 names, tt)
+  asked_meet v (p ∷ q ∷ qs) posed names = shared_meet v (p ∷ q ∷ qs) posed names
+
+  sat_goals : (w : ℕ) (qs : List SupplementQuestion) (lits : List QuestionLits) → GoalsMean a x b day lits qs → Names a x w (values b day x qs) → Sat (all_goal_clauses w lits) a
+  sat_goals w [] [] mean values_ = tt
+  sat_goals w [] (l ∷ lits) mean values_ = absurd mean
+  sat_goals w (q ∷ qs) [] mean values_ = absurd mean
+  sat_goals w (q ∷ qs) (l ∷ lits) mean values_ =
+      all-append _ (goal_clauses w l) _
+      (sat_goal a w l (λ e. mean.0 ∙ sym (holds-truth_rule (meets b day q x) x) ∙ sym values_.0 ∙ e))
+      (sat_goals (w + 1) qs lits mean.1 values_.1)
 
   -- the goal's variable is true only where the question is met
-  goal_at : (v w : ℕ) (qs : List SupplementQuestion) → AllByRecursion (IsPosed b day) qs → NamesEach a x b day v qs → Sat (all_goal_clauses w (all_lits b day v qs)) a
+  goal_at : (w : ℕ) (qs : List SupplementQuestion) (lits : List QuestionLits) → GoalsMean a x b day lits qs → Sat (all_goal_clauses w lits) a
       → (k : ℕ) (q : SupplementQuestion) → slice_get qs k ≡ Some q → a (w + k) ≡ true → meets b day q x ≡ true
-  goal_at v w [] posed names sat k q there on = absurd (none-some q there)
-  goal_at v w (p ∷ qs) posed names sat zero q there on =
-      let own_sat : Sat (goal_clauses w (question_lits b day v p)) a = all_first _ (goal_clauses w (question_lits b day v p)) _ sat in
+  goal_at w [] lits mean sat k q there on = absurd (none-some q there)
+  goal_at w (p ∷ qs) [] mean sat k q there on = absurd mean
+  goal_at w (p ∷ qs) (l ∷ lits) mean sat zero q there on =
       let here : a w ≡ true = ap a (let e : w ≡ w + zero = omega arith in e) ∙ on in
       subst (λ (r : SupplementQuestion). meets b day r x ≡ true) (same_Some p q there)
-      (sym (goal_meets p v posed.0 names.0) ∙ goal_from_sat a w (question_lits b day v p) own_sat here)
-  goal_at v w (p ∷ qs) posed names sat (suc k) q there on =
-      goal_at (v + own_variables b day p) (w + 1) qs posed.1 names.1 (all_last _ (goal_clauses w (question_lits b day v p)) _ sat) k q there
+      (sym mean.0 ∙ goal_from_sat a w l (all_first _ (goal_clauses w l) _ sat) here)
+  goal_at w (p ∷ qs) (l ∷ lits) mean sat (suc k) q there on =
+      goal_at (w + 1) qs lits mean.1 (all_last _ (goal_clauses w l) _ sat) k q there
       (ap a (let e : w + 1 + k ≡ w + suc k = omega arith in e) ∙ on)
 
 -- the variable of a question's goal has the question's value
@@ -328,22 +417,20 @@ value_at a b day x w (p ∷ qs) names zero q there =
 value_at a b day x w (p ∷ qs) names (suc k) q there =
     ap a (let e : w + suc k ≡ w + 1 + k = omega arith in e) ∙ value_at a b day x (w + 1) qs names.1 k q there
 
-posed_fit : (b : Contents) (day : ℕ) (qs : List SupplementQuestion) → AllByRecursion (IsPosed b day) qs → AllByRecursion (QuestionFits b) qs
-posed_fit b day qs posed = all_weaker (IsPosed b day) (QuestionFits b) (λ q h. h.fits) qs posed
+pub posed_fit : (b : Contents) (day : ℕ) (codes : List ℕ) (qs : List SupplementQuestion) → AllByRecursion (IsPosed b day codes) qs → AllByRecursion (QuestionFits b) qs
+posed_fit b day codes qs posed = all_weaker (IsPosed b day codes) (QuestionFits b) (λ q h. h.fits) qs posed
 
-pub asked_fit : (b : Contents) (day : ℕ) (qs : List SupplementQuestion) → IsBook b → AllByRecursion (QuestionFits b) qs → AllFit (length b.codes) (asked_items b day qs)
-asked_fit b day qs book fits =
-    all-append _ (construct_items b day) (map free_item (all_own b day qs)) (construct_items_fit b day book.constructs_fit)
-    (free_items_fit (length b.codes) (all_own b day qs) (all_own_below b day qs book fits))
+pub asked_fit : (b : Contents) (day : ℕ) (rules : List Rule) → IsBook b → AllBelow (length b.codes) rules → AllFit (length b.codes) (asked_items b day rules)
+asked_fit b day rules book below =
+    all-append _ (construct_items b day) (map free_item rules) (construct_items_fit b day book.constructs_fit) (free_items_fit (length b.codes) rules below)
 
-own_names : (b : Contents) (day : ℕ) (qs : List SupplementQuestion) (x : List Bool) (a : ℕ → Bool) → Names a x (length b.codes + 1) (items_named (asked_items b day qs))
-    → NamesEach a x b day (construct_variables b day) qs
-own_names b day qs x a h =
-    let rules : List Item = construct_items b day in
-    let mine : List Item = map free_item (all_own b day qs) in
-    let split : Names a x (length b.codes + 1) (items_named rules ++ items_named mine) = subst (λ (fs : List Rule). Names a x (length b.codes + 1) fs) (items_named-append rules mine) h in
-    names_each a x b day (construct_variables b day) qs
-    (subst (λ (k : ℕ). Names a x (length b.codes + 1 + k) (items_named mine)) (length-items_named rules) (names_last a x (length b.codes + 1) (items_named rules) (items_named mine) split))
+asked_names : (b : Contents) (day : ℕ) (rules : List Rule) (x : List Bool) (a : ℕ → Bool) → Names a x (length b.codes + 1) (items_named (asked_items b day rules))
+    → NamesOf a x (construct_variables b day) rules
+asked_names b day rules x a h =
+    let first : List Item = construct_items b day in
+    let mine : List Item = map free_item rules in
+    let split : Names a x (length b.codes + 1) (items_named first ++ items_named mine) = subst (λ (fs : List Rule). Names a x (length b.codes + 1) fs) (items_named-append first mine) h in
+    subst (λ (k : ℕ). Names a x (length b.codes + 1 + k) (items_named mine)) (length-items_named first) (names_last a x (length b.codes + 1) (items_named first) (items_named mine) split)
 
 -- an assignment that satisfies the clauses and meets a goal's literal
 pub record MeetsGoal (clauses : List (List ℕ)) (variable : ℕ) : Type 0 where
@@ -351,33 +438,40 @@ pub record MeetsGoal (clauses : List (List ℕ)) (variable : ℕ) : Type 0 where
   pub satisfies : Sat clauses assignment
   pub meets_it : assignment variable ≡ true
 
-pub lifts_to_goal : (b : Contents) (day : ℕ) (qs : List SupplementQuestion) → IsBook b → AllByRecursion (IsPosed b day) qs → (k : ℕ) (q : SupplementQuestion) → slice_get qs k ≡ Some q
-    → (x : List Bool) → length x ≡ length b.codes → meets b day q x ≡ true → MeetsGoal (questions_clauses b day qs) (goals_start b day qs + k)
-lifts_to_goal b day qs book posed k q there x len met =
+pub lifts_to_goal : (b : Contents) (day : ℕ) (codes : List ℕ) (qs : List SupplementQuestion) → IsBook b → AllByRecursion (IsPosed b day codes) qs → (k : ℕ) (q : SupplementQuestion) → slice_get qs k ≡ Some q
+    → (x : List Bool) → length x ≡ length b.codes → meets b day q x ≡ true → MeetsGoal (questions_clauses b day codes qs) (goals_start b day (asked_rules b day codes qs) + k)
+lifts_to_goal b day codes qs book posed k q there x len met =
     let n : ℕ = length b.codes in
-    let is : List Item = asked_items b day qs in
+    let rules : List Rule = asked_rules b day codes qs in
+    let is : List Item = asked_items b day rules in
     let own_rules : List Rule = values b day x qs in
     let built = built_from_meets b day q x met in
     let a : ℕ → Bool = lifted n (n + 1) x (items_named is ++ own_rules) in
-    let fits = posed_fit b day qs posed in
-    let all_met : AllMeet x is = all-append _ (construct_items b day) (map free_item (all_own b day qs)) (meets_from_constructible b day x built) (free_items_met x (all_own b day qs)) in
-    let l : IsLiftedOver n n (n + 1) is own_rules x a = lift_items n n (n + 1) is own_rules x (omega arith) (omega arith) (λ (h : n < n). absurd (omega arith)) (asked_fit b day qs book fits) all_met in
-    let each : NamesEach a x b day (construct_variables b day) qs = own_names b day qs x a (names_first a x (n + 1) (items_named is) own_rules l.names) in
-    let goals : Names a x (goals_start b day qs) own_rules =
+    let below = asked_below b day codes qs book (posed_fit b day codes qs posed) in
+    let all_met : AllMeet x is = all-append _ (construct_items b day) (map free_item rules) (meets_from_constructible b day x built) (free_items_met x rules) in
+    let l : IsLiftedOver n n (n + 1) is own_rules x a = lift_items n n (n + 1) is own_rules x (omega arith) (omega arith) (λ (h : n < n). absurd (omega arith)) (asked_fit b day rules book below) all_met in
+    let names : NamesOf a x (construct_variables b day) rules = asked_names b day rules x a (names_first a x (n + 1) (items_named is) own_rules l.names) in
+    let mean = asked_meet b day codes book x len built a l.begins (construct_variables b day) qs posed names in
+    let goals : Names a x (goals_start b day rules) own_rules =
     subst (λ (m : ℕ). Names a x (n + 1 + m) own_rules) (length-items_named is) (names_last a x (n + 1) (items_named is) own_rules l.names) in
     record {
       assignment = a;
-      satisfies = all-append _ (encoded_items n (n + 1) is) _ l.satisfies (sat_goals b day book x len built a l.begins (construct_variables b day) (goals_start b day qs) qs posed each goals);
-      meets_it = value_at a b day x (goals_start b day qs) qs goals k q there ∙ met;
+      satisfies =
+          all-append _ (encoded_items n (n + 1) is) _ l.satisfies
+          (sat_goals b day codes book x len built a l.begins (goals_start b day rules) qs (asked_lits b day codes (construct_variables b day) qs) mean goals);
+      meets_it = value_at a b day x (goals_start b day rules) qs goals k q there ∙ met;
     }
 
-pub meets_from_goal : (b : Contents) (day : ℕ) (qs : List SupplementQuestion) → IsBook b → AllByRecursion (IsPosed b day) qs → (k : ℕ) (q : SupplementQuestion) → slice_get qs k ≡ Some q
-    → (x : List Bool) (a : ℕ → Bool) → length x ≡ length b.codes → ((i : ℕ) → i < length b.codes → a i ≡ has x i) → Sat (questions_clauses b day qs) a
-    → a (goals_start b day qs + k) ≡ true → meets b day q x ≡ true
-meets_from_goal b day qs book posed k q there x a len codes sat on =
+pub meets_from_goal : (b : Contents) (day : ℕ) (codes : List ℕ) (qs : List SupplementQuestion) → IsBook b → AllByRecursion (IsPosed b day codes) qs → (k : ℕ) (q : SupplementQuestion) → slice_get qs k ≡ Some q
+    → (x : List Bool) (a : ℕ → Bool) → length x ≡ length b.codes → ((i : ℕ) → i < length b.codes → a i ≡ has x i) → Sat (questions_clauses b day codes qs) a
+    → a (goals_start b day (asked_rules b day codes qs) + k) ≡ true → meets b day q x ≡ true
+meets_from_goal b day codes qs book posed k q there x a len begins sat on =
     let n : ℕ = length b.codes in
-    let is : List Item = asked_items b day qs in
-    let fits = posed_fit b day qs posed in
-    let o : IsOver n n (n + 1) is x a = items_over n n (n + 1) is x a (asked_fit b day qs book fits) codes (all_first _ (encoded_items n (n + 1) is) _ sat) in
-    let built : is_constructible b day x ≡ true = constructible_from_meets b day x (all_first _ (construct_items b day) (map free_item (all_own b day qs)) o.meets) in
-    goal_at b day book x len built a o.begins (construct_variables b day) (goals_start b day qs) qs posed (own_names b day qs x a o.names) (all_last _ (encoded_items n (n + 1) is) _ sat) k q there on
+    let rules : List Rule = asked_rules b day codes qs in
+    let is : List Item = asked_items b day rules in
+    let below = asked_below b day codes qs book (posed_fit b day codes qs posed) in
+    let o : IsOver n n (n + 1) is x a = items_over n n (n + 1) is x a (asked_fit b day rules book below) begins (all_first _ (encoded_items n (n + 1) is) _ sat) in
+    let built : is_constructible b day x ≡ true = constructible_from_meets b day x (all_first _ (construct_items b day) (map free_item rules) o.meets) in
+    let mean = asked_meet b day codes book x len built a o.begins (construct_variables b day) qs posed (asked_names b day rules x a o.names) in
+    goal_at b day codes book x len built a o.begins (goals_start b day rules) qs (asked_lits b day codes (construct_variables b day) qs) mean
+    (all_last _ (encoded_items n (n + 1) is) _ sat) k q there on

@@ -2,10 +2,12 @@ mod EndLaws
 mod QuestionLaws
 mod TouchLaws
 mod TouchedLaws
+mod NotedLaws
 mod FitLaws
 mod GoalLaws
 mod SizeLaws
 mod CodingLaws
+mod GroupLaws
 mod SourceLaws
 mod ReportLaws
 mod OccursLaws

@@ -3,6 +3,7 @@ use Rattle.std.proofs.Common.{◌≡◌, ℕ, ◌≤◌, Bool, true, false, cond
 use Rattle.std.specs.List.{AllByRecursion}
 use Rattle.std.proofs.lemmas.Bool.{and_from, le-leb, leb-true, false≢true}
 use Rattle.std.proofs.lemmas.List.{map-append}
+use Rattle.std.proofs.lemmas.List.Elements.{All-from_recursion}
 use Rattle.std.specs.Result.{IsErr, IsErrAnd}
 use Rattle.pb_base.specs.Answers.{Answers, IfRefused}
 use Rattle.pb_base.specs.declared.answer.Fail.{Fail}
@@ -21,7 +22,7 @@ use Rattle.clausify.proofs.ListLaws.{all_weaker}
 use Rattle.inquiry.specs.Told.{IsKept, IsTold}
 use Rattle.inquiry.specs.declared.told.Told.{Told}
 use Rattle.inquiry.specs.declared.told.Told.TheVariants as told
-use Rattle.supplement_findings.specs.Answering.{IsPosed, IsCounted, form, inquiry}
+use Rattle.supplement_findings.specs.Answering.{IsBuilt, IsPosed, IsCounted, form, inquiry}
 use Rattle.supplement_findings.specs.Ends.{IsCalm}
 use Rattle.supplement_findings.specs.NoteOf.{note_of}
 use Rattle.supplement_findings.specs.Notes.{ShownBy, ShownByNone, OwnNotes, HasOneEndThrough, SliceNotes}
@@ -66,34 +67,39 @@ slice_notes b budget s own notes book order steady parts is = record {
   one_end = λ none. one_end_through b budget s own book order steady parts none;
 }
 
-pub questions_posed : (b : Contents) (day : ℕ) → AllByRecursion (IsPosed b day) (questions b day)
-questions_posed b day = both (questions b day) (questions_fit b day) (all_pass (is_put b day) (all_questions b))
-  where
-    both : (qs : List SupplementQuestion) → AllByRecursion (QuestionFits b) qs → AllByRecursion (λ q. is_put b day q ≡ true) qs → AllByRecursion (IsPosed b day) qs
-    both [] fits put = tt
-    both (q ∷ qs) fits put = (record { fits = fits.0; put = put.0 }, both qs fits.1 put.1)
+pub questions_put : (b : Contents) (day : ℕ) → All (λ q. is_put b day q ≡ true) (questions b day)
+questions_put b day = All-from_recursion (λ q. is_put b day q ≡ true) (questions b day) (all_pass (is_put b day) (all_questions b))
+
+pub questions_fitting : (b : Contents) (day : ℕ) → All (QuestionFits b) (questions b day)
+questions_fitting b day = All-from_recursion (QuestionFits b) (questions b day) (questions_fit b day)
 
 -- what is told of a question on the first day of a slice is told of the slice
-noted : (b : Contents) (budget : ℕ) (s : Slice) (q : SupplementQuestion) (told : List (Told SupplementQuestion)) → IsSteady b s → IsPosed b s.first q
-    → IsTold (form b s.first) budget q told → OwnNotes (inquiry b budget) s q (map note_of told)
-noted b budget s q [] steady posed none = none_through b s q steady posed.fits none
-noted b budget s q (told.Finding question set ∷ []) steady posed h = (h.0, shown_through b s q set steady posed.fits h.1.0 h.1.1)
-noted b budget s q (told.Undecided question learnt ∷ []) steady posed h = h
-noted b budget s q (first ∷ second ∷ more) steady posed h = absurd h
+noted : (b : Contents) (budget : ℕ) (s : Slice) (codes : List ℕ) (q : SupplementQuestion) (told : List (Told SupplementQuestion)) → IsSteady b s → IsPosed b s.first codes q
+    → IsTold (form b s.first codes) budget q told → OwnNotes (inquiry b budget) s q (map note_of told)
+noted b budget s codes q [] steady posed none = none_through b s q steady posed.fits none
+noted b budget s codes q (told.Finding question set ∷ []) steady posed h = (h.0, shown_through b s q set steady posed.fits h.1.0 h.1.1)
+noted b budget s codes q (told.Undecided question learnt ∷ []) steady posed h = h
+noted b budget s codes q (first ∷ second ∷ more) steady posed h = absurd h
 
-pub all_noted : (b : Contents) (budget : ℕ) (s : Slice) (qs : List SupplementQuestion) (told : List (Told SupplementQuestion)) → IsSteady b s → AllByRecursion (IsPosed b s.first) qs
-    → InParts (IsTold (form b s.first) budget) qs told → InParts (OwnNotes (inquiry b budget) s) qs (map note_of told)
-all_noted b budget s [] told steady posed parts = ap (map note_of) parts
-all_noted b budget s (q ∷ qs) told steady posed parts = (
+pub all_noted : (b : Contents) (budget : ℕ) (s : Slice) (codes : List ℕ) (qs : List SupplementQuestion) (told : List (Told SupplementQuestion)) → IsSteady b s → AllByRecursion (IsPosed b s.first codes) qs
+    → InParts (IsTold (form b s.first codes) budget) qs told → InParts (OwnNotes (inquiry b budget) s) qs (map note_of told)
+all_noted b budget s codes [] told steady posed parts = ap (map note_of) parts
+all_noted b budget s codes (q ∷ qs) told steady posed parts = (
   map note_of parts.0,
   map note_of parts.1,
   ap (map note_of) parts.2 ∙ map-append note_of parts.0 parts.1,
-  noted b budget s q parts.0 steady posed.0 parts.3,
-  all_noted b budget s qs parts.1 steady posed.1 parts.4,
+  noted b budget s codes q parts.0 steady posed.0 parts.3,
+  all_noted b budget s codes qs parts.1 steady posed.1 parts.4,
 )
 
-pub counted_of_kept : (b : Contents) (day : ℕ) (xs : List (List Bool)) → All (IsKept (form b day) (λ x. is_constructible b day x ≡ true)) xs → All (IsCounted b) xs
-counted_of_kept b day xs h k d inside = (h k d inside).0
+pub counted_of_built : (b : Contents) (day : ℕ) (xs : List (List Bool)) → All (IsBuilt b day) xs → All (IsCounted b) xs
+counted_of_built b day xs h k d inside = (h k d inside).0
+
+pub built_of_kept : (b : Contents) (day : ℕ) (codes : List ℕ) (xs : List (List Bool)) → All (IsKept (form b day codes) (λ x. is_constructible b day x ≡ true)) xs → All (IsBuilt b day) xs
+built_of_kept b day codes xs h k d inside = let kept = h k d inside in (kept.0, kept.1)
+
+pub kept_of_built : (b : Contents) (day : ℕ) (codes : List ℕ) (xs : List (List Bool)) → All (IsBuilt b day) xs → All (IsKept (form b day codes) (λ x. is_constructible b day x ≡ true)) xs
+kept_of_built b day codes xs h k d inside = let built = h k d inside in (built.0, built.1)
 
 -- a refusal that is passed on is that of the definition
 pub refusal_passed : {T A E : Type 0} (result : Result T (Fail E)) (e : Fail E) (answer : Result A E) → IsErr result × IsErrAnd result (λ x. x ≡ e)

@@ -1,12 +1,14 @@
 -- The variables of questions are few enough to be numbered, and their clauses speak of no others.
-use Rattle.std.proofs.Common.{inl, inr, ◌≡◌, ℕ, suc, ◌+◌, ◌*◌, ◌≤◌, ◌<◌, Bool, true, false, not, ◌&&◌, eqb, List, [], ◌∷◌, None, Some, length, map, refl, ap, ◌∙◌, arith}
-use Rattle.std.specs.List.{filter, sum_by, AllByRecursion}
-use Rattle.std.proofs.lemmas.Bool.{cases_Bool, cond-true, cond-false}
+use Rattle.std.proofs.Common.{inl, inr, ◌≡◌, ℕ, suc, ◌+◌, ◌*◌, ◌≤◌, ◌<◌, Bool, true, false, not, ◌&&◌, ◌||◌, eqb, List, [], ◌∷◌, ◌++◌, None, Some, length, map, refl, sym, ap, subst, ◌∙◌, arith}
+use Rattle.std.specs.List.{filter, list_any, sum_by, AllByRecursion}
+use Rattle.std.proofs.lemmas.Bool.{cases_Bool, cond-true, cond-false, eqb-true, false≢true}
 use Rattle.std.proofs.lemmas.List.{map-append}
 use Rattle.std.proofs.lemmas.List.Sums.{sum_by-cons}
 use Rattle.pb_base.specs.Leaves.{with_present}
-use Rattle.pb_base.specs.Rule.{Rule, code, negation, both, either}
+use Rattle.pb_base.specs.Node.{nodes_of, size, size_with}
+use Rattle.pb_base.specs.Rule.{Rule, code, negation, both, either, always, never, nodes}
 use Rattle.pb_base.proofs.LeafLaws.{nodes-with_leaves}
+use Rattle.pb_base.proofs.Nodes.{length-nodes_of}
 use Rattle.pb_base.specs.Leaves.{present}
 use Rattle.book_model.specs.Activity.{is_within}
 use Rattle.book_model.specs.Book.{IsBook, ConstructFits, DemandFits, RuleFits}
@@ -27,15 +29,15 @@ use Rattle.clausify.proofs.Bounds.{connectives_below, variables_below, demand_it
 use Rattle.clausify.proofs.ItemLaws.{AllBelow, variables_of-append}
 use Rattle.clausify.proofs.ListLaws.{all-append, all_weaker}
 use Rattle.clausify.proofs.RangeLaws.{positive_below, negative_below, complement_below, literal_below, items_below}
-use Rattle.supplement_findings.specs.Answering.{question_size}
-use Rattle.supplement_findings.specs.Clauses.{swaps_own, own, own_variables, question_lits, goal_clauses, all_own, all_lits, all_goal_clauses, asked_items, goals_start, questions_clauses, questions_variables}
+use Rattle.supplement_findings.specs.Answering.{IsPosed, IsRead, question_size, touch_count}
+use Rattle.supplement_findings.specs.Clauses.{swaps_own, own_variables, question_lits, goal_clauses, all_goal_clauses, and_all, all_rule, unbroken, unbroken_rules, unbroken_variables, other_own, other_variables, other_lits, all_other, all_other_lits, literal_with, shared_rules, asked_rules, asked_lits, asked_items, goals_start, questions_clauses, questions_variables}
 use Rattle.supplement_findings.specs.Questions.{rule_at, QuestionFits}
 use Rattle.supplement_findings.specs.Touching.{touches, no_other, after, is_touched, afters, touched_from}
 use Rattle.supplement_findings.specs.declared.lits.QuestionLits.{QuestionLits}
 use Rattle.supplement_findings.specs.declared.lits.QuestionLits.TheVariants.{BreaksLits, SwapsLits}
 use Rattle.supplement_findings.specs.declared.question.SupplementQuestion.{SupplementQuestion}
 use Rattle.supplement_findings.specs.declared.question.SupplementQuestion.TheVariants.{Breaks, Swaps}
-use Rattle.supplement_findings.proofs.FitLaws.{supplement_fits, constructs_fit, own_below}
+use Rattle.supplement_findings.proofs.FitLaws.{supplement_fits, constructs_fit, own_below, unbroken_below, asked_below}
 use Rattle.supplement_findings.proofs.GoalLaws.{asked_fit}
 
 present_below : (n c : ℕ) (f : Rule) → RuleFits n f → connectives (with_present c f) ≤ 512
@@ -110,34 +112,132 @@ touched_few c i (r ∷ rs) =
       | inr off ↦ omega (arith, ap length (cond-false (touches c r.demand) (i ∷ ps) ps off), later)
     ]
 
-pub size_few : (b : Contents) (q : SupplementQuestion) → IsBook b → question_size b q ≤ 8388608
-size_few b (Breaks place) book = omega (arith, touched_few (rule_at b place).code 0 b.constructs, constructs_below b book)
-size_few b (Swaps first second) book = omega arith
+-- so are those of the active rules among them
+afters_few : (c day i : ℕ) (rs : List Construct) → length (map (λ (r : Construct). after c r.demand) (filter (is_touched day c) rs)) ≤ length (touched_from i c rs)
+afters_few c day i [] = omega arith
+afters_few c day i (r ∷ rs) =
+    let w : Construct → Bool = is_touched day c in
+    let made : List Construct → ℕ = λ ks. length (map (λ (k : Construct). after c k.demand) ks) in
+    let ps : List ℕ = touched_from (suc i) c rs in
+    let later = afters_few c day (suc i) rs in
+    elim (cases_Bool (touches c r.demand)) [
+      | inl on_ ↦
+          let counted = ap length (cond-true (touches c r.demand) (i ∷ ps) ps on_) in
+          elim (cases_Bool (w r)) [
+            | inl e ↦ omega (arith, ap made (cond-true (w r) (r ∷ filter w rs) (filter w rs) e), counted, later)
+            | inr e ↦ omega (arith, ap made (cond-false (w r) (r ∷ filter w rs) (filter w rs) e), counted, later)
+          ]
+      | inr off ↦
+          let counted = ap length (cond-false (touches c r.demand) (i ∷ ps) ps off) in
+          omega (arith, ap made (cond-false (w r) (r ∷ filter w rs) (filter w rs) (none_off (is_within r.from r.until day) (touches c r.demand) off)), counted, later)
+    ]
+  where
+    none_off : (p q : Bool) → q ≡ false → (p && q) ≡ false
+    none_off true q e = e
+    none_off false q e = refl
 
--- a question's formulas and its goal take no more variables than its size
-own_size : (b : Contents) (day : ℕ) (q : SupplementQuestion) → IsBook b → QuestionFits b q → own_variables b day q + 1 ≤ question_size b q
-own_size b day (Breaks place) book fits =
-    let n : ℕ = length b.codes in
-    let s : Supplement = rule_at b place in
-    omega (arith, fitting_rule n s.rule (supplement_fits b place book fits).rule, afters_size n s.code day 0 b.constructs (constructs_fit b book))
-own_size b day (Swaps first second) book fits =
-    let n : ℕ = length b.codes in
+-- a formula has no more nodes than it is kept in, and is kept in at most twice as many
+nodes_kept : (f : Rule) (more : ℕ) → nodes f + more ≤ size_with f more
+nodes_kept (code place) more = omega arith
+nodes_kept (negation f) more = omega (arith, nodes_kept f (suc more))
+nodes_kept (both f g) more = omega (arith, nodes_kept g (suc more), nodes_kept f (suc (size_with g (suc more))))
+nodes_kept (either f g) more = omega (arith, nodes_kept g (suc more), nodes_kept f (suc (size_with g (suc more))))
+nodes_kept always more = omega arith
+nodes_kept never more = omega arith
+
+kept_nodes : (f : Rule) (more : ℕ) → size_with f more ≤ 2 * nodes f + more
+kept_nodes (code place) more = omega arith
+kept_nodes (negation f) more = omega (arith, kept_nodes f (suc more))
+kept_nodes (both f g) more = omega (arith, kept_nodes g (suc more), kept_nodes f (suc (size_with g (suc more))))
+kept_nodes (either f g) more = omega (arith, kept_nodes g (suc more), kept_nodes f (suc (size_with g (suc more))))
+kept_nodes always more = omega arith
+kept_nodes never more = omega arith
+
+pub size_few : (f : Rule) → nodes f ≤ 512 → size f ≤ 1024
+size_few f few = omega (arith, kept_nodes f 0, few)
+
+pub length_kept : (f : Rule) → length (nodes_of f) ≡ size f
+length_kept f = length-nodes_of f
+
+connectives_kept : (f : Rule) → connectives f ≤ size f
+connectives_kept f = omega (arith, connectives_below f, nodes_kept f 0)
+
+present_kept : (c : ℕ) (f : Rule) → connectives (with_present c f) ≤ size f
+present_kept c f = omega (arith, connectives_below (with_present c f), nodes-with_leaves (present c) f, nodes_kept f 0)
+
+pub question_few : (b : Contents) (q : SupplementQuestion) → IsBook b → QuestionFits b q → question_size b q ≤ 8192
+question_few b (Breaks place) book fits = omega (arith, size_few (rule_at b place).rule (supplement_fits b place book fits).rule.size)
+question_few b (Swaps first second) book fits =
+    omega (arith, size_few (rule_at b first).rule (supplement_fits b first book fits.0).rule.size, size_few (rule_at b second).rule (supplement_fits b second book fits.1).rule.size)
+
+-- a question's other formulas and its goal take no more variables than its size
+formulas_size : (b : Contents) (q : SupplementQuestion) → other_variables b q + 1 ≤ question_size b q
+formulas_size b (Breaks place) = omega (arith, connectives_kept (rule_at b place).rule)
+formulas_size b (Swaps first second) =
     let s : Supplement = rule_at b first in
     let t : Supplement = rule_at b second in
-    let fit_s = (supplement_fits b first book fits.0).rule in
-    let fit_t = (supplement_fits b second book fits.1).rule in
-    omega (arith, fitting_rule n s.rule fit_s, fitting_rule n t.rule fit_t, present_below n s.code t.rule fit_t, present_below n t.code s.rule fit_s)
+    omega (arith, connectives_kept s.rule, connectives_kept t.rule, present_kept s.code t.rule, present_kept t.code s.rule)
 
-pub own_first : (b : Contents) (day : ℕ) (q : SupplementQuestion) (qs : List SupplementQuestion)
-    → variables_of (map free_item (all_own b day (q ∷ qs))) ≡ own_variables b day q + variables_of (map free_item (all_own b day qs))
-own_first b day q qs =
-    ap variables_of (map-append free_item (own b day q) (all_own b day qs)) ∙ variables_of-append (map free_item (own b day q)) (map free_item (all_own b day qs))
+variables_of_both : (fs gs : List Rule) → variables_of (map free_item (fs ++ gs)) ≡ variables_of (map free_item fs) + variables_of (map free_item gs)
+variables_of_both fs gs = ap variables_of (map-append free_item fs gs) ∙ variables_of-append (map free_item fs) (map free_item gs)
 
-pub all_own_size : (b : Contents) (day : ℕ) (qs : List SupplementQuestion) → IsBook b → AllByRecursion (QuestionFits b) qs
-    → variables_of (map free_item (all_own b day qs)) + length qs ≤ sum_by (question_size b) qs
-all_own_size b day [] book fits = omega arith
-all_own_size b day (q ∷ qs) book fits =
-    omega (arith, own_first b day q qs, own_size b day q book fits.0, all_own_size b day qs book fits.1, sum_by-cons (question_size b) q qs)
+pub other_first : (b : Contents) (q : SupplementQuestion) (qs : List SupplementQuestion)
+    → variables_of (map free_item (all_other b (q ∷ qs))) ≡ other_variables b q + variables_of (map free_item (all_other b qs))
+other_first b q qs = variables_of_both (other_own b q) (all_other b qs)
+
+all_other_size : (b : Contents) (qs : List SupplementQuestion) → variables_of (map free_item (all_other b qs)) + length qs ≤ sum_by (question_size b) qs
+all_other_size b [] = omega arith
+all_other_size b (q ∷ qs) = omega (arith, other_first b q qs, formulas_size b q, all_other_size b qs, sum_by-cons (question_size b) q qs)
+
+pub shared_first : (b : Contents) (day : ℕ) (codes : List ℕ) (qs : List SupplementQuestion)
+    → variables_of (map free_item (shared_rules b day codes qs)) ≡ unbroken_variables b day codes + variables_of (map free_item (all_other b qs))
+shared_first b day codes qs = variables_of_both (unbroken_rules b day codes) (all_other b qs)
+
+-- all of some rules take as many variables as these, and one more for each but the first
+and_all_size : (f : Rule) (gs : List Rule) → connectives (and_all f gs) ≡ connectives f + variables_of (map free_item gs) + length gs
+and_all_size f [] = omega arith
+and_all_size f (g ∷ gs) = and_all_size (both f g) gs ∙ omega arith
+
+all_rule_most : (fs : List Rule) → connectives (all_rule fs) ≤ variables_of (map free_item fs) + length fs
+all_rule_most [] = omega arith
+all_rule_most (f ∷ fs) = omega (arith, and_all_size f fs)
+
+all_rule_least : (fs : List Rule) → variables_of (map free_item fs) ≤ connectives (all_rule fs)
+all_rule_least [] = omega arith
+all_rule_least (f ∷ fs) = omega (arith, and_all_size f fs)
+
+read_size : (b : Contents) (day c : ℕ) (codes : List ℕ) → list_any (λ k. eqb k c) codes ≡ true → connectives (unbroken b day c) ≤ unbroken_variables b day codes
+read_size b day c [] there = absurd (false≢true there)
+read_size b day c (k ∷ codes) there =
+    elim (cases_Bool (eqb k c)) [
+      | inl same ↦ omega (arith, ap (λ (n : ℕ). connectives (unbroken b day n)) (eqb-true k c same))
+      | inr apart ↦ omega (arith, read_size b day c codes (sym (ap (λ t. t || list_any (λ j. eqb j c) codes) apart) ∙ there))
+    ]
+
+own_size : (b : Contents) (day : ℕ) (codes : List ℕ) (q : SupplementQuestion) → IsRead b codes q → own_variables b day q + 1 ≤ unbroken_variables b day codes + question_size b q
+own_size b day codes (Breaks place) read =
+    let s : Supplement = rule_at b place in
+    omega (arith, connectives_kept s.rule, all_rule_least (afters b day s.code), read_size b day s.code codes read)
+own_size b day codes (Swaps first second) read = let few : own_variables b day (Swaps first second) + 1 ≤ question_size b (Swaps first second) = formulas_size b (Swaps first second) in omega (arith, few)
+
+pub asked_size : (b : Contents) (day : ℕ) (codes : List ℕ) (qs : List SupplementQuestion) → AllByRecursion (IsPosed b day codes) qs
+    → variables_of (map free_item (asked_rules b day codes qs)) + length qs ≤ unbroken_variables b day codes + sum_by (question_size b) qs
+asked_size b day codes [] posed = omega (arith, shared_first b day codes [], all_other_size b [])
+asked_size b day codes (q ∷ []) posed = omega (arith, own_size b day codes q posed.0.read, sum_by-cons (question_size b) q [])
+asked_size b day codes (p ∷ q ∷ qs) posed = omega (arith, shared_first b day codes (p ∷ q ∷ qs), all_other_size b (p ∷ q ∷ qs))
+
+-- what is asked of the sets with codes takes few variables for each rule that they touch
+pub unbroken_few : (b : Contents) (day : ℕ) (codes : List ℕ) → IsBook b → unbroken_variables b day codes ≤ 514 * sum_by (touch_count b) codes
+unbroken_few b day [] book = omega arith
+unbroken_few b day (c ∷ codes) book =
+    omega (
+      arith,
+      all_rule_most (afters b day c),
+      afters_size (length b.codes) c day 0 b.constructs (constructs_fit b book),
+      afters_few c day 0 b.constructs,
+      unbroken_few b day codes book,
+      sum_by-cons (touch_count b) c codes,
+    )
 
 pub constructs_size : (b : Contents) (day : ℕ) → IsBook b → variables_of (construct_items b day) ≤ 512 * 11000
 constructs_size b day book =
@@ -152,9 +252,9 @@ pub constructs_room : (b : Contents) (day next : ℕ) → IsBook b → next ≡ 
 constructs_room b day next book is = omega (arith, constructs_size b day book, book.codes_limit)
 
 -- there is room for the formulas and goals of questions whose variables can be numbered
-pub own_room : (b : Contents) (day next : ℕ) (qs : List SupplementQuestion) → questions_variables b day qs < 4294967296 → next ≡ construct_variables b day
-    → next + variables_of (map free_item (all_own b day qs)) + length qs < 4294967296
-own_room b day next qs room is = omega (arith, room, is, variables_of-append (construct_items b day) (map free_item (all_own b day qs)))
+pub own_room : (b : Contents) (day next : ℕ) (codes : List ℕ) (qs : List SupplementQuestion) → questions_variables b day codes qs < 4294967296 → next ≡ construct_variables b day
+    → next + variables_of (map free_item (asked_rules b day codes qs)) + length qs < 4294967296
+own_room b day next codes qs room is = omega (arith, room, is, variables_of-append (construct_items b day) (map free_item (asked_rules b day codes qs)))
 
 -- The literals of a question are of variables below m, and so are those of its goal's clauses.
 abbrev LitsBelow : ℕ → QuestionLits → Type 0
@@ -216,21 +316,67 @@ goal_clauses_below m w (SwapsLits first first_added second second_added second_a
       ),
     )
 
-goals_below : (b : Contents) (day v w m : ℕ) (qs : List SupplementQuestion) → IsBook b → AllByRecursion (QuestionFits b) qs → length b.codes < v
-    → v + variables_of (map free_item (all_own b day qs)) ≤ m → w + length qs ≤ m → AreBelow (2 * m) (all_goal_clauses w (all_lits b day v qs))
-goals_below b day v w m [] book fits less room goals = tt
-goals_below b day v w m (q ∷ qs) book fits less room goals =
-    let split = own_first b day q qs in
-    all-append _ (goal_clauses w (question_lits b day v q)) _
-    (goal_clauses_below m w (question_lits b day v q) (omega arith) (lits_below b day v m q book fits.0 less (omega (arith, split))))
-    (goals_below b day (v + own_variables b day q) (w + 1) m qs book fits.1 (omega arith) (omega (arith, split)) (omega arith))
+literal_with_below : (m : ℕ) (codes lits : List ℕ) (c : ℕ) → 0 < m → AllByRecursion (λ l. l < 2 * m) lits → literal_with codes lits c < 2 * m
+literal_with_below m [] lits c some below = omega (arith, some)
+literal_with_below m (k ∷ codes) [] c some below = omega (arith, some)
+literal_with_below m (k ∷ codes) (l ∷ lits) c some below =
+    elim (cases_Bool (eqb k c)) [
+      | inl e ↦ subst (λ (n : ℕ). n < 2 * m) (sym (cond-true (eqb k c) l (literal_with codes lits c) e)) below.0
+      | inr e ↦ subst (λ (n : ℕ). n < 2 * m) (sym (cond-false (eqb k c) l (literal_with codes lits c) e)) (literal_with_below m codes lits c some below.1)
+    ]
 
-pub clauses_below : (b : Contents) (day : ℕ) (qs : List SupplementQuestion) → IsBook b → AllByRecursion (QuestionFits b) qs
-    → AreBelow (2 * questions_variables b day qs) (questions_clauses b day qs)
-clauses_below b day qs book fits =
+other_lits_below : (b : Contents) (codes known : List ℕ) (v m : ℕ) (q : SupplementQuestion) → IsBook b → QuestionFits b q → AllByRecursion (λ l. l < 2 * m) known → length b.codes < v
+    → v + other_variables b q ≤ m → LitsBelow m (other_lits b codes known v q)
+other_lits_below b codes known v m (Breaks place) book fits below less room =
     let n : ℕ = length b.codes in
-    let m : ℕ = questions_variables b day qs in
-    let split = variables_of-append (construct_items b day) (map free_item (all_own b day qs)) in
-    all-append _ (encoded_items n (n + 1) (asked_items b day qs)) _
-    (IsBelow-clause_of (2 * m) (literal n true ∷ []) (positive_below n m (omega arith), tt), items_below n n (n + 1) m (asked_items b day qs) (asked_fit b day qs book fits) (omega arith) (omega arith) (omega arith))
-    (goals_below b day (construct_variables b day) (goals_start b day qs) m qs book fits (omega arith) (omega (arith, split)) (omega arith))
+    let s : Supplement = rule_at b place in
+    let fit = supplement_fits b place book fits in
+    (literal_below n n v m s.rule fit.rule.in_range (omega arith) less (omega arith), omega (arith, fit.code), (literal_with_below m codes known s.code (omega arith) below, tt))
+other_lits_below b codes known v m (Swaps first second) book fits below less room = lits_below b 0 v m (Swaps first second) book fits less room
+
+all_other_lits_below : (b : Contents) (codes known : List ℕ) (v m : ℕ) (qs : List SupplementQuestion) → IsBook b → AllByRecursion (QuestionFits b) qs → AllByRecursion (λ l. l < 2 * m) known
+    → length b.codes < v → v + variables_of (map free_item (all_other b qs)) ≤ m → AllByRecursion (LitsBelow m) (all_other_lits b codes known v qs)
+all_other_lits_below b codes known v m [] book fits below less room = tt
+all_other_lits_below b codes known v m (q ∷ qs) book fits below less room =
+    let split = other_first b q qs in (
+      other_lits_below b codes known v m q book fits.0 below less (omega (arith, split)),
+      all_other_lits_below b codes known (v + other_variables b q) m qs book fits.1 below (omega arith) (omega (arith, split)),
+    )
+
+asked_lits_below : (b : Contents) (day v m : ℕ) (codes : List ℕ) (qs : List SupplementQuestion) → IsBook b → AllByRecursion (QuestionFits b) qs → length b.codes < v
+    → v + variables_of (map free_item (asked_rules b day codes qs)) ≤ m → AllByRecursion (LitsBelow m) (asked_lits b day codes v qs)
+asked_lits_below b day v m codes [] book fits less room = tt
+asked_lits_below b day v m codes (q ∷ []) book fits less room = (lits_below b day v m q book fits.0 less room, tt)
+asked_lits_below b day v m codes (p ∷ q ∷ qs) book fits less room =
+    let n : ℕ = length b.codes in
+    let split = shared_first b day codes (p ∷ q ∷ qs) in
+    all_other_lits_below b codes (literals_from n v (unbroken_rules b day codes)) (v + unbroken_variables b day codes) m (p ∷ q ∷ qs) book fits
+    (literals_below n v m (unbroken_rules b day codes) (unbroken_below b day codes book) less (omega (arith, split, room))) (omega arith) (omega (arith, split, room))
+
+goals_below : (w m : ℕ) (lits : List QuestionLits) → AllByRecursion (LitsBelow m) lits → w + length lits ≤ m → AreBelow (2 * m) (all_goal_clauses w lits)
+goals_below w m [] below room = tt
+goals_below w m (l ∷ lits) below room =
+    all-append _ (goal_clauses w l) _ (goal_clauses_below m w l (omega arith) below.0) (goals_below (w + 1) m lits below.1 (omega arith))
+
+length-all_other_lits : (b : Contents) (codes known : List ℕ) (v : ℕ) (qs : List SupplementQuestion) → length (all_other_lits b codes known v qs) ≡ length qs
+length-all_other_lits b codes known v [] = refl
+length-all_other_lits b codes known v (q ∷ qs) = ap suc (length-all_other_lits b codes known (v + other_variables b q) qs)
+
+pub length-asked_lits : (b : Contents) (day v : ℕ) (codes : List ℕ) (qs : List SupplementQuestion) → length (asked_lits b day codes v qs) ≡ length qs
+length-asked_lits b day v codes [] = refl
+length-asked_lits b day v codes (q ∷ []) = refl
+length-asked_lits b day v codes (p ∷ q ∷ qs) =
+    length-all_other_lits b codes (literals_from (length b.codes) v (unbroken_rules b day codes)) (v + unbroken_variables b day codes) (p ∷ q ∷ qs)
+
+pub clauses_below : (b : Contents) (day : ℕ) (codes : List ℕ) (qs : List SupplementQuestion) → IsBook b → AllByRecursion (QuestionFits b) qs
+    → AreBelow (2 * questions_variables b day codes qs) (questions_clauses b day codes qs)
+clauses_below b day codes qs book fits =
+    let n : ℕ = length b.codes in
+    let m : ℕ = questions_variables b day codes qs in
+    let rules : List Rule = asked_rules b day codes qs in
+    let lits : List QuestionLits = asked_lits b day codes (construct_variables b day) qs in
+    let split = variables_of-append (construct_items b day) (map free_item rules) in
+    let count : length lits ≡ length qs = length-asked_lits b day (construct_variables b day) codes qs in
+    all-append _ (encoded_items n (n + 1) (asked_items b day rules)) _
+    (IsBelow-clause_of (2 * m) (literal n true ∷ []) (positive_below n m (omega arith), tt), items_below n n (n + 1) m (asked_items b day rules) (asked_fit b day rules book (asked_below b day codes qs book fits)) (omega arith) (omega arith) (omega arith))
+    (goals_below (goals_start b day rules) m lits (asked_lits_below b day (construct_variables b day) m codes qs book fits (omega arith) (omega (arith, split))) (omega (arith, count)))

@@ -2,15 +2,12 @@
 use Rattle.std.proofs.Common.{inl, inr, ◌≡◌, ◌∙◌, ℕ, zero, suc, ◌+◌, ◌≤◌, ◌<◌, Bool, true, false, not, ◌&&◌, ◌||◌, List, [], ◌∷◌, All, length, map, set, drop, get_or, refl, sym, ap, subst, arith}
 use Rattle.std.specs.List.{filter, list_any, AllByRecursion}
 use Rattle.std.proofs.lemmas.Bool.{or_parts, cases_Bool, cond-true, cond-false, not-true, and_left}
-use Rattle.std.proofs.lemmas.List.{get_or-map}
 use Rattle.std.proofs.lemmas.List.Elements.{All-from_recursion}
 use Rattle.book_model.specs.Activity.{is_within}
 use Rattle.book_model.specs.Contents.{Contents}
 use Rattle.book_model.specs.Good.{breaks, is_constructible}
 use Rattle.book_model.specs.declared.record.Construct.{Construct}
-use Rattle.book_model.specs.declared.record.Supplement.{Supplement}
-use Rattle.supplement_findings.specs.Questions.{no_rule, rule_at}
-use Rattle.supplement_findings.specs.Touching.{touches, after, afters, is_touched, touched_from, all_touched, no_construct, construct_at, is_active_rule, afters_at}
+use Rattle.supplement_findings.specs.Touching.{touches, after, afters, is_touched, touched_from, no_construct, construct_at, is_active_rule, afters_at}
 use Rattle.supplement_findings.proofs.TouchLaws.{met_untouched}
 
 -- the first of what is left of a list, and what is left behind it
@@ -31,7 +28,7 @@ next_of (k ∷ all) zero r rs e = record { here = cc; later = cc }
 next_of (k ∷ all) (suc i) r rs e = let rest = next_of all i r rs e in record { here = rest.here; later = rest.later }
 
 -- each place is one of the book's
-touched_within : (c i n : ℕ) (rs : List Construct) → i + length rs ≤ n → AllByRecursion (λ p. p < n) (touched_from i c rs)
+pub touched_within : (c i n : ℕ) (rs : List Construct) → i + length rs ≤ n → AllByRecursion (λ p. p < n) (touched_from i c rs)
 touched_within c i n [] few = tt
 touched_within c i n (r ∷ rs) few =
     let later : AllByRecursion (λ p. p < n) (touched_from (suc i) c rs) = touched_within c (suc i) n rs (omega (arith, few)) in
@@ -110,7 +107,3 @@ broken_touched all day x c i (r ∷ rs) e none =
 pub broken_at : (b : Contents) (day : ℕ) (x : List Bool) (c : ℕ) → is_constructible b day x ≡ true
     → list_any (λ p. breaks day (set x c true) (construct_at b p)) (touched_from 0 c b.constructs) ≡ list_any (breaks day (set x c true)) b.constructs
 broken_at b day x c built = broken_touched b.constructs day x c 0 b.constructs refl (not-true _ built)
-
--- the places for the code of one rule
-pub row_at : (b : Contents) (place : ℕ) (d : List ℕ) → place < length b.supplements → get_or (all_touched b) place d ≡ touched_from 0 (rule_at b place).code b.constructs
-row_at b place d within = get_or-map (λ (s : Supplement). touched_from 0 s.code b.constructs) b.supplements place no_rule d within

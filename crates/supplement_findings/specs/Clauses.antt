@@ -1,15 +1,19 @@
--- The clauses of questions on supplementing rules: those of the day's constructibility rules, then those of the questions' own
--- formulas, and then for each question those of its goal, of which a new variable asks that all are met. Variable i below the
--- number of codes is code i, and the next is always true.
+-- The clauses of questions on supplementing rules: those of the day's constructibility rules, then those of further formulas, and
+-- then for each question those of its goal, of which a new variable asks that all are met. Variable i below the number of codes is
+-- code i, and the next is always true. A question alone has the formulas that it is about. Where several share the clauses, what the
+-- constructibility rules ask of a set with a code is one formula, which all questions on rules that add the code share.
 --     own b day q                  the formulas that the question is about, in the order in which they get their literals
 --     question_lits b day v q      their literals, where v is the first variable that they take
+--     unbroken b day code          the set with the code breaks no constructibility rule, over sets that break none without
+--     shared_rules b day codes qs  that of each of the codes, and the other formulas of questions
 --     goal_clauses w lits          where variable w is true, the goal of a question with these literals is met
---     questions_clauses b day qs   the whole, for questions that share them
---     question_clauses b day q     for one question alone
-use Rattle.std.specs.Prelude.{ℕ, ◌+◌, true, false, List, [], ◌∷◌, ◌++◌, length, map}
+--     goals_clauses b day rules goals    the whole, for some formulas and the literals of goals
+--     question_clauses b day q     of one question alone
+--     asked_rules b day codes qs   the formulas of questions that share the clauses, or of one alone
+use Rattle.std.specs.Prelude.{ℕ, ◌+◌, ◌==◌, true, false, List, [], ◌∷◌, ◌++◌, Option, None, Some, length, map, if◌then◌else◌}
 use Rattle.std.specs.List.{flat_map}
 use Rattle.pb_base.specs.Leaves.{with_present}
-use Rattle.pb_base.specs.Rule.{Rule}
+use Rattle.pb_base.specs.Rule.{Rule, both, always}
 use Rattle.book_model.specs.Contents.{Contents}
 use Rattle.book_model.specs.declared.record.Supplement.{Supplement}
 use Rattle.clause_pool.specs.Literal.{literal, complement}
@@ -66,39 +70,107 @@ goal_clauses w (SwapsLits first first_added second second_added second_afterward
     ∷ clause_of (literal w false ∷ second ∷ []) ∷ clause_of (literal w false ∷ literal second_added false ∷ [])
     ∷ clause_of (literal w false ∷ complement second_afterwards ∷ complement first_afterwards ∷ []) ∷ []
 
--- the same of several, each behind the other
-abbrev pub all_own : Contents → ℕ → List SupplementQuestion → List Rule
-all_own b day qs = flat_map (own b day) qs
-
-abbrev pub all_lits : Contents → ℕ → ℕ → List SupplementQuestion → List QuestionLits
-all_lits b day v [] = []
-all_lits b day v (q ∷ qs) = question_lits b day v q ∷ all_lits b day (v + own_variables b day q) qs
-
+-- the goals of several, each behind the other
 abbrev pub all_goal_clauses : ℕ → List QuestionLits → List (List ℕ)
 all_goal_clauses w [] = []
 all_goal_clauses w (lits ∷ later) = goal_clauses w lits ++ all_goal_clauses (w + 1) later
 
-abbrev pub asked_items : Contents → ℕ → List SupplementQuestion → List Item
-asked_items b day qs = construct_items b day ++ map free_item (all_own b day qs)
+-- the rule f and all of these, grouped to the left
+abbrev pub and_all : Rule → List Rule → Rule
+and_all f [] = f
+and_all f (g ∷ gs) = and_all (both f g) gs
 
--- the variable of the first question's goal; those of the others follow
-abbrev pub goals_start : Contents → ℕ → List SupplementQuestion → ℕ
-goals_start b day qs = length b.codes + 1 + variables_of (asked_items b day qs)
+abbrev pub all_rule : List Rule → Rule
+all_rule [] = always
+all_rule (f ∷ fs) = and_all f fs
 
-abbrev pub questions_clauses : Contents → ℕ → List SupplementQuestion → List (List ℕ)
-questions_clauses b day qs =
-    encoded_items (length b.codes) (length b.codes + 1) (asked_items b day qs)
-    ++ all_goal_clauses (goals_start b day qs) (all_lits b day (construct_variables b day) qs)
+-- the formula so far and all of these
+abbrev pub and_rest : Option Rule → List Rule → Rule
+and_rest None fs = all_rule fs
+and_rest (Some f) fs = and_all f fs
 
-abbrev pub questions_variables : Contents → ℕ → List SupplementQuestion → ℕ
-questions_variables b day qs = goals_start b day qs + length qs
+abbrev pub unbroken : Contents → ℕ → ℕ → Rule
+unbroken b day code = all_rule (afters b day code)
+
+abbrev pub unbroken_rules : Contents → ℕ → List ℕ → List Rule
+unbroken_rules b day codes = map (unbroken b day) codes
+
+-- the formulas of a question besides that of its code
+abbrev pub other_own : Contents → SupplementQuestion → List Rule
+other_own b (Breaks place) = (rule_at b place).rule ∷ []
+other_own b (Swaps first second) = swaps_own (rule_at b first) (rule_at b second)
+
+abbrev pub other_variables : Contents → SupplementQuestion → ℕ
+other_variables b q = variables_of (map free_item (other_own b q))
+
+abbrev pub all_other : Contents → List SupplementQuestion → List Rule
+all_other b qs = flat_map (other_own b) qs
+
+abbrev pub shared_rules : Contents → ℕ → List ℕ → List SupplementQuestion → List Rule
+shared_rules b day codes qs = unbroken_rules b day codes ++ all_other b qs
+
+-- the literal that stands with a code
+abbrev pub literal_with : List ℕ → List ℕ → ℕ → ℕ
+literal_with [] lits code = 0
+literal_with (k ∷ codes) [] code = 0
+literal_with (k ∷ codes) (l ∷ lits) code = if k == code then l else literal_with codes lits code
+
+-- the literals of a question, where those of the codes are known
+abbrev pub other_lits : Contents → List ℕ → List ℕ → ℕ → SupplementQuestion → QuestionLits
+other_lits b codes known v (Breaks place) =
+    BreaksLits (formula_literal (length b.codes) v (rule_at b place).rule) (rule_at b place).code
+    (literal_with codes known (rule_at b place).code ∷ [])
+other_lits b codes known v (Swaps first second) = swaps_lits (length b.codes) v (rule_at b first) (rule_at b second)
+
+abbrev pub all_other_lits : Contents → List ℕ → List ℕ → ℕ → List SupplementQuestion → List QuestionLits
+all_other_lits b codes known v [] = []
+all_other_lits b codes known v (q ∷ qs) = other_lits b codes known v q ∷ all_other_lits b codes known (v + other_variables b q) qs
+
+abbrev pub unbroken_variables : Contents → ℕ → List ℕ → ℕ
+unbroken_variables b day codes = variables_of (map free_item (unbroken_rules b day codes))
+
+-- where v is the first variable of the formulas
+abbrev pub shared_lits : Contents → ℕ → List ℕ → ℕ → List SupplementQuestion → List QuestionLits
+shared_lits b day codes v qs =
+    all_other_lits b codes (literals_from (length b.codes) v (unbroken_rules b day codes)) (v + unbroken_variables b day codes) qs
+
+-- a question alone has its own formulas
+abbrev pub asked_rules : Contents → ℕ → List ℕ → List SupplementQuestion → List Rule
+asked_rules b day codes [] = shared_rules b day codes []
+asked_rules b day codes (q ∷ []) = own b day q
+asked_rules b day codes (p ∷ q ∷ qs) = shared_rules b day codes (p ∷ q ∷ qs)
+
+abbrev pub asked_lits : Contents → ℕ → List ℕ → ℕ → List SupplementQuestion → List QuestionLits
+asked_lits b day codes v [] = []
+asked_lits b day codes v (q ∷ []) = question_lits b day v q ∷ []
+asked_lits b day codes v (p ∷ q ∷ qs) = shared_lits b day codes v (p ∷ q ∷ qs)
+
+abbrev pub asked_items : Contents → ℕ → List Rule → List Item
+asked_items b day rules = construct_items b day ++ map free_item rules
+
+-- the variable of the first goal; those of the others follow
+abbrev pub goals_start : Contents → ℕ → List Rule → ℕ
+goals_start b day rules = length b.codes + 1 + variables_of (asked_items b day rules)
+
+abbrev pub goals_clauses : Contents → ℕ → List Rule → List QuestionLits → List (List ℕ)
+goals_clauses b day rules goals =
+    encoded_items (length b.codes) (length b.codes + 1) (asked_items b day rules)
+    ++ all_goal_clauses (goals_start b day rules) goals
+
+-- of questions that share the clauses, or of one alone
+abbrev pub questions_clauses : Contents → ℕ → List ℕ → List SupplementQuestion → List (List ℕ)
+questions_clauses b day codes qs =
+    goals_clauses b day (asked_rules b day codes qs) (asked_lits b day codes (construct_variables b day) qs)
+
+abbrev pub questions_variables : Contents → ℕ → List ℕ → List SupplementQuestion → ℕ
+questions_variables b day codes qs = goals_start b day (asked_rules b day codes qs) + length qs
 
 -- of one question alone
 abbrev pub question_clauses : Contents → ℕ → SupplementQuestion → List (List ℕ)
-question_clauses b day q = questions_clauses b day (q ∷ [])
+question_clauses b day q = goals_clauses b day (own b day q) (question_lits b day (construct_variables b day) q ∷ [])
 
 abbrev pub question_variables : Contents → ℕ → SupplementQuestion → ℕ
-question_variables b day q = questions_variables b day (q ∷ [])
+question_variables b day q = goals_start b day (own b day q) + 1
 
 abbrev pub question_goal : Contents → ℕ → SupplementQuestion → ℕ
-question_goal b day q = literal (goals_start b day (q ∷ [])) true
+question_goal b day q = literal (goals_start b day (own b day q)) true

@@ -3,9 +3,10 @@
 --     after code demand         a formula that is true where the set with the code meets the demand, over sets that meet it without
 --     touched b day code        the active constructibility rules in whose demand the code stands
 --     afters b day code         what each of them asks of the set with the code
---     all_touched b             of the code of each supplementing rule, the places of the rules that it touches, whatever their days
+--     touched_from i code rs    the places of the rules that the code touches, whatever their days
+--     IsNoted place test old new      a rule was noted in the lists of the codes that pass
 --     afters_at b day code places     what the active ones of the rules at these places ask of the set with the code
-use Rattle.std.specs.Prelude.{ℕ, suc, Bool, not, ◌&&◌, ◌||◌, ◌==◌, List, [], ◌∷◌, Option, Some, None, filter, map, slice_index_or, if◌then◌else◌}
+use Rattle.std.specs.Prelude.{◌≡◌, ℕ, suc, ◌-◌, ◌<◌, Bool, not, ◌&&◌, ◌||◌, ◌==◌, List, [], ◌∷◌, ◌++◌, Option, Some, None, length, filter, map, slice_index_or, if◌then◌else◌}
 use Rattle.std.specs.List.{list_any}
 use Rattle.pb_base.specs.Leaves.{with_present}
 use Rattle.pb_base.specs.Rule.{Rule, code, negation, both, either, never}
@@ -59,8 +60,18 @@ abbrev pub touched_from : ℕ → ℕ → List Construct → List ℕ
 touched_from i added [] = []
 touched_from i added (r ∷ rs) = if touches added r.demand then i ∷ touched_from (suc i) added rs else touched_from (suc i) added rs
 
-abbrev pub all_touched : Contents → List (List ℕ)
-all_touched b = map (λ s. touched_from 0 s.code b.constructs) b.supplements
+-- whether a list ends in this item, and the list with the item at its end
+abbrev pub ends_in : ℕ → List ℕ → Bool
+ends_in place row = not (length row == 0) && slice_index_or row (length row - 1) 0 == place
+
+abbrev pub with_end : ℕ → List ℕ → List ℕ
+with_end place row = if ends_in place row then row else row ++ place ∷ []
+
+-- the list of each code that passes ends in the place, and those of others are as before
+pub record IsNoted (place : ℕ) (test : ℕ → Bool) (old new : List (List ℕ)) : Type 0 where
+  pub counted : length new ≡ length old
+  pub each : (c : ℕ) → c < length old
+      → slice_index_or new c [] ≡ (if test c then with_end place (slice_index_or old c []) else slice_index_or old c [])
 
 -- a rule that is never active, in place of one that the book doesn't have
 abbrev pub no_construct : Construct

@@ -1,16 +1,15 @@
 //! The check of the supplementing rules of a book.
-ghost use Rattle.std.specs.Prelude.{◌≡◌, ℕ, ◌<◌, ◌≤◌, Bool, false, List, All, IfOk, Err};
+ghost use Rattle.std.specs.Prelude.{◌≡◌, ℕ, ◌<◌, ◌≤◌, Bool, false, List, All, IfOk, Err, length};
 ghost use Rattle.pb_base.specs.Answers.{IfRefused};
 ghost use Rattle.pb_base.specs.InParts.{InParts};
 ghost use Rattle.pb_base.specs.declared.limits.TheConstants.{MOST_BUDGET};
 ghost use Rattle.book_model.specs.Slices.{IsOrdered, IsSteady};
 ghost use Rattle.book_model.specs.declared.record.Supplement.{Supplement};
-ghost use Rattle.supplement_findings.specs.Answering.{inquiry};
+ghost use Rattle.supplement_findings.specs.Answering.{AreTouched, inquiry};
 ghost use Rattle.supplement_findings.specs.Ends.{swaps_with};
 ghost use Rattle.supplement_findings.specs.Limits.{slices_within};
 ghost use Rattle.supplement_findings.specs.Notes.{IsReport, SliceNotes};
 ghost use Rattle.supplement_findings.specs.Questions.{all_questions, is_asked};
-ghost use Rattle.supplement_findings.specs.Touching.{all_touched};
 
 use crate::laws::unasked_never_swap;
 use crate::question::SupplementQuestion;
@@ -58,7 +57,7 @@ fn check_slices(
     requires steady { All (IsSteady book.now) slices.now }
     requires order { All IsOrdered slices.now }
     requires all { all.now ≡ all_questions book.now }
-    requires touched { touched.now ≡ all_touched book.now }
+    requires touched { AreTouched (length book.now.codes) book.now.constructs touched.now }
     requires some { 0 < budget }
     requires most { budget ≤ MOST_BUDGET }
     ensures { IfOk result (λ notes. InParts (SliceNotes (inquiry book.now budget)) slices.now notes.items) }

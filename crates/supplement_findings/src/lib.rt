@@ -5,6 +5,7 @@
 mod after;
 mod check;
 mod coding;
+mod group;
 mod laws;
 mod lits;
 mod occurs;

@@ -51,7 +51,8 @@ pub(crate) fn touches(code: u32, demand: &Demand) -> bool
     }
 }
 
-fn is_among(code: u32, codes: &[u32]) -> bool
+/// Whether the code is one of these.
+pub(crate) fn is_among(code: u32, codes: &[u32]) -> bool
     ensures { result ≡ list_any (λ k. k == code) codes.now }
 {
     codes.iter().any(|other| *other == code)

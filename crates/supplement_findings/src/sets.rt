@@ -3,10 +3,10 @@ ghost use Rattle.std.specs.Prelude.{◌≡◌, ◌<◌, All, IfOk, length, true}
 ghost use Rattle.std.specs.List.{list_any};
 ghost use Rattle.book_model.specs.Book.{SupplementFits, ConstructFits};
 ghost use Rattle.book_model.specs.Good.{breaks, is_constructible};
-ghost use Rattle.supplement_findings.specs.Answering.{IsCounted};
+ghost use Rattle.supplement_findings.specs.Answering.{AreTouched, IsCounted};
 ghost use Rattle.supplement_findings.specs.Ends.{breaks_with, swaps_with, with_code};
 ghost use Rattle.supplement_findings.specs.Questions.{meets, QuestionFits};
-ghost use Rattle.supplement_findings.specs.Touching.{all_touched, touched_from, construct_at};
+ghost use Rattle.supplement_findings.specs.Touching.{touched_from, construct_at};
 
 use crate::question::SupplementQuestion;
 use crate::touched::touched_at;
@@ -39,7 +39,7 @@ pub(crate) fn meets(
     touched: &[Sequence<u32>],
 ) -> Result<bool, Memory>
     requires fits { QuestionFits book.now question }
-    requires touched { touched.now ≡ all_touched book.now }
+    requires touched { AreTouched (length book.now.codes) book.now.constructs touched.now }
     requires counted { IsCounted book.now set.now }
     requires built { is_constructible book.now day set.now ≡ true }
     ensures { IfOk result (λ met. met ≡ meets book.now day question set.now) }
@@ -47,8 +47,9 @@ pub(crate) fn meets(
     let rules = book.supplements();
     match question {
         SupplementQuestion::Breaks(place) => {
-            let touched = touched_at(book, touched, place);
-            is_broken(alloc, book, day, set, &rules[place as usize], touched)
+            let rule = &rules[place as usize];
+            let touched = touched_at(book, touched, rule.code);
+            is_broken(alloc, book, day, set, rule, touched)
         }
         SupplementQuestion::Swaps { first, second } => {
             is_swapped(

@@ -1,42 +1,44 @@
 //! The questions of a day, and how they are asked.
-ghost use Rattle.std.specs.Prelude.{◌≡◌, ◌+◌, ◌*◌, ◌≤◌, true};
+ghost use Rattle.std.specs.Prelude.{◌≡◌, ◌≤◌, true};
+ghost use Rattle.pb_base.specs.Node.{size};
+ghost use Rattle.pb_base.specs.Rule.{nodes};
 ghost use Rattle.book_model.specs.Good.{is_constructible};
 ghost use Rattle.supplement_findings.specs.Answering as answering;
 ghost use Rattle.supplement_findings.specs.Answering.{IsSource, question_size};
 ghost use Rattle.supplement_findings.specs.Questions.{QuestionFits};
-ghost use Rattle.supplement_findings.specs.Touching.{all_touched};
 
 use crate::coding::coded_questions;
 use crate::question::SupplementQuestion;
 use crate::sets::{is_built, meets};
-use crate::touched::touched_at;
 use book_model::Book;
 use inquiry::{Coded, Inquiry};
-use pb_base::{CodeSet, Day, Memory, Sequence};
+use pb_base::{CodeSet, Day, Formula, Memory, Sequence};
 use std::alloc::Global;
 
 // The most variables that questions of one solver add together, as they count them. Each of them slows a search, also where it asks
-// of another question.
-const MOST_TOGETHER: u32 = 4_194_304;
+// of another question, and what refutes a question is kept until the solver goes.
+const MOST_TOGETHER: u32 = 1_024;
 
-/// The questions on the supplementing rules of a book on a day, with the rules that the code of each touches.
+/// The questions on the supplementing rules of a book on a day, with the rules that each code touches. Those of them that ask
+/// which constructibility rules a code breaks are of some codes.
 #[derive(Clone, Copy)]
 pub(crate) struct DayQuestions<'a> {
     pub book: &'a Book,
     pub day: Day,
     pub touched: &'a [Sequence<u32>],
+    pub codes: &'a [u32],
 }
 
 impl<'a> Inquiry for DayQuestions<'a> {
     type Question = SupplementQuestion;
 
-    ghost IsReady = { λ s. IsSource s.book.now s.touched.now };
+    ghost IsReady = { λ s. IsSource s.book.now s.touched.now s.codes.now };
 
-    ghost IsPosed = { λ s q. answering.IsPosed s.book.now s.day q };
+    ghost IsPosed = { λ s q. answering.IsPosed s.book.now s.day s.codes.now q };
 
     ghost MayShow = { λ s x. is_constructible s.book.now s.day x ≡ true };
 
-    ghost form = { λ s. answering.form s.book.now s.day };
+    ghost form = { λ s. answering.form s.book.now s.day s.codes.now };
 
     fn codes(&self) -> u32 {
         self.book.codes().len()
@@ -47,11 +49,18 @@ impl<'a> Inquiry for DayQuestions<'a> {
     }
 
     fn size(&self, question: SupplementQuestion) -> u32 {
-        question_size(self.book, self.touched, question)
+        question_size(self.book, question)
     }
 
     fn encode(&self, alloc: Global, questions: &[SupplementQuestion]) -> Result<Coded, Memory> {
-        coded_questions(alloc, self.book, self.day, questions, self.touched)
+        coded_questions(
+            alloc,
+            self.book,
+            self.day,
+            self.codes,
+            questions,
+            self.touched,
+        )
     }
 
     fn shows(
@@ -71,25 +80,27 @@ impl<'a> Inquiry for DayQuestions<'a> {
 }
 
 // How many variables a question adds at most.
-fn question_size(book: &Book, touched: &[Sequence<u32>], question: SupplementQuestion) -> u32
-    requires touched { touched.now ≡ all_touched book.now }
-    requires fits { QuestionFits book.now question }
+fn question_size(book: &Book, question: SupplementQuestion) -> u32
+    requires { QuestionFits book.now question }
     ensures { result ≡ question_size book.now question }
 {
-    book.codes();
+    let rules = book.supplements();
     match question {
-        SupplementQuestion::Breaks(place) => {
-            let places = touched_at(book, touched, place);
-            breaks_size(places.len())
+        SupplementQuestion::Breaks(place) => rule_size(&rules[place as usize].rule) + 1,
+        SupplementQuestion::Swaps { first, second } => {
+            let first = rule_size(&rules[first as usize].rule);
+            let second = rule_size(&rules[second as usize].rule);
+            2 * (first + second) + 1
         }
-        SupplementQuestion::Swaps { .. } => 2_049,
     }
 }
 
-// The same of a rule whose code touches so many others.
-fn breaks_size(touched: usize) -> u32
-    requires { touched ≤ 11000 }
-    ensures { result ≡ 513 + 513 * touched }
+// How many nodes a formula is kept in.
+#[tactic(auto, using(crate::proofs::SizeLaws::length_kept, crate::proofs::SizeLaws::size_few))]
+fn rule_size(rule: &Formula) -> u32
+    requires { nodes rule.now ≤ 512 }
+    ensures is { result ≡ size rule.now }
+    ensures few { result ≤ 1024 }
 {
-    513 + 513 * touched as u32
+    rule.nodes().len() as u32
 }

@@ -1,8 +1,6 @@
-use Rattle.std.proofs.Common.{◌≡◌, ◌++◌, drop, map}
-use Rattle.book_model.specs.declared.record.Supplement.{Supplement}
-use Rattle.supplement_findings.specs.Touching.{touched_from}
+use Rattle.std.proofs.Common.{length, take}
+use Rattle.supplement_findings.specs.Answering.{AreTouched}
 use Rattle.supplement_findings.proofs.touched.all_touched.Given as goal
 
-abbrev pub invariant-loop-rule : goal.invariant-loop-rule
-invariant-loop-rule l =
-    l.all.items ++ map (λ (s : Supplement). touched_from 0 s.code l.constructs) (drop l.rule-index l.rule-items) ≡ map (λ (s : Supplement). touched_from 0 s.code l.constructs) l.rule-items
+abbrev pub invariant-loop-place : goal.invariant-loop-place
+invariant-loop-place l = AreTouched (length l.book.codes) (take l.place l.construct-items) l.table.items
