@@ -1,6 +1,6 @@
 -- What says that the book can't be released is right.
-use Rattle.std.proofs.Common.{◌≡◌, ◌∙◌, ℕ, true, false, List, Result, Ok, Err, refl, sym, ap}
-use Rattle.std.specs.Prelude.{IsOkAnd, IsTrue}
+use Rattle.std.proofs.Common.{◌≡◌, ◌∙◌, ℕ, List, Result, Ok, Err, refl, sym, ap}
+use Rattle.std.specs.Prelude.{IsOkAnd}
 use Rattle.book_model.specs.Contents.{Contents}
 use Rattle.book_model.specs.Book.{IsBook}
 use Rattle.book_model.specs.declared.record.Slice.{Slice}
@@ -14,7 +14,6 @@ use Rattle.findings.specs.declared.report.Ask.TheVariants.{All, Blocking}
 use Rattle.findings.specs.declared.report.Note.{Note as Told}
 use Rattle.findings.specs.declared.report.Verdict.{Verdict}
 use Rattle.findings.specs.declared.report.Verdict.TheVariants.{Releasable, Blocked, Undecided}
-use Rattle.pb_outside.specs.Files.{FilesTold}
 use Rattle.book_commands.specs.Checks.{IsReported, IsProvedBy, IsProved, RepliesWithin, IsUnreleasable, inquiry, RepliesToCheck, RepliesToProof}
 use Rattle.book_commands.specs.RunReply.{RunReply, verdict_status, report_reply}
 use Rattle.book_commands.specs.declared.run_status.RunStatus.TheVariants.{Done, Refused, Faulty}

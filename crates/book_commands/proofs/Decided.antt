@@ -1,5 +1,5 @@
 -- A check or a proof whose budget is ample leaves no question.
-use Rattle.std.proofs.Common.{◌≡◌, ◌∙◌, ℕ, List, Result, Ok, Err, refl, sym, ap}
+use Rattle.std.proofs.Common.{◌≡◌, ◌∙◌, ℕ, List, Result, Ok, Err, refl, ap}
 use Rattle.std.specs.Prelude.{IfOk}
 use Rattle.book_model.specs.Contents.{Contents}
 use Rattle.book_model.specs.declared.record.Slice.{Slice}
@@ -9,16 +9,15 @@ use Rattle.book_text.specs.declared.fault.BookFault.{BookFault}
 use Rattle.book_text.proofs.BookLaw.{book_of-book}
 use Rattle.derivation.specs.Limits.{slices_within}
 use Rattle.findings.specs.Left.{IsAmple}
-use Rattle.findings.specs.Notes.{Inquiry, IsReport, verdict_of}
+use Rattle.findings.specs.Notes.{Inquiry, verdict_of}
 use Rattle.findings.specs.declared.report.Ask.TheVariants.{All, Blocking}
 use Rattle.findings.specs.declared.report.Note.{Note as Told}
 use Rattle.findings.specs.declared.report.Verdict.{Verdict}
 use Rattle.findings.specs.declared.report.Verdict.TheVariants as verdicts
 use Rattle.findings.proofs.LeftLaws.{report_decided}
-use Rattle.pb_outside.specs.Files.{FilesTold}
 use Rattle.book_commands.specs.Checks.{IsReported, IsProvedBy, IsProved, RepliesWithin, inquiry, RepliesToCheck, RepliesToProof}
 use Rattle.book_commands.specs.RunReply.{RunReply, verdict_status, report_reply}
-use Rattle.book_commands.specs.declared.run_status.RunStatus.TheVariants.{Done, Refused, Undecided, Faulty}
+use Rattle.book_commands.specs.declared.run_status.RunStatus.TheVariants.{Done, Undecided, Faulty}
 
 -- the status comes with the verdict
 left_by_status : (verdict : Verdict) → Undecided ≡ verdict_status verdict → verdict ≡ verdicts.Undecided

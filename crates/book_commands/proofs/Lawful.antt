@@ -1,5 +1,5 @@
 -- The laws that a promise keeps: what the run of any command follows from.
-use Rattle.std.proofs.Common.{◌≡◌, ℕ, true, List, sym, subst}
+use Rattle.std.proofs.Common.{◌≡◌, ℕ, true, List, subst}
 use Rattle.std.specs.Prelude.{IsOkAnd, IsTrue}
 use Rattle.book_model.specs.Sound.{IsReleasable}
 use Rattle.book_text.specs.BookText.{book_of}

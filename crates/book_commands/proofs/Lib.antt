@@ -11,5 +11,8 @@ pub mod ReportLaws
 pub mod TextLaws
 pub mod Decided
 pub mod CompareLaws
+pub mod FreeLaws
+pub mod AskLaws
+pub mod WhyLaws
 pub mod Lawful
 pub mod Promises

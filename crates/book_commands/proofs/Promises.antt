@@ -1,25 +1,31 @@
 -- Each command's promise is lawful.
 use Rattle.std.proofs.Common.{◌≡◌, ℕ, true, false, List, refl, arith}
-use Rattle.std.specs.Prelude.{IsOkAnd, IsTrue}
+use Rattle.std.specs.Prelude.{IsTrue}
 use Rattle.book_text.specs.BookText.{book_of}
 use Rattle.pb_outside.specs.Files.{FilesTold}
 use Rattle.command_words.specs.declared.task.BookCommand.{BookCommand}
-use Rattle.command_words.specs.declared.task.BookCommand.TheVariants.{Order, Check, Prove, Verify, Supplements, Compare}
+use Rattle.command_words.specs.declared.task.BookCommand.TheVariants.{Order, Check, Prove, Verify, Supplements, Compare, Free, Why, Ask}
+use Rattle.book_commands.specs.Ask.{ask_promise}
 use Rattle.book_commands.specs.Checks.{check_promise, proof_promise}
 use Rattle.book_commands.specs.CompareReply.{compare_promise}
 use Rattle.book_commands.specs.Ends.{IsDecided, IsOrderStatus}
+use Rattle.book_commands.specs.Free.{free_promise}
 use Rattle.book_commands.specs.Order.{order_promise}
 use Rattle.book_commands.specs.Promise.{ReadsFiles}
 use Rattle.book_commands.specs.Promises.{promise_of}
 use Rattle.book_commands.specs.Supplements.{supplements_promise}
 use Rattle.book_commands.specs.Verify.{verify_promise}
+use Rattle.book_commands.specs.Why.{why_promise}
+use Rattle.book_commands.proofs.AskLaws.{ask-kind, ask-answered}
 use Rattle.book_commands.proofs.Blocked.{check-blocked, proof-blocked}
 use Rattle.book_commands.proofs.Decided.{check_decided, proof_decided}
+use Rattle.book_commands.proofs.FreeLaws.{free-kind, free-answered}
 use Rattle.book_commands.proofs.Lawful.{IsLawful}
 use Rattle.book_commands.proofs.Releasable.{check-releasable, proof-releasable, verified-releasable}
 use Rattle.book_commands.proofs.Statuses.{same-kind, order-kind, verify-kind, check-kind, proof-kind, supplements-kind, texts-kind}
 use Rattle.book_commands.proofs.Statuses.{order-status, verify-status, check-answered, proof-answered, supplements-answered, compare-answered}
 use Rattle.book_commands.proofs.Valid.{has_book, has_certificate}
+use Rattle.book_commands.proofs.WhyLaws.{why-kind, why-answered}
 
 -- a command of which a status tells nothing
 not_asked : {P : Type 0} → IsTrue false → P
@@ -100,6 +106,42 @@ compare_lawful day file budget = record {
   decided = λ input files files' reply ample h left. ample;
 }
 
+free_lawful : (day : ℕ) (ordered : List (List ℕ)) (budget : ℕ) → IsLawful (free_promise day ordered budget)
+free_lawful day ordered budget = record {
+  same_files = λ files. refl;
+  file_rose = λ input files files' h. absurd h;
+  no_file_fault = λ input files files' valid sure h. h;
+  statuses = λ input files files' reply h. free-kind (book_of input) day ordered budget reply h.is_answer;
+  answered = λ input files files' reply v h. free-answered (book_of input) day ordered budget reply v.book v.order h.is_answer;
+  releasable = λ input files files' reply asks h done. not_asked asks;
+  unreleasable = λ input files files' reply asks h refused. not_asked asks;
+  decided = λ input files files' reply ample h left. ample;
+}
+
+ask_lawful : (day : ℕ) (text : List ℕ) (budget : ℕ) → IsLawful (ask_promise day text budget)
+ask_lawful day text budget = record {
+  same_files = λ files. refl;
+  file_rose = λ input files files' h. absurd h;
+  no_file_fault = λ input files files' valid sure h. h;
+  statuses = λ input files files' reply h. ask-kind (book_of input) day text budget reply h.is_answer;
+  answered = λ input files files' reply v h. ask-answered (book_of input) day text budget reply v.book v.day v.rule h.is_answer;
+  releasable = λ input files files' reply asks h done. not_asked asks;
+  unreleasable = λ input files files' reply asks h refused. not_asked asks;
+  decided = λ input files files' reply ample h left. ample;
+}
+
+why_lawful : (day : ℕ) (ordered : List (List ℕ)) (budget : ℕ) → IsLawful (why_promise day ordered budget)
+why_lawful day ordered budget = record {
+  same_files = λ files. refl;
+  file_rose = λ input files files' h. absurd h;
+  no_file_fault = λ input files files' valid sure h. h;
+  statuses = λ input files files' reply h. why-kind (book_of input) day ordered budget reply h.is_answer;
+  answered = λ input files files' reply v h. why-answered (book_of input) day ordered budget reply v.book v.order h.is_answer;
+  releasable = λ input files files' reply asks h done. not_asked asks;
+  unreleasable = λ input files files' reply asks h refused. not_asked asks;
+  decided = λ input files files' reply ample h left. ample;
+}
+
 pub lawful : (command : BookCommand) → IsLawful (promise_of command)
 unfolding promise_of
 lawful (Order day ordered) = order_lawful day ordered
@@ -108,3 +150,6 @@ lawful (Prove budget) = proof_lawful budget
 lawful (Verify file) = verify_lawful file
 lawful (Supplements budget) = supplements_lawful budget
 lawful (Compare day file budget) = compare_lawful day file budget
+lawful (Free day ordered budget) = free_lawful day ordered budget
+lawful (Why day ordered budget) = why_lawful day ordered budget
+lawful (Ask day rule budget) = ask_lawful day rule budget

@@ -1,6 +1,6 @@
 -- What says that the book can be released is right.
-use Rattle.std.proofs.Common.{◌≡◌, ◌∙◌, ℕ, true, false, List, Option, None, Some, Result, Ok, Err, refl, sym, ap}
-use Rattle.std.specs.Prelude.{IsOkAnd, IsTrue}
+use Rattle.std.proofs.Common.{◌≡◌, ◌∙◌, ℕ, List, Option, None, Some, Result, Ok, Err, refl, sym, ap}
+use Rattle.std.specs.Prelude.{IsOkAnd}
 use Rattle.book_model.specs.Contents.{Contents}
 use Rattle.book_model.specs.Book.{IsBook}
 use Rattle.book_model.specs.Sound.{IsReleasable}

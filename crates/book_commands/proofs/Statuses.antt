@@ -48,7 +48,7 @@ use Rattle.book_commands.specs.Verify.{IsCertificate, HasCertificate, RepliesToV
 use Rattle.book_commands.specs.declared.run_status.RunStatus.{RunStatus}
 use Rattle.book_commands.specs.declared.run_status.RunStatus.TheVariants as statuses
 
-decided-outcome : (outcome : Outcome) → IsDecided (outcome_status outcome)
+pub decided-outcome : (outcome : Outcome) → IsDecided (outcome_status outcome)
 decided-outcome (Accepted set list) = inl refl
 decided-outcome (Refused rule) = inr refl
 decided-outcome (Unfit position count) = inr refl

@@ -2,7 +2,6 @@
 use Rattle.std.proofs.Common.{◌≡◌, ◌∙◌, ℕ, List, true, false, sym, take}
 use Rattle.std.specs.Prelude.{Option, None, Some, Result, Ok, Err, IsOk, IfOk, IfSome, IsSomeAnd}
 use Rattle.book_model.specs.Contents.{Contents}
-use Rattle.book_text.specs.BookText.{book_of}
 use Rattle.book_text.specs.declared.fault.BookFault.{BookFault}
 use Rattle.pb_outside.specs.Source.{ReadsUpTo}
 use Rattle.pb_outside.specs.Files.{NamedBytes, content_of}

@@ -8,6 +8,9 @@ pub mod Order
 pub mod Checks
 pub mod Verify
 pub mod Supplements
+pub mod Free
+pub mod Ask
+pub mod Why
 pub mod CompareReply
 pub mod Promises
 pub mod Inputs

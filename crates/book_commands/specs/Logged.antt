@@ -1,12 +1,12 @@
 -- A report in the log: its findings and the questions that were left, each with the place of its slice.
-use Rattle.std.specs.Prelude.{ℕ, suc, ◌+◌, ◌-◌, Bool, false, List, [], ◌∷◌}
+use Rattle.std.specs.Prelude.{ℕ, suc, ◌+◌, ◌-◌, Bool, true, false, List, [], ◌∷◌}
 use Rattle.book_compare.specs.CompareText.{is_undecided as is_left_open}
 use Rattle.findings.specs.Notes.{is_blocking}
 use Rattle.findings.specs.declared.report.Note.{Note as Told}
 use Rattle.findings.specs.declared.report.Note.TheVariants.{Days, Finding as FindingTold, Undecided}
 use Rattle.supplement_findings.specs.Notes.{is_undecided}
 use Rattle.book_commands.specs.declared.log.Note.{Note}
-use Rattle.book_commands.specs.declared.log.Note.TheVariants.{Text, Order, Limit, Refused, Unfit, Finding, Spent, Cert, Supplement, Compare, BadRow, Count}
+use Rattle.book_commands.specs.declared.log.Note.TheVariants.{Text, Order, Rule, Limit, Refused, Unfit, Finding, Spent, Cert, Supplement, Compare, Left, BadRow, Count}
 
 -- the same of notes before which so many slices were told; a note is of the last of them
 abbrev pub logged_behind : ℕ → List Told → List Note
@@ -25,10 +25,11 @@ slices_told (Days first last ∷ notes) = suc (slices_told notes)
 slices_told (FindingTold question set ∷ notes) = slices_told notes
 slices_told (Undecided question learnt ∷ notes) = slices_told notes
 
--- a question that a release asks was left, or one on supplementing rules, or on a position of two books
+-- a question that a release asks was left, or one on supplementing rules, or on a position of two books, or a search for a car
 abbrev pub is_spent : Note → Bool
 is_spent (Text fault) = false
 is_spent (Order fault) = false
+is_spent (Rule fault) = false
 is_spent (Limit fault) = false
 is_spent (Refused rule) = false
 is_spent (Unfit position count) = false
@@ -37,5 +38,6 @@ is_spent (Spent slice question learnt) = is_blocking question
 is_spent (Cert fault) = false
 is_spent (Supplement note) = is_undecided note
 is_spent (Compare note) = is_left_open note
+is_spent (Left learnt) = true
 is_spent (BadRow table place) = false
 is_spent (Count which before after) = false

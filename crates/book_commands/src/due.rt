@@ -6,13 +6,16 @@ ghost use Rattle.book_commands.specs.RunReply.{due_of};
 ghost use Rattle.book_commands.specs.Promises.{promise_of};
 ghost use Rattle.book_commands.specs.Due.{Due};
 
+use crate::ask::ask_reply;
 use crate::certify::verify_reply;
 use crate::check::{check_reply, proof_reply};
 use crate::comparing::compare_reply;
+use crate::free::free_reply;
 use crate::judge::order_reply;
 use crate::object::Object;
 use crate::run_reply::RunReply;
 use crate::supplements::supplements_reply;
+use crate::why::why_reply;
 use command_words::BookCommand;
 use pb_base::Memory;
 use pb_base::limits::MOST_TEXT_BYTES;
@@ -70,6 +73,13 @@ fn command_reply<F: Files>(
 {
     match command {
         BookCommand::Order { day, codes } => Ok(order_reply(alloc, input, *day, codes)?),
+        BookCommand::Free { day, codes, budget } => {
+            Ok(free_reply(alloc, input, *day, codes, budget)?)
+        }
+        BookCommand::Why { day, codes, budget } => {
+            Ok(why_reply(alloc, input, *day, codes, budget)?)
+        }
+        BookCommand::Ask { day, rule, budget } => Ok(ask_reply(alloc, input, *day, rule, budget)?),
         BookCommand::Check { budget } => Ok(check_reply(alloc, input, budget)?),
         BookCommand::Prove { budget } => Ok(proof_reply(alloc, input, budget)?),
         BookCommand::Verify { file } => verify_reply(alloc, input, file, files),

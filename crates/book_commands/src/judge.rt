@@ -59,7 +59,7 @@ fn outcome_reply(alloc: Global, book: &Book, outcome: &Outcome) -> Result<RunRep
     }
 }
 
-fn outcome_status(outcome: &Outcome) -> RunStatus
+pub fn outcome_status(outcome: &Outcome) -> RunStatus
     ensures { result ≡ outcome_status outcome.now }
 {
     match outcome {
@@ -69,7 +69,7 @@ fn outcome_status(outcome: &Outcome) -> RunStatus
     }
 }
 
-fn outcome_note(outcome: &Outcome) -> Option<Note>
+pub fn outcome_note(outcome: &Outcome) -> Option<Note>
     ensures { option_to_list result ≡ outcome_notes outcome.now }
 {
     match outcome {
@@ -90,7 +90,8 @@ pub fn book_fault_reply(alloc: Global, fault: BookFault) -> Result<RunReply, Mem
     RunReply::noted(alloc, text, RunStatus::Faulty, Note::Text(fault))
 }
 
-fn order_fault_reply(alloc: Global, fault: OrderFault) -> Result<RunReply, Memory>
+/// `order fault ..`, with the fault as a note.
+pub fn order_fault_reply(alloc: Global, fault: OrderFault) -> Result<RunReply, Memory>
     ensures { IfOk result (λ reply. reply ≡ order_fault_reply fault) }
 {
     let text = order_fault_text(alloc, &fault)?;

@@ -1,12 +1,14 @@
 //! The commands that read a book, and the sample: an input and files in, a text, a log and a status out.
 #![tactic(auto)]
 
+mod ask;
 mod cert_text;
 mod certify;
 mod check;
 mod comparing;
 mod due;
 mod fault_text;
+mod free;
 mod judge;
 mod log;
 mod logged;
@@ -17,6 +19,7 @@ mod sample;
 mod supplements;
 mod tally;
 mod tell;
+mod why;
 
 pub use due::due_reply;
 pub use log::{Note, RunLog};

@@ -10,6 +10,7 @@ use clausify::Question;
 use derivation::CertFault;
 use parts_usage::OrderFault;
 use pb_base::{CodeSet, Memory};
+use rule_text::RuleFault;
 use std::alloc::Global;
 use std::marker::Model;
 use supplement_findings::SupplementNote;
@@ -21,6 +22,8 @@ pub enum Note {
     Text(BookFault),
     /// The order has this fault.
     Order(OrderFault),
+    /// The text of the rule that was asked has this fault.
+    Rule(RuleFault),
     /// The book exceeds this limit of checking.
     Limit(LimitFault),
     /// The constructibility rule at this place refuses the order.
@@ -49,6 +52,8 @@ pub enum Note {
     Supplement(SupplementNote),
     /// A note of a comparison of two books.
     Compare(CompareNote),
+    /// A search for a car was left when these clauses had been learnt for it.
+    Left(Pool),
     /// A row that is kept is not right: its table, 0 form, 1 drafts, 2 books, 3 orders, 4 withdrawn, and its place in it, from
     /// 1, or 0 for the form.
     BadRow {

@@ -121,6 +121,14 @@ is_rejudge : IsNamed (codes "rejudge")
 unfolding clap_on_literals
 is_rejudge = record { stops = refl; passes = refl; form = refl }
 
+is_free : IsNamed (codes "free")
+unfolding clap_on_literals
+is_free = record { stops = refl; passes = refl; form = refl }
+
+is_why : IsNamed (codes "why")
+unfolding clap_on_literals
+is_why = record { stops = refl; passes = refl; form = refl }
+
 -- a word that is no command word
 record IsOther (name : List ℕ) : Type 0 where
   order : bytes_eq (codes "order") name ≡ false
@@ -133,6 +141,8 @@ record IsOther (name : List ℕ) : Type 0 where
   supplements : bytes_eq (codes "supplements") name ≡ false
   compare : bytes_eq (codes "compare") name ≡ false
   rejudge : bytes_eq (codes "rejudge") name ≡ false
+  free : bytes_eq (codes "free") name ≡ false
+  why : bytes_eq (codes "why") name ≡ false
 
 turned : (a b : List ℕ) → bytes_eq a b ≡ false → bytes_eq b a ≡ false
 turned a b e = go (bytes_eq b a) refl
@@ -145,7 +155,7 @@ turned a b e = go (bytes_eq b a) refl
 
 asks_nothing : (name : List ℕ) → IsOther name → (budget : Option (List ℕ)) (operands : Words) → asked name budget operands ≡ None
 asks_nothing name o budget operands =
-    rw (turned (codes "order") name o.order) (rw (turned (codes "check") name o.check) (rw (turned (codes "prove") name o.prove) (rw (turned (codes "verify") name o.verify) (rw (turned (codes "desk") name o.desk) (rw (turned (codes "serve") name o.serve) (rw (turned (codes "sample") name o.sample) (rw (turned (codes "supplements") name o.supplements) (rw (turned (codes "compare") name o.compare) (rw (turned (codes "rejudge") name o.rejudge) (refl))))))))))
+    rw (turned (codes "order") name o.order) (rw (turned (codes "check") name o.check) (rw (turned (codes "prove") name o.prove) (rw (turned (codes "verify") name o.verify) (rw (turned (codes "desk") name o.desk) (rw (turned (codes "serve") name o.serve) (rw (turned (codes "sample") name o.sample) (rw (turned (codes "supplements") name o.supplements) (rw (turned (codes "compare") name o.compare) (rw (turned (codes "rejudge") name o.rejudge) (rw (turned (codes "free") name o.free) (rw (turned (codes "why") name o.why) (refl))))))))))))
 
 parses_none : (name : List ℕ) → IsOther name → (found : Option (Option (List ℕ) × Words)) → option_and_then (λ p. asked name p.0 p.1) found ≡ None
 parses_none name o None = refl
@@ -156,7 +166,7 @@ stray : (name : List ℕ) → IsOther name → is_plain name ≡ true
 unfolding clap_on_literals
 stray name o plain =
     let p = plain_word_of name plain in
-    rw o.order (rw o.check (rw o.prove (rw o.verify (rw o.desk (rw o.serve (rw o.sample (rw o.supplements (rw o.compare (rw o.rejudge (rw p.no_end (rw p.no_long (rw p.no_short refl))))))))))))
+    rw o.order (rw o.check (rw o.prove (rw o.verify (rw o.desk (rw o.serve (rw o.sample (rw o.supplements (rw o.compare (rw o.rejudge (rw o.free (rw o.why (rw p.no_end (rw p.no_long (rw p.no_short refl))))))))))))))
 
 stray_walk : (name : List ℕ) (words : Words) → IsOther name → is_plain name ≡ true
     → walk_fault whole.top names (walk_from nothing_held) (name ∷ words) ≡ kind.UnknownArgument ∷ kind.InvalidSubcommand ∷ []
@@ -205,7 +215,13 @@ parses name words plain tame =
                       | inl is ↦ parses_named name (codes "compare") words is is_compare tame
                       | inr compare ↦ elim (is_word (codes "rejudge") name) [
                         | inl is ↦ parses_named name (codes "rejudge") words is is_rejudge tame
-                        | inr rejudge ↦ other name words (record { order = order; check = check; prove = prove; verify = verify; desk = desk; serve = serve; sample = sample; supplements = supplements; compare = compare; rejudge = rejudge }) plain
+                        | inr rejudge ↦ elim (is_word (codes "free") name) [
+                          | inl is ↦ parses_named name (codes "free") words is is_free tame
+                          | inr free ↦ elim (is_word (codes "why") name) [
+                            | inl is ↦ parses_named name (codes "why") words is is_why tame
+                            | inr why ↦ other name words (record { order = order; check = check; prove = prove; verify = verify; desk = desk; serve = serve; sample = sample; supplements = supplements; compare = compare; rejudge = rejudge; free = free; why = why }) plain
+                          ]
+                        ]
                       ]
                     ]
                   ]

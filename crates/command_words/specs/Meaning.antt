@@ -9,20 +9,24 @@
 --     supplements [--budget N]      what completion does with sets that break no rule
 --     compare DAY FILE [--budget N]    what changes on this day from the book to the one in this file
 --     rejudge STORE BOOK WORKERS    the orders that this store keeps, judged again by the book of this number
--- A budget is the most clauses that may be learnt for one question.
-use Rattle.std.specs.Prelude.{◌≡◌, ◌==◌, ◌&&◌, ℕ, ◌%◌, List, [], ◌∷◌, Option, None, Some, codes, nat_le, if◌then◌else◌}
+--     free DAY CODE.. [--budget N]    what can still be chosen on this day beside these codes
+--     why DAY CODE.. [--budget N]     what an order of these codes on this day comes to, and how it would be accepted
+--     ask DAY RULE [--budget N]     whether a car of this day meets the rule, and what is to blame if none does
+-- A budget is the most clauses that may be learnt for one question. `ask` has words of its own (AskWords).
+use Rattle.std.specs.Prelude.{◌≡◌, ◌++◌, ◌==◌, ◌&&◌, ℕ, ◌%◌, List, [], ◌∷◌, Option, None, Some, codes, length, nat_le, if◌then◌else◌}
 use Rattle.std.specs.Option.{option_map, option_and_then}
 use Rattle.std.specs.List.{list_all}
 use Rattle.pb_base.specs.Names.{same_name, is_code_name}
 use Rattle.pb_base.specs.Digits.{number_within, short_number}
-use Rattle.command_words.specs.Parts.{Words, HasParts}
+use Rattle.command_words.specs.Parts.{Words, HasParts, dashes}
+use Rattle.command_words.specs.AskWords.{behind_short, operands_of, option_value, short_front}
 use Rattle.command_words.specs.Size.{Size}
 use Rattle.command_words.specs.Service.{Service}
 use Rattle.command_words.specs.Rejudging.{Rejudging}
 use Rattle.command_words.specs.declared.task.Task.{Task}
 use Rattle.command_words.specs.declared.task.Task.TheVariants.{Book, Desk, Serve, Rejudge, Sample}
-use Rattle.command_words.specs.declared.task.BookCommand.TheVariants.{Order, Check, Prove, Verify, Supplements, Compare}
-use Rattle.pb_base.specs.declared.limits.TheConstants.{MOST_BUDGET, DEFAULT_BUDGET}
+use Rattle.command_words.specs.declared.task.BookCommand.TheVariants.{Order, Check, Prove, Verify, Supplements, Compare, Free, Why, Ask}
+use Rattle.pb_base.specs.declared.limits.TheConstants.{MOST_BUDGET, DEFAULT_BUDGET, MOST_TEXT_BYTES}
 
 -- the number of 1 to 10 digits, where it lies in the range
 abbrev pub number_in : ℕ → ℕ → List ℕ → Option ℕ
@@ -104,11 +108,23 @@ rejudge_of None (store ∷ book ∷ workers ∷ []) =
     option_and_then (λ b. option_map (λ w. Rejudge (rejudging store b w)) (number_in 1 16 workers)) (number_in 1 4294967295 book)
 rejudge_of budget operands = None
 
--- the command words
+-- a day is 1 to 5 digits
+abbrev pub free_of : Option (List ℕ) → Words → Option Task
+free_of budget (day ∷ names) =
+    option_and_then (λ on. option_and_then (λ n. option_map (λ ordered. Book (Free on ordered n)) (codes_of names)) (budget_of budget)) (short_number day)
+free_of budget [] = None
+
+-- a day is 1 to 5 digits
+abbrev pub why_of : Option (List ℕ) → Words → Option Task
+why_of budget (day ∷ names) =
+    option_and_then (λ on. option_and_then (λ n. option_map (λ ordered. Book (Why on ordered n)) (codes_of names)) (budget_of budget)) (short_number day)
+why_of budget [] = None
+
+-- the command words but `ask`
 abbrev pub command_words : Words
 command_words =
     codes "order" ∷ codes "check" ∷ codes "prove" ∷ codes "verify" ∷ codes "desk" ∷ codes "serve" ∷ codes "sample" ∷ codes "supplements"
-    ∷ codes "compare" ∷ codes "rejudge" ∷ []
+    ∷ codes "compare" ∷ codes "rejudge" ∷ codes "free" ∷ codes "why" ∷ []
 
 -- what a command word asks with a budget and operands
 abbrev pub asked : List ℕ → Option (List ℕ) → Words → Option Task
@@ -123,10 +139,12 @@ asked name budget operands =
     else (if same_name name (codes "supplements") then supplements_of budget operands
     else (if same_name name (codes "compare") then compare_of budget operands
     else (if same_name name (codes "rejudge") then rejudge_of budget operands
-    else None)))))))))
+    else (if same_name name (codes "free") then free_of budget operands
+    else (if same_name name (codes "why") then why_of budget operands
+    else None)))))))))))
 
--- the words ask for the task
-pub record Asks (words : Words) (task : Task) : Type 0 where
+-- the words begin with a command word, and have its parts
+pub record AsksByForm (words : Words) (task : Task) : Type 0 where
   pub name : List ℕ
   pub behind : Words
   pub budget : Option (List ℕ)
@@ -134,6 +152,43 @@ pub record Asks (words : Words) (task : Task) : Type 0 where
   pub words_are : words ≡ name ∷ behind
   pub parts : HasParts behind budget operands
   pub asks : asked name budget operands ≡ Some task
+
+-- a rule has at most as many bytes as a book
+abbrev pub asked_on : ℕ → List ℕ → ℕ → Option Task
+asked_on budget rule day = if nat_le (length rule) MOST_TEXT_BYTES then Some (Book (Ask day rule budget)) else None
+
+-- a day is 1 to 5 digits
+abbrev pub asked_with : ℕ → Words → Option Task
+asked_with budget (day ∷ rule ∷ []) = option_and_then (asked_on budget rule) (short_number day)
+asked_with budget operands = None
+
+abbrev pub ask_of : Option (List ℕ) → Words → Option Task
+ask_of budget operands = option_and_then (λ n. asked_with n operands) (budget_of budget)
+
+-- what is asked by the operands in front and the words from the first one on that begins with `--`
+abbrev pub ask_from : Words → Words → Option Task
+ask_from front [] = ask_of None front
+ask_from front (word ∷ words) =
+    if same_name word dashes then ask_of None (front ++ words)
+    else option_and_then (λ p. option_and_then (λ more. ask_of (Some p.0) (front ++ more)) (operands_of p.1)) (option_value word words)
+
+-- what the words behind `ask` ask for
+abbrev pub ask_task : Words → Option Task
+ask_task words = ask_from (short_front words) (behind_short words)
+
+abbrev pub ask_word : List ℕ
+ask_word = codes "ask"
+
+-- the words begin with `ask`
+pub record AsksOfCars (words : Words) (task : Task) : Type 0 where
+  pub behind : Words
+  pub words_are : words ≡ ask_word ∷ behind
+  pub asks : ask_task behind ≡ Some task
+
+-- the words ask for the task
+pub data Asks (words : Words) (task : Task) : Type 0 where
+  by_form : AsksByForm words task → Asks words task
+  of_cars : AsksOfCars words task → Asks words task
 
 -- the words are of no form
 abbrev pub AsksNothing : Words → Type 0
@@ -143,3 +198,13 @@ AsksNothing words = (task : Task) → Asks words task → ⊥
 abbrev pub Means : Words → Option Task → Type 0
 Means words None = AsksNothing words
 Means words (Some task) = Asks words task
+
+-- the same of words that don't begin with `ask`
+abbrev pub MeansByForm : Words → Option Task → Type 0
+MeansByForm words None = (task : Task) → AsksByForm words task → ⊥
+MeansByForm words (Some task) = AsksByForm words task
+
+-- what stands behind `ask`, where the words begin so
+abbrev pub behind_ask : Words → Option Words
+behind_ask [] = None
+behind_ask (word ∷ words) = if same_name word ask_word then Some words else None

@@ -1,8 +1,9 @@
 //! What a command word asks with a budget and operands.
 ghost use Rattle.std.specs.Prelude.{◌≡◌, ◌%◌, ◌≤◌, IfOk, IfSome, option_map};
+ghost use Rattle.pb_base.specs.declared.limits.TheConstants.{MOST_BUDGET};
 ghost use Rattle.command_words.specs.Prepared.{lent, lent_option};
 ghost use Rattle.command_words.specs.Meaning.{number_in, codes_of, order_of, budget_of, budget_alone, check_of, prove_of, supplements_of};
-ghost use Rattle.command_words.specs.Meaning.{only_one, verify_of, desk_of, compare_of, rejudge_of};
+ghost use Rattle.command_words.specs.Meaning.{only_one, verify_of, desk_of, compare_of, rejudge_of, free_of, why_of};
 ghost use Rattle.command_words.specs.Meaning.{door_of, serve_of, codes_number, sample_of, asked, command_words};
 
 use crate::budget::Budget;
@@ -15,8 +16,8 @@ use pb_base::limits::{DEFAULT_BUDGET, MOST_BUDGET};
 use pb_base::{CodeList, CodeName, Memory, number_within, short_number};
 use std::alloc::Global;
 
-/// The command words.
-pub fn command_words<'a>() -> [&'a str; 10]
+/// The command words but `ask`.
+pub fn command_words<'a>() -> [&'a str; 12]
     ensures { lent result ≡ command_words }
 {
     [
@@ -30,6 +31,8 @@ pub fn command_words<'a>() -> [&'a str; 10]
         "supplements",
         "compare",
         "rejudge",
+        "free",
+        "why",
     ]
 }
 
@@ -62,6 +65,10 @@ pub fn asked(
         compare_of(alloc, budget, operands)
     } else if name == "rejudge" {
         rejudge_of(alloc, budget, operands)
+    } else if name == "free" {
+        free_of(alloc, budget, operands)
+    } else if name == "why" {
+        why_of(alloc, budget, operands)
     } else {
         Ok(None)
     }
@@ -134,12 +141,17 @@ fn budget_of(text: Option<&str>) -> Option<Budget>
     ensures { result ≡ budget_of (lent_option text.entry) }
 {
     match text {
-        Some(text) => {
-            let clauses = number_in(text, 1, MOST_BUDGET)?;
-            Some(Budget::of(clauses))
-        }
+        Some(text) => budget_in(text.as_bytes()),
         None => Some(Budget::of(DEFAULT_BUDGET)),
     }
+}
+
+// The most work for one question, as an option gives it.
+pub(crate) fn budget_in(text: &[u8]) -> Option<Budget>
+    ensures { result ≡ number_in 1 MOST_BUDGET text.now }
+{
+    let clauses = bytes_in(text, 1, MOST_BUDGET)?;
+    Some(Budget::of(clauses))
 }
 
 fn verify_of(alloc: Global, budget: Option<&str>, operands: &[&str]) -> Result<Option<Task>, Memory>
@@ -267,6 +279,36 @@ fn rejudge_of(
     }
 }
 
+fn free_of(alloc: Global, budget: Option<&str>, operands: &[&str]) -> Result<Option<Task>, Memory>
+    ensures { IfOk result (λ task. task ≡ free_of (lent_option budget.entry) (lent operands.now)) }
+{
+    let Some((day, names)) = operands.split_first() else {
+        return Ok(None);
+    };
+    match (short_number(day.as_bytes()), budget_of(budget)) {
+        (Some(day), Some(budget)) => match codes_of(alloc, names)? {
+            Some(codes) => Ok(Some(Task::Book(BookCommand::Free { day, codes, budget }))),
+            None => Ok(None),
+        },
+        _ => Ok(None),
+    }
+}
+
+fn why_of(alloc: Global, budget: Option<&str>, operands: &[&str]) -> Result<Option<Task>, Memory>
+    ensures { IfOk result (λ task. task ≡ why_of (lent_option budget.entry) (lent operands.now)) }
+{
+    let Some((day, names)) = operands.split_first() else {
+        return Ok(None);
+    };
+    match (short_number(day.as_bytes()), budget_of(budget)) {
+        (Some(day), Some(budget)) => match codes_of(alloc, names)? {
+            Some(codes) => Ok(Some(Task::Book(BookCommand::Why { day, codes, budget }))),
+            None => Ok(None),
+        },
+        _ => Ok(None),
+    }
+}
+
 // A multiple of 4.
 fn codes_number(text: &str) -> Option<u32>
     ensures value { result ≡ codes_number text.now }
@@ -284,7 +326,16 @@ fn number_in(text: &str, least: u32, most: u32) -> Option<u32>
     ensures least { IfSome result (λ number. least ≤ number) }
     ensures most { IfSome result (λ number. number ≤ most) }
 {
-    let number = number_within(text.as_bytes(), 10)?;
+    bytes_in(text.as_bytes(), least, most)
+}
+
+// The same of bytes.
+fn bytes_in(text: &[u8], least: u32, most: u32) -> Option<u32>
+    ensures number { result ≡ number_in least most text.now }
+    ensures least { IfSome result (λ number. least ≤ number) }
+    ensures most { IfSome result (λ number. number ≤ most) }
+{
+    let number = number_within(text, 10)?;
     if u64::from(least) <= number && number <= u64::from(most) {
         Some(number as u32)
     } else {

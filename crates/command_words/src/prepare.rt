@@ -104,7 +104,7 @@ fn is_plain(text: &[u8]) -> bool
     }
 }
 
-fn is_long(text: &[u8]) -> bool
+pub(crate) fn is_long(text: &[u8]) -> bool
     ensures { result ≡ is_long text.now }
 {
     match text.split_first() {

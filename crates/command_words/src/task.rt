@@ -3,6 +3,7 @@
 use crate::budget::Budget;
 use crate::file_name::FileName;
 use crate::rejudging::Rejudging;
+use crate::rule_word::RuleWord;
 use crate::sample_size::SampleSize;
 use crate::service::Service;
 use pb_base::{CodeList, Day};
@@ -29,6 +30,24 @@ pub enum BookCommand {
     Order {
         day: Day,
         codes: CodeList,
+    },
+    /// What can still be chosen on this day beside these codes, with this budget for each search.
+    Free {
+        day: Day,
+        codes: CodeList,
+        budget: Budget,
+    },
+    /// What the order of these codes on this day comes to, and how it would be accepted, with this budget for each search.
+    Why {
+        day: Day,
+        codes: CodeList,
+        budget: Budget,
+    },
+    /// Whether a car of this day meets the rule, and what is to blame if none does, with this budget for each search.
+    Ask {
+        day: Day,
+        rule: RuleWord,
+        budget: Budget,
     },
     /// What is wrong with the book, by all questions, each with this budget.
     Check {

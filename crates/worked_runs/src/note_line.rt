@@ -14,6 +14,7 @@ pub fn put_note(text: &mut Text, note: &Note) -> Result<(), Memory> {
     match note {
         Note::Text(fault) => put_book_fault(text, fault),
         Note::Order(fault) => put_order_fault(text, fault),
+        Note::Rule(fault) => put_numbers(text, "rule", &[u64::from(fault.number())]),
         Note::Limit(fault) => put_limit_fault(text, fault),
         Note::Refused(rule) => put_numbers(text, "refused", &[u64::from(*rule)]),
         Note::Unfit { position, count } => {
@@ -45,6 +46,7 @@ pub fn put_note(text: &mut Text, note: &Note) -> Result<(), Memory> {
         Note::Cert(fault) => put_numbers(text, "certificate", &[fault.line]),
         Note::Supplement(told) => put_supplement(text, told),
         Note::Compare(told) => put_compare(text, told),
+        Note::Left(learnt) => put_numbers(text, "left after", &[learnt.len() as u64]),
         Note::Count {
             which,
             before,

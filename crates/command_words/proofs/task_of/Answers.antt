@@ -1,27 +1,11 @@
-use Rattle.std.proofs.Common.{◌≡◌, ◌∙◌, ap, sym, ℕ, List, Option, Some, Bor, Vec, Global}
-use Rattle.std.specs.Option.{option_map}
-use Rattle.command_words.specs.Parts.{Words}
-use Rattle.command_words.specs.Prepared.{lent, prepared, texts_of}
-use Rattle.command_words.proofs.Meanings.{made_means, prepared_form, unprepared_means}
+use Rattle.std.proofs.Common.{sym}
+use Rattle.command_words.specs.Prepared.{texts_of}
+use Rattle.command_words.proofs.Meanings.{cars_means, form_means}
 use Rattle.command_words.proofs.task_of.Goals as goal
-
-abbrev kept_words : Vec (Bor (List ℕ)) Global → Words
-kept_words kept = lent kept.items
-
--- the list that was prepared, as the parser has it
-list_is : (words : Words) (found : Option (Vec (Bor (List ℕ)) Global)) (kept : Vec (Bor (List ℕ)) Global) (list : List (Bor (List ℕ)))
-    → option_map kept_words found ≡ prepared words → found ≡ Some kept → list ≡ kept.items → prepared words ≡ Some (lent list)
-list_is words found kept list prepares is same = sym prepares ∙ ap (option_map kept_words) is ∙ ap (λ l. Some (lent l)) (sym same)
-
-pub parse-requires : goal.parse-requires
-parse-requires c =
-    (prepared_form (texts_of c.args.words.now) (lent c.deref.result.now)
-    (list_is (texts_of c.args.words.now) _ c.in-Some.list c.deref.result.now c.in_ok-list.ensures c.in-Some.is c.deref.ensures.value)).may_be_given
 
 pub returns-in-Some : goal.returns-in-Some
 returns-in-Some c =
-    made_means (texts_of c.args.words.now) (lent c.deref.result.now) c.parse.result
-    (list_is (texts_of c.args.words.now) _ c.in-Some.list c.deref.result.now c.in_ok-list.ensures c.in-Some.is c.deref.ensures.value) c.parse.ensures
+    cars_means (texts_of c.args.words.now) (texts_of c.in-Some.behind.now) c.ask_task.result (sym c.in-Some.ensures) c.ask_task.ensures
 
 pub returns-in-None : goal.returns-in-None
-returns-in-None c = unprepared_means (texts_of c.args.words.now) (sym c.in_ok-list.ensures ∙ ap (option_map kept_words) c.in-None.is)
+returns-in-None c = form_means (texts_of c.args.words.now) c.form_task.result (sym c.in-None.ensures) c.form_task.ensures

@@ -6,6 +6,18 @@ pub returns-in_ok-order_reply-in-Order-clause-reply : goal.returns-in_ok-order_r
 unfolding promise_of
 returns-in_ok-order_reply-in-Order-clause-reply g c = rw c.in-Order.is (record { is_answer = c.in_ok-order_reply-in-Order.ensures; untouched = refl })
 
+pub returns-in_ok-free_reply-in-Free-clause-reply : goal.returns-in_ok-free_reply-in-Free-clause-reply
+unfolding promise_of
+returns-in_ok-free_reply-in-Free-clause-reply g c = rw c.in-Free.is (record { is_answer = c.in_ok-free_reply-in-Free.ensures; untouched = refl })
+
+pub returns-in_ok-why_reply-in-Why-clause-reply : goal.returns-in_ok-why_reply-in-Why-clause-reply
+unfolding promise_of
+returns-in_ok-why_reply-in-Why-clause-reply g c = rw c.in-Why.is (record { is_answer = c.in_ok-why_reply-in-Why.ensures; untouched = refl })
+
+pub returns-in_ok-ask_reply-in-Ask-clause-reply : goal.returns-in_ok-ask_reply-in-Ask-clause-reply
+unfolding promise_of
+returns-in_ok-ask_reply-in-Ask-clause-reply g c = rw c.in-Ask.is (record { is_answer = c.in_ok-ask_reply-in-Ask.ensures; untouched = refl })
+
 pub returns-in_ok-check_reply-in-Check-clause-reply : goal.returns-in_ok-check_reply-in-Check-clause-reply
 unfolding promise_of
 returns-in_ok-check_reply-in-Check-clause-reply g c = rw c.in-Check.is (record { is_answer = c.in_ok-check_reply-in-Check.ensures; untouched = refl })
