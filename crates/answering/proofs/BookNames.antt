@@ -6,6 +6,7 @@ use Rattle.book_model.specs.declared.slicing.LimitFault.{LimitFault}
 use Rattle.book_text.specs.BookText.{book_of as read_as}
 use Rattle.book_text.specs.declared.fault.BookFault.{BookFault}
 use Rattle.derivation.specs.Limits.{slices_within}
+use Rattle.parts_usage.specs.Fault.{order_fault}
 use Rattle.parts_usage.specs.Outcome.{outcome_of}
 use Rattle.parts_usage.specs.declared.fault.OrderFault.{OrderFault}
 use Rattle.parts_usage.specs.declared.judgement.Outcome.{Outcome}
@@ -29,7 +30,7 @@ use Rattle.order_desk.specs.declared.event.Reading.TheVariants as reading
 use Rattle.order_desk.specs.Tables.{Tables}
 use Rattle.order_desk.specs.Valid.{IsValid}
 use Rattle.order_desk.proofs.StepValid.{reaches_valid}
-use Rattle.answering.specs.Answers.{IsChecked, IsKeptBack, IsTold, IsToldAs, after_looking, after_placing, after_reading, by_accepted, by_limits, by_outcome, by_reading, cert_shown, commits, course_of, either, placing, showing, text_shown, to_release, told_again}
+use Rattle.answering.specs.Answers.{IsAdvice, IsChecked, IsKeptBack, IsTold, IsToldAs, Telling, TellsFree, TellsWhy, advising, after_looking, after_placing, after_reading, by_accepted, by_fault, by_limits, by_outcome, by_reading, cert_shown, commits, course_of, either, placing, showing, text_shown, to_release, told_again}
 use Rattle.answering.specs.Course.{Course, asks, ends, ends_with, never, or_memory, says}
 use Rattle.answering.specs.Dealt.{IsDealt, NamesReleased}
 use Rattle.answering.specs.Hand.{Hand}
@@ -157,6 +158,20 @@ on_showing book kind other =
     on_asks (Read (reading.Book book)) answer.Book (λ r. or_memory (ends_with (kind r)))
     (λ r. on_memory (ends_with (kind r)) (on_said (kind r) (other r)))
 
+fault_other : (tells : Telling) (o : Option OrderFault) (b : Contents) (order : OrderWords) (budget : ℕ) (said : Reply)
+    → by_fault tells o b order budget said → IsOther said
+fault_other tells (Some fault) b order budget said is = is_other (reply.OrderFault fault) said (λ t. tt) is
+fault_other tells None b order budget said (text, right, told) = is_other (reply.Report text) said (λ t. tt) told
+
+advice_other : (tells : Telling) (b : Contents) (order : OrderWords) (budget : ℕ) (said : Reply) → IsAdvice tells b order budget said → IsOther said
+advice_other tells b order budget said (inl is) = is_other reply.Memory said (λ t. tt) is
+advice_other tells b order budget said (inr is) = fault_other tells (order_fault b order.day order.codes) b order budget said is
+
+on_advising : (tells : Telling) (order : OrderWords) (budget : ℕ) → LeadsOn (advising tells order budget)
+on_advising tells order budget =
+    on_asks (Read (reading.InForce order.book)) answer.Book (λ r. ends (IsAdvice tells r.book order budget))
+    (λ r. on_ends (IsAdvice tells r.book order budget) (advice_other tells r.book order budget))
+
 on_placing : (text : List ℕ) (o : Option KeptOrder) → LeadsOn (after_placing text o)
 on_placing text None = on_said (reply.Placed true text) (λ t. tt)
 on_placing text (Some k) = on_told_again k.book k.order (reply.Placed false) (λ text t. tt)
@@ -188,6 +203,8 @@ leads caller (what.Withdraw book) = on_says (Withdraw caller book)
 leads caller (what.Order number order) =
     on_memory (asks (Read (reading.Look caller number order)) as_looked (after_looking caller number order))
     (on_asks (Read (reading.Look caller number order)) as_looked (after_looking caller number order) (on_looking caller number order))
+leads caller (what.Free order budget) = on_advising TellsFree order budget
+leads caller (what.Why order budget) = on_advising TellsWhy order budget
 leads caller (what.ReadOrder number) = on_asks (Read (reading.Order caller number)) as_kept after_reading on_reading
 
 pub on_course : (caller : List ℕ) (asked : What) (h : Hand) (said : Reply) (new : Hand) → course_of caller asked h said new → IsLaterHand h new

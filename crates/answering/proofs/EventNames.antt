@@ -19,7 +19,7 @@ use Rattle.order_desk.specs.declared.event.Reading.{Reading}
 use Rattle.order_desk.specs.declared.event.Reading.TheVariants as reading
 use Rattle.order_desk.specs.declared.kept_book.KeptBook.{KeptBook}
 use Rattle.order_desk.specs.declared.limits.TheConstants.{MOST_BOOKS, MOST_DRAFTS, MOST_ORDERS, MOST_REVISION}
-use Rattle.order_desk.specs.Effect.{Effect, says, shows, keeps, go_on, read, effect, draft_of, owned, next_of, next_draft, put_draft, give_draft, read_draft, read_owner, unless_released, to_release, to_take, take_draft, commit, book_of, show_book, withdraw, shows_kept, same_order, unless_kept, to_place, look, place, read_order}
+use Rattle.order_desk.specs.Effect.{Effect, says, shows, keeps, go_on, read, effect, draft_of, owned, next_of, next_draft, put_draft, give_draft, read_draft, read_owner, unless_released, to_release, to_take, take_draft, commit, book_of, book_in_force, show_book, show_in_force, withdraw, shows_kept, same_order, unless_kept, to_place, look, place, read_order}
 use Rattle.order_desk.specs.Fits.{Fits}
 use Rattle.order_desk.specs.Tables.{Tables, book_at, draft_at, is_of, key_of, order_at, released_as, with_book, with_draft, with_order, with_withdrawn}
 use Rattle.order_desk.specs.Valid.{IsValid}
@@ -152,6 +152,12 @@ module _ (t : Tables) where
   unfolding book_of
   book_refuses number = refuses-ok_or Said_ (book_at t.books number) (reply.NoSuch missing.Book) tt
 
+  in_force_refuses : (number : ℕ) → Refuses Said_ (book_in_force t number)
+  unfolding book_in_force
+  in_force_refuses number =
+      refuses-then Said_ (book_of t number) (λ b. if b.withdrawn then Err (reply.Gone number) else Ok b) (book_refuses number)
+      (λ b. refuses-if Said_ b.withdrawn (Err (reply.Gone number)) (Ok b) tt tt)
+
   place_refuses : (order : OrderWords) → Refuses Said_ (to_place t order)
   unfolding to_place
   place_refuses order =
@@ -200,7 +206,7 @@ module _ (t : Tables) where
       (λ d. tells-if AnswerNames t b.withdrawn gone (goes b) tt tt))
 
   read_names : (asked : Reading) → IsValid t → Names t (read t asked)
-  unfolding read_draft read_owner take_draft show_book look read_order
+  unfolding read_draft read_owner take_draft show_book show_in_force look read_order
   read_names (reading.Draft draft) valid =
       names-go_on (draft_of t draft) (λ d. shows (answer.Say (reply.Raw d.text))) (draft_refuses draft) (λ d. tt)
   read_names (reading.Owner draft) valid =
@@ -208,6 +214,8 @@ module _ (t : Tables) where
   read_names (reading.Take caller draft named) valid =
       names-go_on (to_take named t caller draft) (λ d. shows (answer.Draft d.text d.revision)) (take_refuses valid named caller draft) (λ d. tt)
   read_names (reading.Book book) valid = names-go_on (book_of t book) (λ b. shows (answer.Book b.released)) (book_refuses book) (λ b. tt)
+  read_names (reading.InForce book) valid =
+      names-go_on (book_in_force t book) (λ b. shows (answer.Book b.released)) (in_force_refuses book) (λ b. tt)
   read_names (reading.Look caller number order) valid =
       unless_kept_names (order_at t.orders (key_of caller number)) order (go_on (to_place t order) (λ b. shows (answer.Book b.released)))
       (names-go_on (to_place t order) (λ b. shows (answer.Book b.released)) (place_refuses order) (λ b. tt))

@@ -6,3 +6,4 @@ mod NewOrders
 mod EventNames
 pub mod BookNames
 pub mod CheckedLaws
+mod AdviceLaws

@@ -18,7 +18,7 @@ use Rattle.order_desk.specs.declared.event.Reading.TheVariants as reading
 use Rattle.order_desk.specs.declared.kept_book.KeptBook.{KeptBook}
 use Rattle.order_desk.specs.declared.limits.TheConstants.{MOST_BOOKS, MOST_ORDERS}
 use Rattle.order_desk.specs.declared.order_key.OrderKey.{OrderKey}
-use Rattle.order_desk.specs.Effect.{Effect, says, shows, keeps, go_on, effect, draft_of, next_draft, owned, put_draft, give_draft, read_draft, read_owner, unless_released, to_release, take_draft, commit, book_of, show_book, withdraw, shows_kept, same_order, unless_kept, to_place, look, place, read_order}
+use Rattle.order_desk.specs.Effect.{Effect, says, shows, keeps, go_on, effect, draft_of, next_draft, owned, put_draft, give_draft, read_draft, read_owner, unless_released, to_release, take_draft, commit, book_of, book_in_force, show_book, show_in_force, withdraw, shows_kept, same_order, unless_kept, to_place, look, place, read_order}
 use Rattle.order_desk.specs.Step.{Follows, IsStoreFault, Step}
 use Rattle.order_desk.specs.Tables.{Tables, State, order_at, key_of, released_as, with_book, with_draft, with_withdrawn}
 use Rattle.order_desk.proofs.Growth.{draft_there, book_there}
@@ -79,6 +79,10 @@ Shows a t = TellsBook a
 tells_shown : (number : ℕ) (t : Tables) → TellsAt Shows t (effect t (event.Read (reading.Book number)))
 unfolding show_book
 tells_shown number t = tells-go_on Shows (λ r t. tt) t (book_of t number) (λ b. shows (answer.Book b.released)) (λ b is. tt)
+
+tells_in_force : (number : ℕ) (t : Tables) → TellsAt Shows t (effect t (event.Read (reading.InForce number)))
+unfolding show_in_force
+tells_in_force number t = tells-go_on Shows (λ r t. tt) t (book_in_force t number) (λ b. shows (answer.Book b.released)) (λ b is. tt)
 
 -- ---- drafts
 
@@ -187,6 +191,7 @@ unfolding put_draft give_draft read_draft read_owner commit withdraw
 effect_tells (event.Place caller number order) t = tells_placed caller number order t
 effect_tells (event.Read (reading.Take caller draft named)) t = tells_draft caller draft named t
 effect_tells (event.Read (reading.Book book)) t = tells_shown book t
+effect_tells (event.Read (reading.InForce book)) t = tells_in_force book t
 effect_tells (event.Read (reading.Look caller number order)) t = tells_looked caller number order t
 effect_tells (event.Read (reading.Order caller number)) t = tells_read caller number t
 effect_tells (event.Read (reading.Draft draft)) t =
@@ -217,6 +222,7 @@ pub tells_said : (e : Event) (r : Reply) (t : Tables) → Tells e (answer.Say r)
 tells_said (event.Place caller number order) r t = tt
 tells_said (event.Read (reading.Take caller draft named)) r t = tt
 tells_said (event.Read (reading.Book book)) r t = tt
+tells_said (event.Read (reading.InForce book)) r t = tt
 tells_said (event.Read (reading.Look caller number order)) r t = tt
 tells_said (event.Read (reading.Order caller number)) r t = tt
 tells_said _ r t = tt

@@ -9,10 +9,17 @@ use Rattle.book_model.specs.declared.slicing.LimitFault.{LimitFault}
 use Rattle.book_text.specs.BookText.{book_of}
 use Rattle.book_text.specs.declared.fault.BookFault.{BookFault}
 use Rattle.derivation.specs.Limits.{slices_within}
+use Rattle.parts_usage.specs.Fault.{order_fault}
 use Rattle.parts_usage.specs.Outcome.{outcome_of}
 use Rattle.parts_usage.specs.declared.fault.OrderFault.{OrderFault}
 use Rattle.parts_usage.specs.declared.judgement.Outcome.{Outcome}
 use Rattle.parts_usage.specs.declared.judgement.Outcome.TheVariants as outcome
+use Rattle.free_answers.specs.Answer.{IsAnswer as IsFree}
+use Rattle.free_answers.specs.FreeText.{free_text}
+use Rattle.free_answers.specs.declared.answer.FreeAnswer.{FreeAnswer}
+use Rattle.order_repair.specs.Repair.{IsAnswer as IsWhy}
+use Rattle.order_repair.specs.RepairText.{why_text}
+use Rattle.order_repair.specs.declared.answer.WhyAnswer.{WhyAnswer}
 use Rattle.findings.specs.Notes.{IsReport}
 use Rattle.findings.specs.declared.report.Ask.TheVariants as ask
 use Rattle.findings.specs.declared.report.Note.{Note}
@@ -49,6 +56,8 @@ abbrev pub IsCall : What → Type 0
 IsCall (what.PutDraft draft text) = length text ≤ MOST_TEXT_BYTES
 IsCall (what.Check draft budget) = IsBudget budget
 IsCall (what.Release draft revision budget) = IsBudget budget
+IsCall (what.Free order budget) = IsBudget budget
+IsCall (what.Why order budget) = IsBudget budget
 IsCall (what.Order number order) = (1 ≤ number) × (number ≤ MOST_ORDER_NUMBER)
 IsCall _ = Unit {0}
 
@@ -117,6 +126,31 @@ cert_shown r = reply.Cert r.cert
 abbrev pub showing : ℕ → (Release → Reply) → Course
 showing book kind = asks (Read (reading.Book book)) answer.Book (λ r. or_memory (ends_with (kind r)))
 
+-- ---- what can be chosen, and how an order would be accepted
+
+-- the text of a right answer to an order without a fault
+abbrev pub Telling : Type 1
+Telling = Contents → OrderWords → ℕ → List ℕ → Type 0
+
+abbrev pub TellsFree : Telling
+TellsFree b order budget text = (a : FreeAnswer) × IsFree b order.day order.codes budget a × (text ≡ free_text b a)
+
+abbrev pub TellsWhy : Telling
+TellsWhy b order budget text = (a : WhyAnswer) × IsWhy b order.day order.codes budget a × (text ≡ why_text b a)
+
+-- an order with a fault is told it
+abbrev pub by_fault : Telling → Option OrderFault → Contents → OrderWords → ℕ → Reply → Type 0
+by_fault tells (Some fault) b order budget said = said ≡ reply.OrderFault fault
+by_fault tells None b order budget said = (text : List ℕ) × tells b order budget text × (said ≡ reply.Report text)
+
+abbrev pub IsAdvice : Telling → Contents → OrderWords → ℕ → Reply → Type 0
+IsAdvice tells b order budget said =
+    (said ≡ reply.Memory) ⊎ by_fault tells (order_fault b order.day order.codes) b order budget said
+
+-- the book is asked outside the turn
+abbrev pub advising : Telling → OrderWords → ℕ → Course
+advising tells order budget = asks (Read (reading.InForce order.book)) answer.Book (λ r. ends (IsAdvice tells r.book order budget))
+
 -- ---- orders
 
 -- what an order that is kept comes to, which is that it is accepted
@@ -173,6 +207,8 @@ course_of caller (what.ReadBook book) = showing book text_shown
 course_of caller (what.ReadCert book) = showing book cert_shown
 course_of caller (what.Withdraw book) = says (Withdraw caller book)
 course_of caller (what.Order number order) = ordering caller number order
+course_of caller (what.Free order budget) = advising TellsFree order budget
+course_of caller (what.Why order budget) = advising TellsWhy order budget
 course_of caller (what.ReadOrder number) = asks (Read (reading.Order caller number)) as_kept after_reading
 
 -- the call is answered with this reply

@@ -107,6 +107,7 @@ abbrev pub Tells : Event → Answer → Tables → Type 0
 Tells (event.Place caller number order) a t = TellsPlaced a t
 Tells (event.Read (reading.Take caller draft revision)) a t = TellsDraft draft revision a t
 Tells (event.Read (reading.Book number)) a t = TellsBook a
+Tells (event.Read (reading.InForce number)) a t = TellsBook a
 Tells (event.Read (reading.Look caller number order)) a t = TellsLooked order.book a t
 Tells (event.Read (reading.Order caller number)) a t = TellsKept a t
 Tells e a t = IsReply a

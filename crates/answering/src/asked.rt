@@ -91,6 +91,18 @@ pub(crate) fn ask_book<T: Turns>(turns: &mut T, book: u32) -> Result<SharedBook,
     }
 }
 
+/// The book of this number, if it is in force.
+pub(crate) fn ask_in_force<T: Turns>(turns: &mut T, book: u32) -> Result<SharedBook, Reply>
+    ensures { let event = Event.Read (Reading.InForce book) in
+        Takes (T.hand turns.old) event (answered Answer.Book result) (T.hand turns.new) }
+{
+    match turns.step(Event::Read(Reading::InForce { book })) {
+        Answer::Say(reply) => Err(reply),
+        Answer::Book(book) => Ok(book),
+        _ => unreachable!(),
+    }
+}
+
 /// What stands at the caller's number for an order.
 pub(crate) fn ask_number<T: Turns>(
     turns: &mut T,

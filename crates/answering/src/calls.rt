@@ -6,6 +6,7 @@ ghost use Rattle.answering.specs.LaterHand.{IsLaterHand};
 ghost use Rattle.answering.specs.Answers.{Answers, IsCall, course_of};
 ghost use Rattle.answering.specs.Course.{says};
 
+use crate::advice::{tell_free, tell_why};
 use crate::asked::ask;
 use crate::books::{read_book, read_cert};
 use crate::drafts::{Asked, check_draft, release_draft};
@@ -60,6 +61,8 @@ fn reply_to<T: Turns, G: Gate>(
         What::ReadCert { book } => read_cert(alloc, turns, book),
         What::Withdraw { book } => ask(turns, Event::Withdraw { caller, book }),
         What::Order { number, order } => place_order(alloc, turns, gate, caller, number, order),
+        What::Free { order, budget } => tell_free(alloc, turns, gate, caller, &order, budget),
+        What::Why { order, budget } => tell_why(alloc, turns, gate, caller, &order, budget),
         What::ReadOrder { number } => read_order(alloc, turns, caller, number),
     }
 }

@@ -1,6 +1,7 @@
 //! Answers to calls: the steps of the desk that a call makes, and the work between them.
 #![tactic(auto)]
 
+mod advice;
 mod alone;
 mod asked;
 mod books;

@@ -58,4 +58,15 @@ pub enum What {
     ReadOrder {
         number: u32,
     },
+    /// Asks what can still be chosen beside the codes of an order to a book in force, each search with at most `budget` learnt
+    /// clauses, from 1 to 50,000. Nothing is kept.
+    Free {
+        order: OrderWords,
+        budget: u32,
+    },
+    /// Asks what an order to a book in force comes to, and how it would be accepted. Else as `Free`.
+    Why {
+        order: OrderWords,
+        budget: u32,
+    },
 }

@@ -37,7 +37,7 @@ pub enum Reply {
     /// The certificate of a book.
     Cert(Body),
     OwnerIs { owner: Id, revision: u32 },
-    /// The report of a checked draft.
+    /// The report of a checked draft; what can still be chosen beside an order; or how an order would be accepted.
     Report(Body),
     /// The book of a released draft; fresh where this call made it.
     BookIs { number: u32, fresh: bool },

@@ -5,7 +5,7 @@ use Rattle.std.proofs.lemmas.Str.{IsUtf8-append, IsUtf8-from_ascii, IsUtf8-nil}
 use Rattle.http_api.specs.declared.route.DraftPage.{DraftPage}
 use Rattle.http_api.specs.declared.route.DraftPage.TheVariants.{Text as DraftText, Owner, Check, Release}
 use Rattle.http_api.specs.declared.route.BookPage.{BookPage}
-use Rattle.http_api.specs.declared.route.BookPage.TheVariants.{Text as BookText, Certificate, Withdraw}
+use Rattle.http_api.specs.declared.route.BookPage.TheVariants.{Text as BookText, Certificate, Withdraw, Free, Why}
 use Rattle.http_api.specs.declared.route.Route.{Route}
 use Rattle.http_api.specs.declared.route.Route.TheVariants.{Draft, Book, Order}
 use Rattle.http_api.specs.Route.{Leads, draft_end, book_end}
@@ -36,6 +36,8 @@ unfolding lib.Utf8.encode
 book_text BookText = IsUtf8-nil
 book_text Certificate = (codes "/certificate", (refl, refl))
 book_text Withdraw = (codes "/withdraw", (refl, refl))
+book_text Free = (codes "/free", (refl, refl))
+book_text Why = (codes "/why", (refl, refl))
 
 pub path_text : (path : List ℕ) (route : Route) → Leads path route → IsUtf8 path
 unfolding lib.Utf8.encode

@@ -7,7 +7,7 @@ use Rattle.http_api.specs.declared.route.Route.TheVariants.{Draft as DraftAt, Bo
 use Rattle.http_api.specs.declared.route.Kind.{Kind}
 use Rattle.http_api.specs.declared.route.Kind.TheVariants.{Draft, Book, Order}
 use Rattle.http_api.specs.declared.route.DraftPage.TheVariants.{Text as DraftText, Owner, Check, Release}
-use Rattle.http_api.specs.declared.route.BookPage.TheVariants.{Text as BookText, Certificate, Withdraw}
+use Rattle.http_api.specs.declared.route.BookPage.TheVariants.{Text as BookText, Certificate, Withdraw, Free, Why}
 use Rattle.http_api.specs.Routes.{Routes, Knows, entry, row, front_drafts}
 use Rattle.http_api.proofs.Seeking.{IsPlain, behind, next_byte}
 use Rattle.http_api.proofs.Items.{IsItem, name_item, number_item}
@@ -23,6 +23,8 @@ front_orders = codes "/orders/"
 abbrev book_rows : RowsOf (RouteOf Kind)
 book_rows =
     (codes "/certificate", entry front_books (codes "/certificate") (Book Certificate))
+    ∷ (codes "/free", entry front_books (codes "/free") (Book Free))
+    ∷ (codes "/why", entry front_books (codes "/why") (Book Why))
     ∷ (codes "/withdraw", entry front_books (codes "/withdraw") (Book Withdraw))
     ∷ ([], entry front_books [] (Book BookText))
     ∷ []
@@ -41,6 +43,8 @@ order_rows = ([], entry front_orders [] Order) ∷ []
 abbrev pub table : Routes
 table =
     row front_books (codes "/certificate") (Book Certificate)
+    ∷ row front_books (codes "/free") (Book Free)
+    ∷ row front_books (codes "/why") (Book Why)
     ∷ row front_books (codes "/withdraw") (Book Withdraw)
     ∷ row front_books [] (Book BookText)
     ∷ row front_drafts (codes "/check") (Draft Check)
@@ -77,6 +81,14 @@ finds_cert : (b : ℕ) (item : List ℕ) → IsPlain (b ∷ item) → seek 0 tab
 unfolding seek
 finds_cert b item plain = at_books (b ∷ item ++ codes "/certificate") _ (behind_name b item (codes "certificate") book_rows _ plain (rw (cuts-slash b item) refl) refl)
 
+finds_free : (b : ℕ) (item : List ℕ) → IsPlain (b ∷ item) → seek 0 table (front_books ++ (b ∷ item ++ codes "/free")) ≡ Some (entry front_books (codes "/free") (Book Free))
+unfolding seek
+finds_free b item plain = at_books (b ∷ item ++ codes "/free") _ (behind_name b item (codes "free") book_rows _ plain (rw (cuts-slash b item) refl) refl)
+
+finds_why : (b : ℕ) (item : List ℕ) → IsPlain (b ∷ item) → seek 0 table (front_books ++ (b ∷ item ++ codes "/why")) ≡ Some (entry front_books (codes "/why") (Book Why))
+unfolding seek
+finds_why b item plain = at_books (b ∷ item ++ codes "/why") _ (behind_name b item (codes "why") book_rows _ plain (rw (cuts-slash b item) refl) refl)
+
 finds_withdraw : (b : ℕ) (item : List ℕ) → IsPlain (b ∷ item) → seek 0 table (front_books ++ (b ∷ item ++ codes "/withdraw")) ≡ Some (entry front_books (codes "/withdraw") (Book Withdraw))
 unfolding seek
 finds_withdraw b item plain = at_books (b ∷ item ++ codes "/withdraw") _ (behind_name b item (codes "withdraw") book_rows _ plain (rw (cuts-slash b item) refl) refl)
@@ -104,5 +116,7 @@ knows path (DraftAt name Check) h = finds_item path front_drafts name (codes "/c
 knows path (DraftAt name Release) h = finds_item path front_drafts name (codes "/release") _ h.0 (name_item name h.1) finds_release
 knows path (BookAt number BookText) h = finds_item path front_books h.0 [] _ h.1 (number_item h.0 number h.2) finds_book
 knows path (BookAt number Certificate) h = finds_item path front_books h.0 (codes "/certificate") _ h.1 (number_item h.0 number h.2) finds_cert
+knows path (BookAt number Free) h = finds_item path front_books h.0 (codes "/free") _ h.1 (number_item h.0 number h.2) finds_free
+knows path (BookAt number Why) h = finds_item path front_books h.0 (codes "/why") _ h.1 (number_item h.0 number h.2) finds_why
 knows path (BookAt number Withdraw) h = finds_item path front_books h.0 (codes "/withdraw") _ h.1 (number_item h.0 number h.2) finds_withdraw
 knows path (OrderAt number) h = finds_item path front_orders h.0 [] _ h.1 (number_item h.0 number h.2) finds_order

@@ -11,7 +11,7 @@ use Rattle.desk_words.specs.declared.order_words.OrderWords.{OrderWords}
 use Rattle.desk_words.specs.declared.call.What.{What}
 use Rattle.desk_words.specs.declared.call.What.TheVariants as call
 use Rattle.http_api.specs.declared.request.Request.{Request}
-use Rattle.http_api.specs.declared.request.Request.TheVariants.{Whole, PutDraft, GiveDraft, Check, Release, PlaceOrder}
+use Rattle.http_api.specs.declared.request.Request.TheVariants.{Whole, PutDraft, GiveDraft, Check, Release, Free, Why, PlaceOrder}
 use Rattle.pb_base.specs.declared.limits.TheConstants.{MOST_BUDGET, DEFAULT_BUDGET}
 
 abbrev pub data_of : List ℕ → Option Data
@@ -31,13 +31,17 @@ number_within least most d = option_and_then (only_if (λ n. nat_le least n && n
 abbrev pub number_at : List ℕ → ℕ → ℕ → Data → Option ℕ
 number_at key least most d = option_and_then (number_within least most) (get key d)
 
--- the budget, 10,000 where the object names none
-abbrev pub budget_or : Option Data → Option ℕ
-budget_or None = Some DEFAULT_BUDGET
-budget_or (Some d) = number_within 1 MOST_BUDGET d
+-- the budget, which is the usual one where the object names none
+abbrev pub budget_or : ℕ → Option Data → Option ℕ
+budget_or usual None = Some usual
+budget_or usual (Some d) = number_within 1 MOST_BUDGET d
 
-abbrev pub budget_in : Data → Option ℕ
-budget_in d = budget_or (get (codes "budget") d)
+abbrev pub budget_in : ℕ → Data → Option ℕ
+budget_in usual d = budget_or usual (get (codes "budget") d)
+
+-- the usual budget of what is asked of an order
+abbrev pub order_budget : ℕ
+order_budget = 1000
 
 abbrev pub name_in : Data → Option (List ℕ)
 name_in d = option_and_then (only_if is_name) (as_str d)
@@ -54,19 +58,25 @@ abbrev pub largest : ℕ
 largest = 4294967295
 
 -- an order: its book, its day and its codes
-abbrev pub order_in : Data → Option OrderWords
-order_in d =
-    option_and_then (λ book. option_and_then (λ day. option_map (λ names. record { book = book; day = day; codes = names })
+abbrev pub order_to : Data → ℕ → Option OrderWords
+order_to d book =
+    option_and_then (λ day. option_map (λ names. record { book = book; day = day; codes = names })
     (option_and_then codes_in (option_and_then as_array (get (codes "codes") d))))
-    (number_at (codes "day") 0 99999 d))
-    (number_at (codes "book") 1 largest d)
+    (number_at (codes "day") 0 99999 d)
+
+abbrev pub order_in : Data → Option OrderWords
+order_in d = option_and_then (order_to d) (number_at (codes "book") 1 largest d)
+
+-- an order to the book of the path, and a budget
+abbrev pub asked_in : (OrderWords → ℕ → What) → ℕ → Data → Option What
+asked_in call book d = option_and_then (λ order. option_map (call order) (budget_in order_budget d)) (order_to d book)
 
 abbrev pub check_in : List ℕ → List ℕ → Option What
 check_in name [] = Some (call.Check name DEFAULT_BUDGET)
-check_in name (b ∷ body) = option_map (call.Check name) (option_and_then budget_in (object_of (b ∷ body)))
+check_in name (b ∷ body) = option_map (call.Check name) (option_and_then (budget_in DEFAULT_BUDGET) (object_of (b ∷ body)))
 
 abbrev pub release_in : List ℕ → Data → Option What
-release_in name d = option_and_then (λ revision. option_map (call.Release name revision) (budget_in d)) (number_at (codes "revision") 1 largest d)
+release_in name d = option_and_then (λ revision. option_map (call.Release name revision) (budget_in DEFAULT_BUDGET d)) (number_at (codes "revision") 1 largest d)
 
 abbrev pub what_of : Request → List ℕ → Option What
 what_of (Whole what) body = Some what
@@ -74,4 +84,6 @@ what_of (PutDraft name) body = Some (call.PutDraft name body)
 what_of (GiveDraft name) body = option_map (call.GiveDraft name) (option_and_then name_in (option_and_then (get (codes "to")) (object_of body)))
 what_of (Check name) body = check_in name body
 what_of (Release name) body = option_and_then (release_in name) (object_of body)
+what_of (Free book) body = option_and_then (asked_in call.Free book) (object_of body)
+what_of (Why book) body = option_and_then (asked_in call.Why book) (object_of body)
 what_of (PlaceOrder number) body = option_map (call.Order number) (option_and_then order_in (object_of body))

@@ -7,9 +7,9 @@ use Rattle.desk_words.specs.declared.call.What.TheVariants.{ReadDraft, ReadOwner
 use Rattle.http_api.specs.declared.request.Verb.{Verb}
 use Rattle.http_api.specs.declared.request.Verb.TheVariants.{Get, Put, Post, Other}
 use Rattle.http_api.specs.declared.request.Request.{Request}
-use Rattle.http_api.specs.declared.request.Request.TheVariants.{Whole, PutDraft, GiveDraft, Check as AskCheck, Release as AskRelease, PlaceOrder}
+use Rattle.http_api.specs.declared.request.Request.TheVariants.{Whole, PutDraft, GiveDraft, Check as AskCheck, Release as AskRelease, Free as AskFree, Why as AskWhy, PlaceOrder}
 use Rattle.http_api.specs.declared.route.DraftPage.TheVariants.{Text as DraftText, Owner, Check, Release}
-use Rattle.http_api.specs.declared.route.BookPage.TheVariants.{Text as BookText, Certificate, Withdraw as WithdrawPage}
+use Rattle.http_api.specs.declared.route.BookPage.TheVariants.{Text as BookText, Certificate, Withdraw as WithdrawPage, Free, Why}
 use Rattle.http_api.specs.declared.route.Route.{Route}
 use Rattle.http_api.specs.declared.route.Route.TheVariants.{Draft, Book, Order}
 
@@ -29,6 +29,8 @@ request_of (Draft name Release) Post = Some (AskRelease name)
 request_of (Book number BookText) Get = Some (Whole (ReadBook number))
 request_of (Book number Certificate) Get = Some (Whole (ReadCert number))
 request_of (Book number WithdrawPage) Post = Some (Whole (Withdraw number))
+request_of (Book number Free) Post = Some (AskFree number)
+request_of (Book number Why) Post = Some (AskWhy number)
 request_of (Order number) Get = Some (Whole (ReadOrder number))
 request_of (Order number) Put = Some (PlaceOrder number)
 request_of route verb = None

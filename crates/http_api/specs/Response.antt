@@ -9,7 +9,7 @@ use Rattle.desk_words.specs.declared.reply.Reply.TheVariants.{Raw}
 use Rattle.http_api.specs.declared.denied.Denied.{Denied}
 use Rattle.http_api.specs.declared.denied.Denied.TheVariants.{NoPath, WrongMethod, BadCaller, BadBody}
 use Rattle.http_api.specs.declared.route.DraftPage.TheVariants.{Text as DraftText, Owner, Check, Release}
-use Rattle.http_api.specs.declared.route.BookPage.TheVariants.{Text as BookText, Certificate, Withdraw}
+use Rattle.http_api.specs.declared.route.BookPage.TheVariants.{Text as BookText, Certificate, Withdraw, Free, Why}
 use Rattle.http_api.specs.declared.route.Route.{Route}
 use Rattle.http_api.specs.declared.route.Route.TheVariants.{Draft, Book, Order}
 use Rattle.http_api.specs.declared.opening.Methods.{Methods}
@@ -68,6 +68,8 @@ methods_of (Draft name Release) = Post
 methods_of (Book number BookText) = Get
 methods_of (Book number Certificate) = Get
 methods_of (Book number Withdraw) = Post
+methods_of (Book number Free) = Post
+methods_of (Book number Why) = Post
 methods_of (Order number) = GetPut
 
 abbrev pub denied_line : Denied → List ℕ

@@ -7,7 +7,7 @@ use Rattle.pb_base.specs.Digits.{number_within}
 use Rattle.http_api.specs.declared.route.DraftPage.{DraftPage}
 use Rattle.http_api.specs.declared.route.DraftPage.TheVariants.{Text as DraftText, Owner, Check, Release}
 use Rattle.http_api.specs.declared.route.BookPage.{BookPage}
-use Rattle.http_api.specs.declared.route.BookPage.TheVariants.{Text as BookText, Certificate, Withdraw}
+use Rattle.http_api.specs.declared.route.BookPage.TheVariants.{Text as BookText, Certificate, Withdraw, Free, Why}
 use Rattle.http_api.specs.declared.route.Route.{Route}
 use Rattle.http_api.specs.declared.route.Route.TheVariants.{Draft, Book, Order}
 use Rattle.http_api.specs.declared.route.Kind.{Kind}
@@ -36,6 +36,8 @@ abbrev pub book_end : BookPage → List ℕ
 book_end BookText = []
 book_end Certificate = codes "/certificate"
 book_end Withdraw = codes "/withdraw"
+book_end Free = codes "/free"
+book_end Why = codes "/why"
 
 abbrev pub Leads : List ℕ → Route → Type 0
 Leads path (Draft name page) = HasName path (codes "/drafts/") name (draft_end page)

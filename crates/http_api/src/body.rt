@@ -3,7 +3,7 @@ ghost use Rattle.std.specs.Prelude.{◌≡◌, option_and_then};
 ghost use Rattle.pb_base.specs.Answers.{Answers, Gives};
 ghost use Rattle.serde_json.specs.Find.{get, as_array};
 ghost use Rattle.serde_json.specs.View.{view, items_view};
-ghost use Rattle.http_api.specs.Body.{budget_in, budget_or, check_in, code_in, codes_in, name_in, number_at, number_within, object_of, order_in, release_in, what_of};
+ghost use Rattle.http_api.specs.Body.{budget_in, check_in, code_in, codes_in, name_in, number_at, number_within, object_of, order_in, order_to, release_in, what_of};
 ghost use Rattle.http_api.specs.Call.{or_denied};
 ghost use Rattle.http_api.specs.declared.denied.Denied.TheVariants.{BadBody};
 
@@ -15,6 +15,9 @@ use pb_base::{Body, CodeList, CodeName, Fail, Id, Memory};
 use serde_json::Value;
 use std::alloc::Global;
 
+// The learnt clauses that a search about an order may take where the body names no number.
+const ORDER_BUDGET: u32 = 1_000;
+
 /// The call that a body completes.
 pub fn what_of(alloc: Global, request: Request, body: &Body) -> Result<What, Fail<Denied>>
     ensures { Answers result (or_denied BadBody (what_of request body.now)) }
@@ -25,6 +28,8 @@ pub fn what_of(alloc: Global, request: Request, body: &Body) -> Result<What, Fai
         Request::GiveDraft(draft) => give_draft(alloc, draft, body.as_slice()),
         Request::Check(draft) => check(alloc, draft, body.as_slice()),
         Request::Release(draft) => release(alloc, draft, body.as_slice()),
+        Request::Free(book) => free(alloc, book, body.as_slice()),
+        Request::Why(book) => why(alloc, book, body.as_slice()),
         Request::PlaceOrder(number) => place_order(alloc, number, body.as_slice()),
     }
 }
@@ -83,12 +88,13 @@ fn number_at(value: &Value, key: &str, least: u32, most: u32) -> Option<u32>
     }
 }
 
-fn budget_in(value: &Value) -> Option<u32>
-    ensures { result ≡ budget_in (view value.now) }
+// The budget that an object names, or the usual one.
+fn budget_in(value: &Value, usual: u32) -> Option<u32>
+    ensures { result ≡ budget_in usual (view value.now) }
 {
     match value.get("budget") {
         Some(member) => number_within(member, 1, MOST_BUDGET),
-        None => Some(DEFAULT_BUDGET),
+        None => Some(usual),
     }
 }
 
@@ -139,7 +145,7 @@ fn check(alloc: Global, draft: Id, body: &[u8]) -> Result<What, Fail<Denied>>
         });
     }
     let value = object_of(alloc, body)?;
-    match budget_in(&value) {
+    match budget_in(&value, DEFAULT_BUDGET) {
         Some(budget) => Ok(What::Check { draft, budget }),
         None => Err(Fail::Refused(Denied::BadBody)),
     }
@@ -159,7 +165,7 @@ fn release_in(draft: Id, value: &Value) -> Option<What>
     ensures { result ≡ release_in draft (view value.now) }
 {
     let revision = number_at(value, "revision", 1, u32::MAX)?;
-    let budget = budget_in(value)?;
+    let budget = budget_in(value, DEFAULT_BUDGET)?;
     Some(What::Release {
         draft,
         revision,
@@ -181,11 +187,40 @@ fn order_in(alloc: Global, value: &Value) -> Result<OrderWords, Fail<Denied>>
     let Some(book) = number_at(value, "book", 1, u32::MAX) else {
         return Err(Fail::Refused(Denied::BadBody));
     };
+    order_to(alloc, value, book)
+}
+
+// The order to this book that an object says.
+fn order_to(alloc: Global, value: &Value, book: u32) -> Result<OrderWords, Fail<Denied>>
+    ensures { Answers result (or_denied BadBody (order_to (view value.now) book)) }
+{
     let Some(day) = number_at(value, "day", 0, 99_999) else {
         return Err(Fail::Refused(Denied::BadBody));
     };
     let codes = codes_at(alloc, value, "codes")?;
     Ok(OrderWords { book, day, codes })
+}
+
+fn free(alloc: Global, book: u32, body: &[u8]) -> Result<What, Fail<Denied>>
+    ensures { Answers result (or_denied BadBody (what_of (Request.Free book) body.now)) }
+{
+    let value = object_of(alloc, body)?;
+    let order = order_to(alloc, &value, book)?;
+    match budget_in(&value, ORDER_BUDGET) {
+        Some(budget) => Ok(What::Free { order, budget }),
+        None => Err(Fail::Refused(Denied::BadBody)),
+    }
+}
+
+fn why(alloc: Global, book: u32, body: &[u8]) -> Result<What, Fail<Denied>>
+    ensures { Answers result (or_denied BadBody (what_of (Request.Why book) body.now)) }
+{
+    let value = object_of(alloc, body)?;
+    let order = order_to(alloc, &value, book)?;
+    match budget_in(&value, ORDER_BUDGET) {
+        Some(budget) => Ok(What::Why { order, budget }),
+        None => Err(Fail::Refused(Denied::BadBody)),
+    }
 }
 
 fn codes_at(alloc: Global, value: &Value, key: &str) -> Result<CodeList, Fail<Denied>>

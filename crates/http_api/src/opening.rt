@@ -40,6 +40,8 @@ impl Methods {
             Route::Book(_, BookPage::Text) => Methods::Get,
             Route::Book(_, BookPage::Certificate) => Methods::Get,
             Route::Book(_, BookPage::Withdraw) => Methods::Post,
+            Route::Book(_, BookPage::Free) => Methods::Post,
+            Route::Book(_, BookPage::Why) => Methods::Post,
             Route::Order(_) => Methods::GetPut,
         }
     }

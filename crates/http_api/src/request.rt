@@ -25,6 +25,10 @@ pub enum Request {
     GiveDraft(Id),
     Check(Id),
     Release(Id),
+    /// What can still be chosen of the book of this number.
+    Free(u32),
+    /// How an order to the book of this number would be accepted.
+    Why(u32),
     /// The order of this number of the caller's.
     PlaceOrder(u32),
 }
@@ -78,6 +82,8 @@ fn book_request(book: u32, page: BookPage, verb: Verb) -> Option<Request>
         (BookPage::Text, Verb::Get) => Some(Request::Whole(What::ReadBook { book })),
         (BookPage::Certificate, Verb::Get) => Some(Request::Whole(What::ReadCert { book })),
         (BookPage::Withdraw, Verb::Post) => Some(Request::Whole(What::Withdraw { book })),
+        (BookPage::Free, Verb::Post) => Some(Request::Free(book)),
+        (BookPage::Why, Verb::Post) => Some(Request::Why(book)),
         _ => None,
     }
 }

@@ -35,6 +35,10 @@ pub enum BookPage {
     Certificate,
     /// `/withdraw`
     Withdraw,
+    /// `/free`
+    Free,
+    /// `/why`
+    Why,
 }
 
 /// A route without its name or number.
@@ -68,6 +72,8 @@ impl BookPage {
             BookPage::Text => b"",
             BookPage::Certificate => b"/certificate",
             BookPage::Withdraw => b"/withdraw",
+            BookPage::Free => b"/free",
+            BookPage::Why => b"/why",
         }
     }
 }

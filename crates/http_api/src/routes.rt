@@ -153,6 +153,8 @@ fn add_further(router: &mut Router<Kind>) -> Result<(), Memory>
         "/books/{item}/withdraw",
         Kind::Book(BookPage::Withdraw),
     )?;
+    add(router, "/books/{item}/free", Kind::Book(BookPage::Free))?;
+    add(router, "/books/{item}/why", Kind::Book(BookPage::Why))?;
     add(router, "/orders/{item}", Kind::Order)?;
     Ok(())
 }

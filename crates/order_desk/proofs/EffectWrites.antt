@@ -13,7 +13,7 @@ use Rattle.order_desk.specs.declared.event.Event.TheVariants as event
 use Rattle.order_desk.specs.declared.event.Reading.{Reading}
 use Rattle.order_desk.specs.declared.event.Reading.TheVariants as reading
 use Rattle.order_desk.specs.declared.kept_book.KeptBook.{KeptBook}
-use Rattle.order_desk.specs.Effect.{Effect, says, shows, keeps, go_on, read, effect, draft_of, owned, next_draft, put_draft, give_draft, read_draft, read_owner, to_release, to_take, take_draft, commit, book_of, show_book, withdraw, shows_kept, same_order, unless_kept, to_place, look, place, read_order}
+use Rattle.order_desk.specs.Effect.{Effect, says, shows, keeps, go_on, read, effect, draft_of, owned, next_draft, put_draft, give_draft, read_draft, read_owner, to_release, to_take, take_draft, commit, book_of, show_book, book_in_force, show_in_force, withdraw, shows_kept, same_order, unless_kept, to_place, look, place, read_order}
 use Rattle.order_desk.specs.Step.{Follows, IsKept, IsNotKept, Step}
 use Rattle.order_desk.specs.Tables.{Tables, State, key_of, order_at, with_draft, with_book, with_order, with_withdrawn}
 
@@ -73,7 +73,7 @@ module _ (P : Tables → Type 0) where
 
   -- what only reads writes nothing
   read_writes : (t : Tables) (asked : Reading) → Writes P (read t asked)
-  unfolding read_draft read_owner take_draft show_book look read_order
+  unfolding read_draft read_owner take_draft show_book show_in_force look read_order
   read_writes t (reading.Draft draft) =
       writes-go_on (draft_of t draft) (λ d. shows (answer.Say (reply.Raw d.text))) (λ d is. tt)
   read_writes t (reading.Owner draft) =
@@ -81,6 +81,7 @@ module _ (P : Tables → Type 0) where
   read_writes t (reading.Take caller draft revision) =
       writes-go_on (to_take revision t caller draft) (λ d. shows (answer.Draft d.text d.revision)) (λ d is. tt)
   read_writes t (reading.Book book) = writes-go_on (book_of t book) (λ b. shows (answer.Book b.released)) (λ b is. tt)
+  read_writes t (reading.InForce book) = writes-go_on (book_in_force t book) (λ b. shows (answer.Book b.released)) (λ b is. tt)
   read_writes t (reading.Look caller number order) =
       unless_kept_writes t (order_at t.orders (key_of caller number)) order
       (go_on (to_place t order) (λ b. shows (answer.Book b.released)))

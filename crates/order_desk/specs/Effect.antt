@@ -109,6 +109,13 @@ book_of t number = ok_or (book_at t.books number) (reply.NoSuch missing.Book)
 unfoldable pub show_book : Tables → ℕ → Effect
 show_book t number = go_on (book_of t number) (λ book. shows (answer.Book book.released))
 
+-- a book that takes orders
+unfoldable pub book_in_force : Tables → ℕ → Result KeptBook Reply
+book_in_force t number = and_then (book_of t number) (λ book. if book.withdrawn then Err (reply.Gone number) else Ok book)
+
+unfoldable pub show_in_force : Tables → ℕ → Effect
+show_in_force t number = go_on (book_in_force t number) (λ book. shows (answer.Book book.released))
+
 -- the owner is that of the book's draft now
 unfoldable pub withdraw : Tables → List ℕ → ℕ → Effect
 withdraw t caller number = go_on (book_of t number) (λ book. go_on (owned t caller book.draft) (λ draft.
@@ -158,6 +165,7 @@ read t (reading.Draft draft) = read_draft t draft
 read t (reading.Owner draft) = read_owner t draft
 read t (reading.Take caller draft revision) = take_draft t caller draft revision
 read t (reading.Book book) = show_book t book
+read t (reading.InForce book) = show_in_force t book
 read t (reading.Look caller number order) = look t caller number order
 read t (reading.Order caller number) = read_order t caller number
 

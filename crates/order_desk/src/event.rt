@@ -64,6 +64,10 @@ pub enum Reading {
     Book {
         book: u32,
     },
+    /// A book that is in force.
+    InForce {
+        book: u32,
+    },
     /// Whether an order is kept under this number, and else the book that it is to be judged by.
     Look {
         caller: Id,

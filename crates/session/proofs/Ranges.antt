@@ -10,12 +10,13 @@ use Rattle.serde_json.specs.Data.{Data}
 use Rattle.serde_json.specs.Find.{get, as_number, as_u64}
 use Rattle.pb_base.specs.Digits.{is_digit, is_number, value_from, value_of}
 use Rattle.pb_base.specs.Results.{and_then}
-use Rattle.pb_base.specs.declared.limits.TheConstants.{MOST_TEXT_BYTES, MOST_BUDGET}
+use Rattle.pb_base.specs.declared.limits.TheConstants.{MOST_TEXT_BYTES, MOST_BUDGET, DEFAULT_BUDGET}
 use Rattle.desk_words.specs.declared.call.Call.{Call}
 use Rattle.desk_words.specs.declared.call.What.{What}
 use Rattle.desk_words.specs.declared.call.What.TheVariants as what
+use Rattle.desk_words.specs.declared.order_words.OrderWords.{OrderWords}
 use Rattle.http_wire.specs.declared.message.Message.{Message}
-use Rattle.http_api.specs.Body.{budget_in, budget_or, check_in, name_in, number_at, object_of, only_if, order_in, release_in, what_of}
+use Rattle.http_api.specs.Body.{budget_in, budget_or, asked_in, check_in, name_in, number_at, object_of, only_if, order_budget, order_in, order_to, release_in, what_of}
 use Rattle.http_api.specs.Call.{LeadsNowhere, call_at, or_denied}
 use Rattle.http_api.specs.Path.{path_of}
 use Rattle.http_api.specs.Request.{method_of, request_of}
@@ -23,11 +24,11 @@ use Rattle.http_api.specs.Route.{Leads, path_number}
 use Rattle.http_api.specs.declared.denied.Denied.{Denied}
 use Rattle.http_api.specs.declared.denied.Denied.TheVariants.{WrongMethod, BadCaller, BadBody}
 use Rattle.http_api.specs.declared.request.Request.{Request}
-use Rattle.http_api.specs.declared.request.Request.TheVariants.{Whole, PutDraft, GiveDraft, Check, Release, PlaceOrder}
+use Rattle.http_api.specs.declared.request.Request.TheVariants.{Whole, PutDraft, GiveDraft, Check, Release, Free, Why, PlaceOrder}
 use Rattle.http_api.specs.declared.request.Verb.{Verb}
 use Rattle.http_api.specs.declared.request.Verb.TheVariants.{Get, Put, Post}
 use Rattle.http_api.specs.declared.route.DraftPage.TheVariants.{Text as DraftText, Owner, Check as CheckPage, Release as ReleasePage}
-use Rattle.http_api.specs.declared.route.BookPage.TheVariants.{Text as BookText, Certificate, Withdraw}
+use Rattle.http_api.specs.declared.route.BookPage.TheVariants.{Text as BookText, Certificate, Withdraw, Free as FreePage, Why as WhyPage}
 use Rattle.http_api.specs.declared.route.Route.{Route}
 use Rattle.http_api.specs.declared.route.Route.TheVariants.{Draft, Book, Order}
 use Rattle.answering.specs.Answers.{IsBudget, IsCall}
@@ -99,6 +100,8 @@ request_within path (Draft name ReleasePage) Post leads = tt
 request_within path (Book number BookText) Get leads = tt
 request_within path (Book number Certificate) Get leads = tt
 request_within path (Book number Withdraw) Post leads = tt
+request_within path (Book number FreePage) Post leads = tt
+request_within path (Book number WhyPage) Post leads = tt
 request_within path (Order number) Put leads = order_number leads.0 number leads.2
 request_within path route verb leads = tt
 
@@ -125,22 +128,33 @@ budget_number n = at (nat_le 1 n && nat_le n MOST_BUDGET) refl
         let high : n ≤ MOST_BUDGET = leb-true n MOST_BUDGET (second_so (nat_le 1 n) (nat_le n MOST_BUDGET) is) in (omega arith, high)
     at false is = tt
 
-budget_within : (o : Option Data) → IfSome (budget_or o) IsBudget
-budget_within None = (omega arith, omega arith)
-budget_within (Some d) =
+budget_within : (usual : ℕ) → IsBudget usual → (o : Option Data) → IfSome (budget_or usual o) IsBudget
+budget_within usual is None = is
+budget_within usual is (Some d) =
     then_within IsBudget (only_if (λ k. nat_le 1 k && nat_le k MOST_BUDGET)) budget_number (option_and_then as_u64 (as_number d))
+
+usual_within : (o : Option Data) → IfSome (budget_or DEFAULT_BUDGET o) IsBudget
+usual_within o = budget_within DEFAULT_BUDGET (omega arith, omega arith) o
 
 check_within : (name body : List ℕ) → IfSome (check_in name body) IsCall
 check_within name [] = (omega arith, omega arith)
 check_within name (b ∷ body) =
-    map_within IsBudget IsCall (what.Check name) (λ budget is. is) (option_and_then budget_in (object_of (b ∷ body)))
-    (then_within IsBudget budget_in (λ d. budget_within (get (codes "budget") d)) (object_of (b ∷ body)))
+    map_within IsBudget IsCall (what.Check name) (λ budget is. is) (option_and_then (budget_in DEFAULT_BUDGET) (object_of (b ∷ body)))
+    (then_within IsBudget (budget_in DEFAULT_BUDGET) (λ d. usual_within (get (codes "budget") d)) (object_of (b ∷ body)))
 
 release_within : (name : List ℕ) (d : Data) → IfSome (release_in name d) IsCall
 release_within name d =
-    then_within IsCall (λ revision. option_map (what.Release name revision) (budget_in d))
-    (λ revision. map_within IsBudget IsCall (what.Release name revision) (λ budget is. is) (budget_in d) (budget_within (get (codes "budget") d)))
+    then_within IsCall (λ revision. option_map (what.Release name revision) (budget_in DEFAULT_BUDGET d))
+    (λ revision. map_within IsBudget IsCall (what.Release name revision) (λ budget is. is) (budget_in DEFAULT_BUDGET d) (usual_within (get (codes "budget") d)))
     (number_at (codes "revision") 1 4294967295 d)
+
+asked_within : (call : OrderWords → ℕ → What) → ((order : OrderWords) (budget : ℕ) → IsBudget budget → IsCall (call order budget)) → (book : ℕ) (d : Data)
+    → IfSome (asked_in call book d) IsCall
+asked_within call so book d =
+    then_within IsCall (λ order. option_map (call order) (budget_in order_budget d))
+    (λ order. map_within IsBudget IsCall (call order) (so order) (budget_in order_budget d)
+    (budget_within order_budget (omega arith, omega arith) (get (codes "budget") d)))
+    (order_to d book)
 
 what_within : (request : Request) (body : List ℕ) → IsRequest request → length body ≤ MOST_TEXT_BYTES → IfSome (what_of request body) IsCall
 what_within (Whole asked) body is small = is
@@ -150,6 +164,10 @@ what_within (GiveDraft name) body is small =
     (always (option_and_then name_in (option_and_then (get (codes "to")) (object_of body))))
 what_within (Check name) body is small = check_within name body
 what_within (Release name) body is small = then_within IsCall (release_in name) (release_within name) (object_of body)
+what_within (Free book) body is small =
+    then_within IsCall (asked_in what.Free book) (asked_within what.Free (λ order budget within. within) book) (object_of body)
+what_within (Why book) body is small =
+    then_within IsCall (asked_in what.Why book) (asked_within what.Why (λ order budget within. within) book) (object_of body)
 what_within (PlaceOrder number) body is small =
     map_within (λ order. Unit {0}) IsCall (what.Order number) (λ order any. is) (option_and_then order_in (object_of body))
     (always (option_and_then order_in (object_of body)))
@@ -207,6 +225,8 @@ stable : (asked : What) → ¬ (¬ IsCall asked) → IsCall asked
 stable (what.PutDraft draft text) so = stable_le (length text) MOST_TEXT_BYTES so
 stable (what.Check draft budget) so = (stable_le 1 budget (λ out. so (λ is. out is.0)), stable_le budget MOST_BUDGET (λ out. so (λ is. out is.1)))
 stable (what.Release draft revision budget) so = (stable_le 1 budget (λ out. so (λ is. out is.0)), stable_le budget MOST_BUDGET (λ out. so (λ is. out is.1)))
+stable (what.Free order budget) so = (stable_le 1 budget (λ out. so (λ is. out is.0)), stable_le budget MOST_BUDGET (λ out. so (λ is. out is.1)))
+stable (what.Why order budget) so = (stable_le 1 budget (λ out. so (λ is. out is.0)), stable_le budget MOST_BUDGET (λ out. so (λ is. out is.1)))
 stable (what.Order number order) so = (stable_le 1 number (λ out. so (λ is. out is.0)), stable_le number 999999999 (λ out. so (λ is. out is.1)))
 stable _ so = tt
 

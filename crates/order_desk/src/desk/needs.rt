@@ -1,6 +1,6 @@
 //! What an event needs, or what is said in its place.
 ghost use Rattle.std.specs.Prelude.{◌≡◌, Ok, Err, MatchResult};
-ghost use Rattle.order_desk.specs.Effect.{to_take, owned, draft_of, book_of, to_place, to_release, next_draft};
+ghost use Rattle.order_desk.specs.Effect.{to_take, owned, draft_of, book_in_force, book_of, to_place, to_release, next_draft};
 
 use crate::lookup::{book_at, released_as};
 use crate::{Desk, Draft, KeptBook, MOST_BOOKS, MOST_DRAFTS, MOST_ORDERS, MOST_REVISION};
@@ -121,6 +121,23 @@ impl<P: Keeper> Desk<P> {
         match book_at(&self.books, number) {
             Some(book) => Ok(book),
             None => Err(Reply::NoSuch(Missing::Book)),
+        }
+    }
+
+    #[tactic(auto, unfolding(crate::specs::Effect::book_in_force))]
+    pub(super) fn book_in_force(&self, number: u32) -> Result<&KeptBook, Reply>
+        ensures { MatchResult result (λ book. book_in_force self.now.tables number ≡ Ok book.now)
+            (λ said. book_in_force self.now.tables number ≡ Err said) }
+    {
+        match self.book_of(number) {
+            Ok(book) => {
+                if book.withdrawn {
+                    Err(Reply::Gone(number))
+                } else {
+                    Ok(book)
+                }
+            }
+            Err(said) => Err(said),
         }
     }
 

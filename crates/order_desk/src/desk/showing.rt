@@ -2,7 +2,7 @@
 ghost use Rattle.std.specs.Prelude.{if◌then◌else◌};
 ghost use Rattle.desk_words.specs.declared.reply.Reply.TheVariants as Reply;
 ghost use Rattle.order_desk.specs.declared.answer.Answer.TheVariants as Answer;
-ghost use Rattle.order_desk.specs.Effect.{says, look, read, read_draft, read_order, read_owner, show_book, shows_kept, same_order, take_draft};
+ghost use Rattle.order_desk.specs.Effect.{says, look, read, read_draft, read_order, read_owner, show_book, show_in_force, shows_kept, same_order, take_draft};
 ghost use Rattle.order_desk.specs.Step.{IsOrMemory, Shows};
 
 use crate::lookup::same_order;
@@ -70,6 +70,7 @@ impl<P: Keeper> Desk<P> {
                 revision,
             } => self.take_draft(caller, draft, revision),
             Reading::Book { book } => self.show_book(book),
+            Reading::InForce { book } => self.show_in_force(book),
             Reading::Look {
                 caller,
                 number,
@@ -117,6 +118,16 @@ impl<P: Keeper> Desk<P> {
         ensures { Shows (show_book self.now.tables number) result }
     {
         match self.book_of(number) {
+            Ok(book) => shared(&book.released),
+            Err(said) => Answer::Say(said),
+        }
+    }
+
+    #[tactic(auto, unfolding(crate::specs::Effect::show_in_force))]
+    fn show_in_force(&self, number: u32) -> Answer
+        ensures { Shows (show_in_force self.now.tables number) result }
+    {
+        match self.book_in_force(number) {
             Ok(book) => shared(&book.released),
             Err(said) => Answer::Say(said),
         }
