@@ -339,6 +339,9 @@ def subjects(machine):
     kept = make_kept(machine)
     return {
         "order": Command(machine, ["order", "1", "M1"], text, 0),
+        "free": Command(machine, ["free", "1", "M1"], text, 0),
+        "why": Command(machine, ["why", "1", "M1", "M2"], text, 1),
+        "ask": Command(machine, ["ask", "1", "M1+M2"], text, 1),
         "prove": Command(machine, ["prove"], text, 0),
         "check": Command(machine, ["check"], example("van.csv"), 1),
         "verify": Command(machine, ["verify", certificate], text, 0),

@@ -395,11 +395,17 @@ def try_deep(program, given):
         with hall.service.client() as client:
             answer = client.place(1, deep % (b"[" * 126, b"]" * 126))
             must("an order with lists 126 deep in it", answer == (201, ACCEPTED), answer)
+            for page in ("free", "why"):
+                status, said = client.ask("POST", f"/books/1/{page}", "HALL1", deep % (b"[" * 126, b"]" * 126))
+                must(f"{page} with lists 126 deep in it", status == 200, status, said)
             for depth in (127, 500_000):
                 answer = client.place(2, deep % (b"[" * depth, b"]" * depth))
                 must("lists that stand deeper", answer == (400, "bad body\n"), answer)
+                for page in ("free", "why"):
+                    answer = client.ask("POST", f"/books/1/{page}", "HALL1", deep % (b"[" * depth, b"]" * depth))
+                    must(f"{page} with lists that stand deeper", answer == (400, "bad body\n"), answer)
         hall.still_serves()
-        return "lists 126 deep in an order are read, and deeper ones refused"
+        return "lists 126 deep in an order, and in what is asked of one, are read, and deeper ones refused"
 
     return over(program, trial)
 

@@ -82,11 +82,16 @@ status_of_text() { # call, text
     awk -v call="$1" '
         { sub(/\r$/, "") }
         $0 != "" { if (first == "") first = $0; last = $0 }
-        /^undecided / { left = 1 }
+        /^(undecided|left)( |$)/ { left = 1 }
+        $0 == "none" { none = 1 }
+        /^(refused|unfit) / { refused = 1 }
         END {
-            if (first ~ /^(refused|unfit) |^no car is in both|: blocked,/) print 1
+            if (first ~ /^(refused|unfit|none) |^no car is in both|: blocked,/) print 1
+            else if (first ~ /^now /) print none ? 1 : left ? 7 : 0
+            else if (last == "end") print refused ? 1 : 0
+            else if (first ~ /^undecided after /) print 7
             else if (first ~ /^usage: /) print 2
-            else if (first ~ /^(book|order) fault |^limit |^day outside / || first == "no such book") print 3
+            else if (first ~ /^(book|order|rule) fault |^limit |^day outside / || first == "no such book") print 3
             else if (first == "read fault") print 4
             else if (first == "store fault" || first ~ /^bad row /) print 6
             else if (first ~ /^certificate fault /) print 8
