@@ -206,6 +206,8 @@ leads caller (what.Order number order) =
 leads caller (what.Free order budget) = on_advising TellsFree order budget
 leads caller (what.Why order budget) = on_advising TellsWhy order budget
 leads caller (what.ReadOrder number) = on_asks (Read (reading.Order caller number)) as_kept after_reading on_reading
+leads caller what.ReadBooks = on_says (Read reading.Books)
+leads caller (what.ReadOrders number) = on_says (Read (reading.Orders caller number))
 
 pub on_course : (caller : List ℕ) (asked : What) (h : Hand) (said : Reply) (new : Hand) → course_of caller asked h said new → IsLaterHand h new
 on_course caller asked h said new answers = (leads caller asked h said new answers).later

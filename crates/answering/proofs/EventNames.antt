@@ -19,7 +19,7 @@ use Rattle.order_desk.specs.declared.event.Reading.{Reading}
 use Rattle.order_desk.specs.declared.event.Reading.TheVariants as reading
 use Rattle.order_desk.specs.declared.kept_book.KeptBook.{KeptBook}
 use Rattle.order_desk.specs.declared.limits.TheConstants.{MOST_BOOKS, MOST_DRAFTS, MOST_ORDERS, MOST_REVISION}
-use Rattle.order_desk.specs.Effect.{Effect, says, shows, keeps, go_on, read, effect, draft_of, owned, next_of, next_draft, put_draft, give_draft, read_draft, read_owner, unless_released, to_release, to_take, take_draft, commit, book_of, book_in_force, show_book, show_in_force, withdraw, shows_kept, same_order, unless_kept, to_place, look, place, read_order}
+use Rattle.order_desk.specs.Effect.{Effect, says, shows, keeps, go_on, read, effect, draft_of, owned, next_of, next_draft, put_draft, give_draft, read_draft, read_owner, unless_released, to_release, to_take, take_draft, commit, book_of, book_in_force, show_book, show_in_force, withdraw, shows_kept, same_order, unless_kept, to_place, look, place, read_order, list_books, list_orders}
 use Rattle.order_desk.specs.Fits.{Fits}
 use Rattle.order_desk.specs.Tables.{Tables, book_at, draft_at, is_of, key_of, order_at, released_as, with_book, with_draft, with_order, with_withdrawn}
 use Rattle.order_desk.specs.Valid.{IsValid}
@@ -206,7 +206,7 @@ module _ (t : Tables) where
       (λ d. tells-if AnswerNames t b.withdrawn gone (goes b) tt tt))
 
   read_names : (asked : Reading) → IsValid t → Names t (read t asked)
-  unfolding read_draft read_owner take_draft show_book show_in_force look read_order
+  unfolding read_draft read_owner take_draft show_book show_in_force look read_order list_books list_orders
   read_names (reading.Draft draft) valid =
       names-go_on (draft_of t draft) (λ d. shows (answer.Say (reply.Raw d.text))) (draft_refuses draft) (λ d. tt)
   read_names (reading.Owner draft) valid =
@@ -222,6 +222,8 @@ module _ (t : Tables) where
   read_names (reading.Order caller number) valid =
       names-go_on (ok_or (order_at t.orders (key_of caller number)) (reply.NoSuch missing.Order)) (λ kept. shows_kept t kept)
       (refuses-ok_or Said_ (order_at t.orders (key_of caller number)) (reply.NoSuch missing.Order) tt) kept_names
+  read_names reading.Books valid = tt
+  read_names (reading.Orders caller number) valid = tt
 
   event_names : (e : Event) → IsValid t → Fits t e → Names t (effect t e)
   unfolding put_draft give_draft commit place

@@ -18,7 +18,7 @@ use Rattle.order_desk.specs.declared.event.Reading.TheVariants as reading
 use Rattle.order_desk.specs.declared.kept_book.KeptBook.{KeptBook}
 use Rattle.order_desk.specs.declared.limits.TheConstants.{MOST_BOOKS, MOST_ORDERS}
 use Rattle.order_desk.specs.declared.order_key.OrderKey.{OrderKey}
-use Rattle.order_desk.specs.Effect.{Effect, says, shows, keeps, go_on, effect, draft_of, next_draft, owned, put_draft, give_draft, read_draft, read_owner, unless_released, to_release, take_draft, commit, book_of, book_in_force, show_book, show_in_force, withdraw, shows_kept, same_order, unless_kept, to_place, look, place, read_order}
+use Rattle.order_desk.specs.Effect.{Effect, says, shows, keeps, go_on, effect, draft_of, next_draft, owned, put_draft, give_draft, read_draft, read_owner, unless_released, to_release, take_draft, commit, book_of, book_in_force, show_book, show_in_force, withdraw, shows_kept, same_order, unless_kept, to_place, look, place, read_order, list_books, list_orders}
 use Rattle.order_desk.specs.Step.{Follows, IsStoreFault, Step}
 use Rattle.order_desk.specs.Tables.{Tables, State, order_at, key_of, released_as, with_book, with_draft, with_withdrawn}
 use Rattle.order_desk.proofs.Growth.{draft_there, book_there}
@@ -187,13 +187,15 @@ tells_read caller number t =
 -- ---- all events
 
 effect_tells : (e : Event) (t : Tables) → TellsAt (Tells e) t (effect t e)
-unfolding put_draft give_draft read_draft read_owner commit withdraw
+unfolding put_draft give_draft read_draft read_owner commit withdraw list_books list_orders
 effect_tells (event.Place caller number order) t = tells_placed caller number order t
 effect_tells (event.Read (reading.Take caller draft named)) t = tells_draft caller draft named t
 effect_tells (event.Read (reading.Book book)) t = tells_shown book t
 effect_tells (event.Read (reading.InForce book)) t = tells_in_force book t
 effect_tells (event.Read (reading.Look caller number order)) t = tells_looked caller number order t
 effect_tells (event.Read (reading.Order caller number)) t = tells_read caller number t
+effect_tells (event.Read reading.Books) t = tt
+effect_tells (event.Read (reading.Orders caller number)) t = tt
 effect_tells (event.Read (reading.Draft draft)) t =
     tells-go_on Replies replies t (draft_of t draft) (λ d. shows (answer.Say (reply.Raw d.text))) (λ d is. tt)
 effect_tells (event.Read (reading.Owner draft)) t =

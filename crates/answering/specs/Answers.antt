@@ -210,6 +210,8 @@ course_of caller (what.Order number order) = ordering caller number order
 course_of caller (what.Free order budget) = advising TellsFree order budget
 course_of caller (what.Why order budget) = advising TellsWhy order budget
 course_of caller (what.ReadOrder number) = asks (Read (reading.Order caller number)) as_kept after_reading
+course_of caller what.ReadBooks = says (Read reading.Books)
+course_of caller (what.ReadOrders number) = says (Read (reading.Orders caller number))
 
 -- the call is answered with this reply
 abbrev pub Answers : Call → Hand → Reply → Hand → Type 0

@@ -64,6 +64,8 @@ fn reply_to<T: Turns, G: Gate>(
         What::Free { order, budget } => tell_free(alloc, turns, gate, caller, &order, budget),
         What::Why { order, budget } => tell_why(alloc, turns, gate, caller, &order, budget),
         What::ReadOrder { number } => read_order(alloc, turns, caller, number),
+        What::ReadBooks => ask(turns, Event::Read(Reading::Books)),
+        What::ReadOrders { after } => ask(turns, Event::Read(Reading::Orders { caller, after })),
     }
 }
 

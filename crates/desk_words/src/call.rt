@@ -58,6 +58,12 @@ pub enum What {
     ReadOrder {
         number: u32,
     },
+    /// Lists the released books, by their numbers.
+    ReadBooks,
+    /// Lists the caller's orders above a number, by their numbers; at most 1,000.
+    ReadOrders {
+        after: u32,
+    },
     /// Asks what can still be chosen beside the codes of an order to a book in force, each search with at most `budget` learnt
     /// clauses, from 1 to 50,000. Nothing is kept.
     Free {

@@ -37,7 +37,8 @@ pub enum Reply {
     /// The certificate of a book.
     Cert(Body),
     OwnerIs { owner: Id, revision: u32 },
-    /// The report of a checked draft; what can still be chosen beside an order; or how an order would be accepted.
+    /// The report of a checked draft; what can still be chosen beside an order; how an order would be accepted; or a list of books
+    /// or of orders.
     Report(Body),
     /// The book of a released draft; fresh where this call made it.
     BookIs { number: u32, fresh: bool },

@@ -45,3 +45,16 @@ number_item digits n h = by (slice_index digits 0 == 48) (is_number 9 digits) re
     by true number is h = cc
     by false true is h = is_item digits is
     by false false is h = cc
+
+-- a number begins with a digit
+pub number_digit : (b : ℕ) (bs : List ℕ) (n : ℕ) → path_number (b ∷ bs) ≡ Some n → b < 97
+number_digit b bs n h = by (slice_index (b ∷ bs) 0 == 48) (is_number 9 (b ∷ bs)) refl h
+  where
+    by : (zero_first number : Bool) → is_number 9 (b ∷ bs) ≡ number
+        → (if zero_first then None else (if number then Some (value_of (b ∷ bs)) else None)) ≡ Some n → b < 97
+    by true number is h = cc
+    by false true is h =
+        let digits = (both (nat_le 1 (length (b ∷ bs)) && nat_le (length (b ∷ bs)) 9) (list_all is_digit (b ∷ bs)) is).1 in
+        let digit = (both (is_digit b) (list_all is_digit bs) digits).0 in
+        grind (arith, nat_tests)
+    by false false is h = cc

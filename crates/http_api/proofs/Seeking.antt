@@ -72,3 +72,12 @@ module _ {K : Type 0} where
   pub next_byte : (b : ℕ) (r : RowsOf K) (p : List ℕ) (k : K) → seek 0 (step b r) p ≡ Some k → seek 0 r (b ∷ p) ≡ Some k
   unfolding seek
   next_byte b r p k e = rw e refl
+
+  -- a row that begins with another byte than the path is passed over
+  pub other_byte : (a : ℕ) (t : List ℕ) (kept : K) (r : RowsOf K) (b : ℕ) (p : List ℕ) → b < a → a < 256 → seek 0 ((a ∷ t, kept) ∷ r) (b ∷ p) ≡ seek 0 r (b ∷ p)
+  unfolding seek
+  other_byte a t kept r b p less few =
+      let this : (a == b) ≡ false = grind (arith, nat_tests) in
+      let item : (a == 256) ≡ false = grind (arith, nat_tests) in
+      let rest : (a == 257) ≡ false = grind (arith, nat_tests) in
+      rw (this, item, rest) refl

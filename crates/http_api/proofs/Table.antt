@@ -1,16 +1,18 @@
 -- The routes, and the kind that each path finds.
-use Rattle.std.proofs.Common.{◌≡◌, ℕ, List, [], ◌∷◌, ◌++◌, Some, refl, ap, ◌∙◌, option_map, codes, append-nil}
+use Rattle.std.proofs.Common.{◌≡◌, ◌<◌, ℕ, arith, List, [], ◌∷◌, ◌++◌, Some, refl, ap, ◌∙◌, option_map, codes, append-nil}
 use Rattle.matchit.specs.Rows.{RowsOf}
 use Rattle.matchit.specs.Seek.{seek}
 use Rattle.matchit.specs.Router.{RouteOf}
-use Rattle.http_api.specs.declared.route.Route.TheVariants.{Draft as DraftAt, Book as BookAt, Order as OrderAt}
+use Rattle.http_api.specs.declared.route.Route.TheVariants.{Draft as DraftAt, Book as BookAt, Order as OrderAt, Listed as ListAt, OrdersAfter as AfterAt}
 use Rattle.http_api.specs.declared.route.Kind.{Kind}
-use Rattle.http_api.specs.declared.route.Kind.TheVariants.{Draft, Book, Order}
+use Rattle.http_api.specs.declared.route.Kind.TheVariants.{Draft, Book, Order, Listed, OrdersAfter}
 use Rattle.http_api.specs.declared.route.DraftPage.TheVariants.{Text as DraftText, Owner, Check, Release}
 use Rattle.http_api.specs.declared.route.BookPage.TheVariants.{Text as BookText, Certificate, Withdraw, Free, Why}
+use Rattle.http_api.specs.declared.route.ListPage.TheVariants.{Books, Orders}
+use Rattle.http_api.specs.Route.{path_number}
 use Rattle.http_api.specs.Routes.{Routes, Knows, entry, row, front_drafts}
-use Rattle.http_api.proofs.Seeking.{IsPlain, behind, next_byte}
-use Rattle.http_api.proofs.Items.{IsItem, name_item, number_item}
+use Rattle.http_api.proofs.Seeking.{IsPlain, behind, next_byte, other_byte}
+use Rattle.http_api.proofs.Items.{IsItem, name_item, number_item, number_digit}
 use Rattle.http_api.proofs.Found.{behind_name, at_name, cuts-slash, cuts-plain}
 
 abbrev front_books : List ℕ
@@ -18,6 +20,13 @@ front_books = codes "/books/"
 
 abbrev front_orders : List ℕ
 front_orders = codes "/orders/"
+
+abbrev front_after : List ℕ
+front_after = codes "/orders/after/"
+
+-- a route without a parameter, as a router has it
+abbrev whole : List ℕ → Kind → List ℕ × RouteOf Kind
+whole path kind = (path, record { pattern = path; text = path; names = []; value = kind })
 
 -- what stands behind the parameter of the routes of one front
 abbrev book_rows : RowsOf (RouteOf Kind)
@@ -40,6 +49,9 @@ draft_rows =
 abbrev order_rows : RowsOf (RouteOf Kind)
 order_rows = ([], entry front_orders [] Order) ∷ []
 
+abbrev after_rows : RowsOf (RouteOf Kind)
+after_rows = ([], entry front_after [] OrdersAfter) ∷ []
+
 abbrev pub table : Routes
 table =
     row front_books (codes "/certificate") (Book Certificate)
@@ -47,11 +59,14 @@ table =
     ∷ row front_books (codes "/why") (Book Why)
     ∷ row front_books (codes "/withdraw") (Book Withdraw)
     ∷ row front_books [] (Book BookText)
+    ∷ whole (codes "/books") (Listed Books)
     ∷ row front_drafts (codes "/check") (Draft Check)
     ∷ row front_drafts (codes "/owner") (Draft Owner)
     ∷ row front_drafts (codes "/release") (Draft Release)
     ∷ row front_drafts [] (Draft DraftText)
+    ∷ row front_after [] OrdersAfter
     ∷ row front_orders [] Order
+    ∷ whole (codes "/orders") (Listed Orders)
     ∷ []
 
 -- behind the front of its routes
@@ -61,8 +76,11 @@ at_books path k found = next_byte 47 _ _ k (next_byte 98 _ _ k (next_byte 111 _ 
 at_drafts : (path : List ℕ) (k : RouteOf Kind) → seek 0 (behind draft_rows) path ≡ Some k → seek 0 table (front_drafts ++ path) ≡ Some k
 at_drafts path k found = next_byte 47 _ _ k (next_byte 100 _ _ k (next_byte 114 _ _ k (next_byte 97 _ _ k (next_byte 102 _ _ k (next_byte 116 _ _ k (next_byte 115 _ _ k (next_byte 47 _ _ k found)))))))
 
-at_orders : (path : List ℕ) (k : RouteOf Kind) → seek 0 (behind order_rows) path ≡ Some k → seek 0 table (front_orders ++ path) ≡ Some k
+at_orders : (path : List ℕ) (k : RouteOf Kind) → seek 0 ((codes "after/" ++ 256 ∷ [], entry front_after [] OrdersAfter) ∷ behind order_rows) path ≡ Some k → seek 0 table (front_orders ++ path) ≡ Some k
 at_orders path k found = next_byte 47 _ _ k (next_byte 111 _ _ k (next_byte 114 _ _ k (next_byte 100 _ _ k (next_byte 101 _ _ k (next_byte 114 _ _ k (next_byte 115 _ _ k (next_byte 47 _ _ k found)))))))
+
+at_after : (path : List ℕ) (k : RouteOf Kind) → seek 0 (behind after_rows) path ≡ Some k → seek 0 table (front_after ++ path) ≡ Some k
+at_after path k found = at_orders (codes "after/" ++ path) k (next_byte 97 _ _ k (next_byte 102 _ _ k (next_byte 116 _ _ k (next_byte 101 _ _ k (next_byte 114 _ _ k (next_byte 47 _ _ k found))))))
 
 -- the routes that go on behind the name or number, and those that end with it
 finds_owner : (b : ℕ) (item : List ℕ) → IsPlain (b ∷ item) → seek 0 table (front_drafts ++ (b ∷ item ++ codes "/owner")) ≡ Some (entry front_drafts (codes "/owner") (Draft Owner))
@@ -99,8 +117,23 @@ finds_draft b item plain = ap (λ rest. seek 0 table (front_drafts ++ (b ∷ res
 finds_book : (b : ℕ) (item : List ℕ) → IsPlain (b ∷ item) → seek 0 table (front_books ++ (b ∷ item ++ [])) ≡ Some (entry front_books [] (Book BookText))
 finds_book b item plain = ap (λ rest. seek 0 table (front_books ++ (b ∷ rest))) (append-nil item) ∙ at_books (b ∷ item) _ (at_name b item book_rows _ plain (rw (cuts-plain b item plain) refl) refl)
 
-finds_order : (b : ℕ) (item : List ℕ) → IsPlain (b ∷ item) → seek 0 table (front_orders ++ (b ∷ item ++ [])) ≡ Some (entry front_orders [] Order)
-finds_order b item plain = ap (λ rest. seek 0 table (front_orders ++ (b ∷ rest))) (append-nil item) ∙ at_orders (b ∷ item) _ (at_name b item order_rows _ plain refl refl)
+-- a number begins with a digit, and so not as `after` does
+finds_order : (b : ℕ) (item : List ℕ) → b < 97 → IsPlain (b ∷ item) → seek 0 table (front_orders ++ (b ∷ item ++ [])) ≡ Some (entry front_orders [] Order)
+finds_order b item digit plain =
+    ap (λ rest. seek 0 table (front_orders ++ (b ∷ rest))) (append-nil item)
+    ∙ at_orders (b ∷ item) _ (other_byte 97 _ _ (behind order_rows) b item digit (omega arith) ∙ at_name b item order_rows _ plain refl refl)
+
+finds_after : (b : ℕ) (item : List ℕ) → IsPlain (b ∷ item) → seek 0 table (front_after ++ (b ∷ item ++ [])) ≡ Some (entry front_after [] OrdersAfter)
+finds_after b item plain = ap (λ rest. seek 0 table (front_after ++ (b ∷ rest))) (append-nil item) ∙ at_after (b ∷ item) _ (at_name b item after_rows _ plain refl refl)
+
+-- the paths without a name or a number
+finds_books : option_map (λ (r : RouteOf Kind). r.value) (seek 0 table (codes "/books")) ≡ Some (Listed Books)
+unfolding seek
+finds_books = refl
+
+finds_orders : option_map (λ (r : RouteOf Kind). r.value) (seek 0 table (codes "/orders")) ≡ Some (Listed Orders)
+unfolding seek
+finds_orders = refl
 
 -- a path with a name or a number between two texts
 finds_item : (path front item back : List ℕ) (r : RouteOf Kind) → path ≡ front ++ (item ++ back) → IsItem item
@@ -108,6 +141,12 @@ finds_item : (path front item back : List ℕ) (r : RouteOf Kind) → path ≡ f
     → option_map (λ (r : RouteOf Kind). r.value) (seek 0 table path) ≡ Some r.value
 finds_item path front [] back r is item find = absurd item
 finds_item path front (b ∷ rest) back r is item find = ap (option_map (λ (r : RouteOf Kind). r.value)) (ap (seek 0 table) is ∙ find b rest item)
+
+finds_number : (path digits : List ℕ) (n : ℕ) → path ≡ front_orders ++ (digits ++ []) → path_number digits ≡ Some n
+    → option_map (λ (r : RouteOf Kind). r.value) (seek 0 table path) ≡ Some Order
+finds_number path [] n is h = absurd (number_item [] n h)
+finds_number path (b ∷ rest) n is h =
+    ap (option_map (λ (r : RouteOf Kind). r.value)) (ap (seek 0 table) is ∙ finds_order b rest (number_digit b rest n h) (number_item (b ∷ rest) n h))
 
 pub knows : Knows table
 knows path (DraftAt name DraftText) h = finds_item path front_drafts name [] _ h.0 (name_item name h.1) finds_draft
@@ -119,4 +158,7 @@ knows path (BookAt number Certificate) h = finds_item path front_books h.0 (code
 knows path (BookAt number Free) h = finds_item path front_books h.0 (codes "/free") _ h.1 (number_item h.0 number h.2) finds_free
 knows path (BookAt number Why) h = finds_item path front_books h.0 (codes "/why") _ h.1 (number_item h.0 number h.2) finds_why
 knows path (BookAt number Withdraw) h = finds_item path front_books h.0 (codes "/withdraw") _ h.1 (number_item h.0 number h.2) finds_withdraw
-knows path (OrderAt number) h = finds_item path front_orders h.0 [] _ h.1 (number_item h.0 number h.2) finds_order
+knows path (OrderAt number) h = finds_number path h.0 number h.1 h.2
+knows path (ListAt Books) h = ap (λ p. option_map (λ (r : RouteOf Kind). r.value) (seek 0 table p)) h ∙ finds_books
+knows path (ListAt Orders) h = ap (λ p. option_map (λ (r : RouteOf Kind). r.value) (seek 0 table p)) h ∙ finds_orders
+knows path (AfterAt number) h = finds_item path front_after h.0 [] _ h.1 (number_item h.0 number h.2) finds_after

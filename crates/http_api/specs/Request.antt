@@ -3,15 +3,16 @@
 --     request_of route verb   what is asked for, or none where the path doesn't have the method
 use Rattle.std.specs.Prelude.{ℕ, List, Option, Some, None, codes, if◌then◌else◌}
 use Rattle.std.specs.Str.{bytes_eq}
-use Rattle.desk_words.specs.declared.call.What.TheVariants.{ReadDraft, ReadOwner, ReadBook, ReadCert, Withdraw, ReadOrder}
+use Rattle.desk_words.specs.declared.call.What.TheVariants.{ReadDraft, ReadOwner, ReadBook, ReadCert, Withdraw, ReadOrder, ReadBooks, ReadOrders}
 use Rattle.http_api.specs.declared.request.Verb.{Verb}
 use Rattle.http_api.specs.declared.request.Verb.TheVariants.{Get, Put, Post, Other}
 use Rattle.http_api.specs.declared.request.Request.{Request}
 use Rattle.http_api.specs.declared.request.Request.TheVariants.{Whole, PutDraft, GiveDraft, Check as AskCheck, Release as AskRelease, Free as AskFree, Why as AskWhy, PlaceOrder}
 use Rattle.http_api.specs.declared.route.DraftPage.TheVariants.{Text as DraftText, Owner, Check, Release}
 use Rattle.http_api.specs.declared.route.BookPage.TheVariants.{Text as BookText, Certificate, Withdraw as WithdrawPage, Free, Why}
+use Rattle.http_api.specs.declared.route.ListPage.TheVariants.{Books, Orders}
 use Rattle.http_api.specs.declared.route.Route.{Route}
-use Rattle.http_api.specs.declared.route.Route.TheVariants.{Draft, Book, Order}
+use Rattle.http_api.specs.declared.route.Route.TheVariants.{Draft, Book, Order, Listed as ListAt, OrdersAfter}
 
 abbrev pub method_of : List ℕ → Verb
 method_of bytes =
@@ -33,4 +34,7 @@ request_of (Book number Free) Post = Some (AskFree number)
 request_of (Book number Why) Post = Some (AskWhy number)
 request_of (Order number) Get = Some (Whole (ReadOrder number))
 request_of (Order number) Put = Some (PlaceOrder number)
+request_of (ListAt Books) Get = Some (Whole ReadBooks)
+request_of (ListAt Orders) Get = Some (Whole (ReadOrders 0))
+request_of (OrdersAfter number) Get = Some (Whole (ReadOrders number))
 request_of route verb = None

@@ -11,7 +11,7 @@ use Rattle.http_api.specs.declared.denied.Denied.TheVariants.{NoPath, WrongMetho
 use Rattle.http_api.specs.declared.route.DraftPage.TheVariants.{Text as DraftText, Owner, Check, Release}
 use Rattle.http_api.specs.declared.route.BookPage.TheVariants.{Text as BookText, Certificate, Withdraw, Free, Why}
 use Rattle.http_api.specs.declared.route.Route.{Route}
-use Rattle.http_api.specs.declared.route.Route.TheVariants.{Draft, Book, Order}
+use Rattle.http_api.specs.declared.route.Route.TheVariants.{Draft, Book, Order, Listed as ListAt, OrdersAfter}
 use Rattle.http_api.specs.declared.opening.Methods.{Methods}
 use Rattle.http_api.specs.declared.opening.Methods.TheVariants.{Untold, Get, Post, GetPut, GetPost}
 use Rattle.http_api.specs.declared.opening.Opening.{Opening}
@@ -71,6 +71,8 @@ methods_of (Book number Withdraw) = Post
 methods_of (Book number Free) = Post
 methods_of (Book number Why) = Post
 methods_of (Order number) = GetPut
+methods_of (ListAt page) = Get
+methods_of (OrdersAfter number) = Get
 
 abbrev pub denied_line : Denied → List ℕ
 denied_line NoPath = line (codes "no such path")

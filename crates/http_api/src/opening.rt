@@ -43,6 +43,8 @@ impl Methods {
             Route::Book(_, BookPage::Free) => Methods::Post,
             Route::Book(_, BookPage::Why) => Methods::Post,
             Route::Order(_) => Methods::GetPut,
+            Route::Listed(_) => Methods::Get,
+            Route::OrdersAfter(_) => Methods::Get,
         }
     }
 

@@ -2,7 +2,7 @@
 ghost use Rattle.std.specs.Prelude.{◌≡◌};
 ghost use Rattle.http_api.specs.Request.{method_of, request_of};
 
-use crate::route::{BookPage, DraftPage, Route};
+use crate::route::{BookPage, DraftPage, ListPage, Route};
 use desk_words::What;
 use pb_base::Id;
 
@@ -58,6 +58,8 @@ pub fn request_of(route: Route, verb: Verb) -> Option<Request>
         Route::Draft(draft, page) => draft_request(draft, page, verb),
         Route::Book(book, page) => book_request(book, page, verb),
         Route::Order(number) => order_request(number, verb),
+        Route::Listed(page) => list_request(page, verb),
+        Route::OrdersAfter(number) => orders_after(number, verb),
     }
 }
 
@@ -94,6 +96,25 @@ fn order_request(number: u32, verb: Verb) -> Option<Request>
     match verb {
         Verb::Get => Some(Request::Whole(What::ReadOrder { number })),
         Verb::Put => Some(Request::PlaceOrder(number)),
+        _ => None,
+    }
+}
+
+fn list_request(page: ListPage, verb: Verb) -> Option<Request>
+    ensures { result ≡ request_of (Route.Listed page) verb }
+{
+    match (page, verb) {
+        (ListPage::Books, Verb::Get) => Some(Request::Whole(What::ReadBooks)),
+        (ListPage::Orders, Verb::Get) => Some(Request::Whole(What::ReadOrders { after: 0 })),
+        _ => None,
+    }
+}
+
+fn orders_after(number: u32, verb: Verb) -> Option<Request>
+    ensures { result ≡ request_of (Route.OrdersAfter number) verb }
+{
+    match verb {
+        Verb::Get => Some(Request::Whole(What::ReadOrders { after: number })),
         _ => None,
     }
 }

@@ -1,6 +1,6 @@
 //! The paths that lead somewhere.
 ghost use Rattle.std.specs.Prelude.{◌≡◌};
-ghost use Rattle.http_api.specs.Route.{draft_end, book_end};
+ghost use Rattle.http_api.specs.Route.{draft_end, book_end, list_path};
 
 use pb_base::Id;
 
@@ -13,6 +13,10 @@ pub enum Route {
     Book(u32, BookPage),
     /// `/orders/N`
     Order(u32),
+    /// `/books` or `/orders`
+    Listed(ListPage),
+    /// `/orders/after/N`
+    OrdersAfter(u32),
 }
 
 /// What a path asks of a draft.
@@ -41,12 +45,23 @@ pub enum BookPage {
     Why,
 }
 
+/// What a path lists.
+#[derive(Clone, Copy)]
+pub enum ListPage {
+    /// `/books`
+    Books,
+    /// `/orders`
+    Orders,
+}
+
 /// A route without its name or number.
 #[derive(Clone, Copy)]
 pub enum Kind {
     Draft(DraftPage),
     Book(BookPage),
     Order,
+    Listed(ListPage),
+    OrdersAfter,
 }
 
 impl DraftPage {
@@ -74,6 +89,18 @@ impl BookPage {
             BookPage::Withdraw => b"/withdraw",
             BookPage::Free => b"/free",
             BookPage::Why => b"/why",
+        }
+    }
+}
+
+impl ListPage {
+    /// The path.
+    pub fn path(self) -> &'static [u8]
+        ensures { result.now ≡ list_path self }
+    {
+        match self {
+            ListPage::Books => b"/books",
+            ListPage::Orders => b"/orders",
         }
     }
 }

@@ -6,7 +6,7 @@ ghost use Rattle.http_api.specs.declared.route.Route.{Route};
 ghost use Rattle.matchit.specs.Route.{parse_route};
 
 use crate::item::{name_in, number_in};
-use crate::route::{BookPage, DraftPage, Kind, Route};
+use crate::route::{BookPage, DraftPage, Kind, ListPage, Route};
 use matchit::{InsertError, Router};
 use pb_base::Memory;
 use std::alloc::Global;
@@ -59,6 +59,8 @@ fn route_at(kind: Kind, path: &[u8]) -> Option<Route>
         Kind::Draft(page) => draft_at(path, page),
         Kind::Book(page) => book_at(path, page),
         Kind::Order => order_at(path),
+        Kind::Listed(page) => list_at(path, page),
+        Kind::OrdersAfter => orders_after(path),
     }
 }
 
@@ -90,6 +92,28 @@ fn order_at(path: &[u8]) -> Option<Route>
 {
     match number_in(path, b"/orders/", b"") {
         Some(number) => Some(Route::Order(number)),
+        None => None,
+    }
+}
+
+fn list_at(path: &[u8], page: ListPage) -> Option<Route>
+    ensures found { IfSome result (λ route. Leads path.now route) }
+    ensures only { Leads path.now (Route.Listed page) → result ≡ Some (Route.Listed page) }
+{
+    if path == page.path() {
+        Some(Route::Listed(page))
+    } else {
+        None
+    }
+}
+
+fn orders_after(path: &[u8]) -> Option<Route>
+    ensures found { IfSome result (λ route. Leads path.now route) }
+    ensures only { (number : ℕ) → Leads path.now (Route.OrdersAfter number)
+        → result ≡ Some (Route.OrdersAfter number) }
+{
+    match number_in(path, b"/orders/after/", b"") {
+        Some(number) => Some(Route::OrdersAfter(number)),
         None => None,
     }
 }
@@ -156,6 +180,9 @@ fn add_further(router: &mut Router<Kind>) -> Result<(), Memory>
     add(router, "/books/{item}/free", Kind::Book(BookPage::Free))?;
     add(router, "/books/{item}/why", Kind::Book(BookPage::Why))?;
     add(router, "/orders/{item}", Kind::Order)?;
+    add(router, "/books", Kind::Listed(ListPage::Books))?;
+    add(router, "/orders", Kind::Listed(ListPage::Orders))?;
+    add(router, "/orders/after/{item}", Kind::OrdersAfter)?;
     Ok(())
 }
 

@@ -13,7 +13,7 @@ use Rattle.order_desk.specs.declared.event.Event.TheVariants as event
 use Rattle.order_desk.specs.declared.event.Reading.{Reading}
 use Rattle.order_desk.specs.declared.event.Reading.TheVariants as reading
 use Rattle.order_desk.specs.declared.kept_book.KeptBook.{KeptBook}
-use Rattle.order_desk.specs.Effect.{Effect, says, shows, keeps, go_on, read, effect, draft_of, owned, next_draft, put_draft, give_draft, read_draft, read_owner, to_release, to_take, take_draft, commit, book_of, show_book, book_in_force, show_in_force, withdraw, shows_kept, same_order, unless_kept, to_place, look, place, read_order}
+use Rattle.order_desk.specs.Effect.{Effect, says, shows, keeps, go_on, read, effect, draft_of, owned, next_draft, put_draft, give_draft, read_draft, read_owner, to_release, to_take, take_draft, commit, book_of, show_book, book_in_force, show_in_force, withdraw, shows_kept, same_order, unless_kept, to_place, look, place, read_order, list_books, list_orders}
 use Rattle.order_desk.specs.Step.{Follows, IsKept, IsNotKept, Step}
 use Rattle.order_desk.specs.Tables.{Tables, State, key_of, order_at, with_draft, with_book, with_order, with_withdrawn}
 
@@ -73,7 +73,7 @@ module _ (P : Tables → Type 0) where
 
   -- what only reads writes nothing
   read_writes : (t : Tables) (asked : Reading) → Writes P (read t asked)
-  unfolding read_draft read_owner take_draft show_book show_in_force look read_order
+  unfolding read_draft read_owner take_draft show_book show_in_force look read_order list_books list_orders
   read_writes t (reading.Draft draft) =
       writes-go_on (draft_of t draft) (λ d. shows (answer.Say (reply.Raw d.text))) (λ d is. tt)
   read_writes t (reading.Owner draft) =
@@ -89,6 +89,8 @@ module _ (P : Tables → Type 0) where
   read_writes t (reading.Order caller number) =
       writes-go_on (ok_or (order_at t.orders (key_of caller number)) (reply.NoSuch missing.Order)) (λ kept. shows_kept t kept)
       (λ kept is. kept_writes t kept)
+  read_writes t reading.Books = tt
+  read_writes t (reading.Orders caller number) = tt
 
   pub effect_writes : (t : Tables) (e : Event) → Changes P t e → Writes P (effect t e)
   unfolding put_draft give_draft commit place

@@ -26,3 +26,4 @@ pub mod OwnRows
 pub mod RowsTell
 pub mod StartRead
 pub mod KeptOrders
+pub mod Lists

@@ -24,6 +24,7 @@ use Rattle.order_desk.specs.declared.event.Reading.{Reading}
 use Rattle.order_desk.specs.declared.event.Reading.TheVariants as reading
 use Rattle.order_desk.specs.declared.kept_book.KeptBook.{KeptBook}
 use Rattle.order_desk.specs.declared.limits.TheConstants.{MOST_BOOKS, MOST_DRAFTS, MOST_ORDERS, MOST_REVISION}
+use Rattle.order_desk.specs.Listing.{books_text, orders_text}
 use Rattle.order_desk.specs.Tables.{Tables, draft_at, book_at, order_at, key_of, released_as, with_draft, with_book, with_withdrawn, with_order}
 
 pub data Effect : Type 0 where
@@ -157,6 +158,14 @@ unfoldable pub read_order : Tables → List ℕ → ℕ → Effect
 read_order t caller number = go_on
     (ok_or (order_at t.orders (key_of caller number)) (reply.NoSuch missing.Order)) (λ kept. shows_kept t kept)
 
+-- ---- lists
+
+unfoldable pub list_books : Tables → Effect
+list_books t = shows (answer.Say (reply.Report (books_text t.books)))
+
+unfoldable pub list_orders : Tables → List ℕ → ℕ → Effect
+list_orders t caller number = shows (answer.Say (reply.Report (orders_text t.orders caller number)))
+
 -- ---- all events
 
 -- what only reads
@@ -168,6 +177,8 @@ read t (reading.Book book) = show_book t book
 read t (reading.InForce book) = show_in_force t book
 read t (reading.Look caller number order) = look t caller number order
 read t (reading.Order caller number) = read_order t caller number
+read t reading.Books = list_books t
+read t (reading.Orders caller number) = list_orders t caller number
 
 abbrev pub effect : Tables → Event → Effect
 effect t (event.PutDraft caller draft text) = put_draft t caller draft text

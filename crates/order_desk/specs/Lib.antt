@@ -1,5 +1,6 @@
 pub mod Tables
 pub mod StateCode
+pub mod Listing
 pub mod Effect
 pub mod Step
 pub mod Writing

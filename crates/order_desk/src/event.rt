@@ -79,4 +79,11 @@ pub enum Reading {
         caller: Id,
         number: u32,
     },
+    /// A list of all books, in force or not.
+    Books,
+    /// A list of the caller's orders above a number, which need be no order's: the first `MOST_LISTED` of them.
+    Orders {
+        caller: Id,
+        after: u32,
+    },
 }

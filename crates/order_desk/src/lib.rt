@@ -9,6 +9,7 @@ mod draft_rows;
 mod event;
 mod kept_book;
 mod limits;
+mod listing;
 mod lookup;
 mod order_key;
 mod order_rows;
@@ -24,7 +25,9 @@ pub use desk::{Desk, DeskCounts, history_laws};
 pub use draft::Draft;
 pub use event::{Event, Reading};
 pub use kept_book::KeptBook;
-pub use limits::{MOST_BOOKS, MOST_DRAFTS, MOST_ORDER_NUMBER, MOST_ORDERS, MOST_REVISION};
+pub use limits::{
+    MOST_BOOKS, MOST_DRAFTS, MOST_LISTED, MOST_ORDER_NUMBER, MOST_ORDERS, MOST_REVISION,
+};
 pub use order_key::OrderKey;
 pub use shared_book::SharedBook;
 pub use start::{NotStarted, StartFault, row_laws};

@@ -12,5 +12,8 @@ pub const MOST_ORDERS: usize = 200_000;
 /// The highest revision of a draft.
 pub const MOST_REVISION: u32 = 4_000_000_000;
 
+/// The most orders in one list.
+pub const MOST_LISTED: usize = 1_000;
+
 /// The highest number that a caller may give an order.
 pub const MOST_ORDER_NUMBER: u32 = 999_999_999;

@@ -30,7 +30,8 @@ use Rattle.http_api.specs.declared.request.Verb.TheVariants.{Get, Put, Post}
 use Rattle.http_api.specs.declared.route.DraftPage.TheVariants.{Text as DraftText, Owner, Check as CheckPage, Release as ReleasePage}
 use Rattle.http_api.specs.declared.route.BookPage.TheVariants.{Text as BookText, Certificate, Withdraw, Free as FreePage, Why as WhyPage}
 use Rattle.http_api.specs.declared.route.Route.{Route}
-use Rattle.http_api.specs.declared.route.Route.TheVariants.{Draft, Book, Order}
+use Rattle.http_api.specs.declared.route.ListPage.TheVariants.{Books, Orders}
+use Rattle.http_api.specs.declared.route.Route.TheVariants.{Draft, Book, Order, Listed, OrdersAfter}
 use Rattle.answering.specs.Answers.{IsBudget, IsCall}
 use Rattle.session.specs.Responses.{Asks}
 
@@ -103,6 +104,9 @@ request_within path (Book number Withdraw) Post leads = tt
 request_within path (Book number FreePage) Post leads = tt
 request_within path (Book number WhyPage) Post leads = tt
 request_within path (Order number) Put leads = order_number leads.0 number leads.2
+request_within path (Listed Books) Get leads = tt
+request_within path (Listed Orders) Get leads = tt
+request_within path (OrdersAfter number) Get leads = tt
 request_within path route verb leads = tt
 
 -- ---- what a body says

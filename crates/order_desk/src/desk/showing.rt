@@ -1,17 +1,21 @@
 //! What only reads.
-ghost use Rattle.std.specs.Prelude.{if◌then◌else◌};
+ghost use Rattle.std.specs.Prelude.{◌≡◌, IfOk, OnErr, if◌then◌else◌};
 ghost use Rattle.desk_words.specs.declared.reply.Reply.TheVariants as Reply;
 ghost use Rattle.order_desk.specs.declared.answer.Answer.TheVariants as Answer;
-ghost use Rattle.order_desk.specs.Effect.{says, look, read, read_draft, read_order, read_owner, show_book, show_in_force, shows_kept, same_order, take_draft};
+ghost use Rattle.order_desk.specs.Effect.{says, list_books, list_orders, look, read, read_draft, read_order, read_owner, show_book, show_in_force, shows_kept, same_order, take_draft};
+ghost use Rattle.order_desk.specs.Listing.{own_above};
 ghost use Rattle.order_desk.specs.Step.{IsOrMemory, Shows};
 
+use crate::listing::{books_text, list_text};
 use crate::lookup::same_order;
 use crate::writing::body_of;
 use crate::{Answer, Desk, Draft, OrderKey, Reading, SharedBook};
 use desk_words::{Missing, OrderWords, Reply};
 use keeper::Keeper;
-use pb_base::{Id, Memory};
+use pb_base::{Body, Id, Memory};
 use std::alloc::Global;
+use std::collections::btree_map::Range;
+use std::ops::Bound;
 
 // The answers that copy something.
 
@@ -57,6 +61,16 @@ fn kept_under(alloc: Global, kept: &OrderWords, book: &SharedBook) -> Answer
     }
 }
 
+fn report(list: Result<Body, Memory>) -> Answer
+    ensures made { IfOk list (λ text. result ≡ Answer.Say (Reply.Report text)) }
+    ensures memory { OnErr list (result ≡ Answer.Say Reply.Memory) }
+{
+    match list {
+        Ok(text) => Answer::Say(Reply::Report(text)),
+        Err(Memory) => Answer::Say(Reply::Memory),
+    }
+}
+
 impl<P: Keeper> Desk<P> {
     pub(super) fn read(&self, asked: Reading) -> Answer
         ensures { Shows (read self.now.tables asked) result }
@@ -77,6 +91,8 @@ impl<P: Keeper> Desk<P> {
                 order,
             } => self.look(caller, number, order),
             Reading::Order { caller, number } => self.read_order(caller, number),
+            Reading::Books => self.list_books(),
+            Reading::Orders { caller, after } => self.list_orders(caller, after),
         }
     }
 
@@ -177,5 +193,33 @@ impl<P: Keeper> Desk<P> {
             Some(kept) => self.show_kept(kept),
             None => Answer::Say(Reply::NoSuch(Missing::Order)),
         }
+    }
+
+    #[tactic(auto, unfolding(crate::specs::Effect::list_books))]
+    fn list_books(&self) -> Answer
+        ensures { Shows (list_books self.now.tables) result }
+    {
+        report(books_text(*self.books.allocator(), &self.books))
+    }
+
+    #[tactic(auto, unfolding(crate::specs::Effect::list_orders, crate::specs::Listing::orders_text))]
+    fn list_orders(&self, caller: Id, number: u32) -> Answer
+        ensures { Shows (list_orders self.now.tables caller number) result }
+    {
+        let orders = self.own_above(caller, number);
+        report(list_text(*self.books.allocator(), orders))
+    }
+
+    // The caller's own orders above a number: those of its keys from the next one on. No other is looked at.
+    fn own_above(&self, caller: Id, number: u32) -> Range<'_, OrderKey, OrderWords>
+        ensures { result ≡ own_above caller number self.now.tables.orders }
+    {
+        let least = OrderKey { caller, number };
+        let most = OrderKey {
+            caller,
+            number: u32::MAX,
+        };
+        self.orders
+            .range((Bound::Excluded(least), Bound::Included(most)))
     }
 }

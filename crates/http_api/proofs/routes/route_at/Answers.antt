@@ -1,5 +1,5 @@
 use Rattle.std.proofs.Common.{sym, subst}
-use Rattle.http_api.proofs.Only.{Only, only_draft, only_book, only_order}
+use Rattle.http_api.proofs.Only.{Only, only_draft, only_book, only_order, only_list, only_after}
 use Rattle.http_api.proofs.routes.route_at.Goals as goal
 
 pub returns-in-Draft-clause-only : goal.returns-in-Draft-clause-only
@@ -10,3 +10,9 @@ returns-in-Book-clause-only c = subst (λ kind. Only c.args.path.now kind c.book
 
 pub returns-in-Order-clause-only : goal.returns-in-Order-clause-only
 returns-in-Order-clause-only c = subst (λ kind. Only c.args.path.now kind c.order_at.result) (sym c.in-Order.is) (only_order c.args.path.now c.order_at.result c.order_at.ensures.only)
+
+pub returns-in-Listed-clause-only : goal.returns-in-Listed-clause-only
+returns-in-Listed-clause-only c = subst (λ kind. Only c.args.path.now kind c.list_at.result) (sym c.in-Listed.is) (only_list c.args.path.now c.in-Listed.page c.list_at.result c.list_at.ensures.only)
+
+pub returns-in-OrdersAfter-clause-only : goal.returns-in-OrdersAfter-clause-only
+returns-in-OrdersAfter-clause-only c = subst (λ kind. Only c.args.path.now kind c.orders_after.result) (sym c.in-OrdersAfter.is) (only_after c.args.path.now c.orders_after.result c.orders_after.ensures.only)
