@@ -23,6 +23,14 @@ no_name_fault true None h = refl
 no_name_fault true (Some fault) h = absurd (cc)
 no_name_fault false fault h = absurd (cc)
 
+in_term : (within : Bool) (fault : Option NameFault) → cond within (option_map fault_of_name fault) (Some DayOutsideTerm) ≡ None → within ≡ true
+in_term true fault h = refl
+in_term false fault h = absurd (cc)
+
+-- the day of an order without a fault is in the term
+pub day_in_term : (b : Contents) (day : ℕ) (names : List (List ℕ)) → order_fault b day names ≡ None → is_within b.first b.last day ≡ true
+day_in_term b day names h = in_term (is_within b.first b.last day) (first_fault b.codes [] names) h
+
 -- an order without a fault names codes
 pub names_faultless : (b : Contents) (day : ℕ) (names : List (List ℕ)) → order_fault b day names ≡ None → first_fault b.codes [] names ≡ None
 names_faultless b day names h = no_name_fault (is_within b.first b.last day) (first_fault b.codes [] names) h

@@ -12,6 +12,7 @@ use Rattle.supplement.specs.Completion.{completion_of}
 use Rattle.parts_usage.specs.Fault.{order_fault}
 use Rattle.parts_usage.specs.Outcome.{outcome_of_set}
 use Rattle.left_cars.specs.Freedom.{IsFree}
+use Rattle.left_laws.specs.Laws.{OrdersAreSo}
 use Rattle.free_answers.specs.declared.answer.FreeAnswer.{FreeAnswer}
 
 abbrev pub chosen_of : List (List ℕ) → List (List ℕ) → List ℕ
@@ -25,3 +26,5 @@ pub record IsAnswer (b : Contents) (day : ℕ) (names : List (List ℕ)) (budget
   pub outcome : a.outcome ≡ outcome_of_set b day (completed_of b day names)
   pub completed : a.completed ≡ completed_of b day names
   pub free : IsFree b day (chosen_of b.codes names) budget a.freedom
+  -- and so it is with the accepted orders that name these codes
+  pub orders : OrdersAreSo b day (chosen_of b.codes names) a.freedom

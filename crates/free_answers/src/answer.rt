@@ -3,6 +3,8 @@ ghost use Rattle.std.specs.Prelude.{◌≡◌, ◌<◌, ◌≤◌, IfOk, None, S
 ghost use Rattle.pb_base.specs.Answers.{IfRefused};
 ghost use Rattle.pb_base.specs.declared.limits.TheConstants.{MOST_BUDGET};
 ghost use Rattle.pb_base.specs.NamedSet.{named};
+ghost use Rattle.left_cars.specs.Freedom.{IsFree};
+ghost use Rattle.left_laws.specs.Laws.{OrdersAreSo};
 ghost use Rattle.parts_usage.specs.Fault.{order_fault};
 ghost use Rattle.parts_usage.specs.Outcome.{outcome_of_set};
 ghost use Rattle.free_answers.specs.Answer.{IsAnswer, completed_of};
@@ -10,6 +12,7 @@ ghost use Rattle.free_answers.specs.Answer.{IsAnswer, completed_of};
 use crate::chosen::chosen_of;
 use book_model::Book;
 use left_cars::{Freedom, free_codes};
+use left_laws::left_laws;
 use parts_usage::{OrderFault, Outcome, outcome};
 use pb_base::{CodeName, CodeSet, Day, Fail, Memory};
 use std::alloc::Global;
@@ -61,11 +64,28 @@ fn beside(
     let completed = completed_set(alloc, book, day, names)?;
     let chosen = chosen_of(alloc, book.codes(), names)?;
     let freedom = free_codes(alloc, book, day, &chosen, budget)?;
+    orders_of(book, day, names, &chosen, budget, &freedom);
     Ok(FreeAnswer {
         outcome: judged,
         completed,
         freedom,
     })
+}
+
+// What can still be chosen is so of the orders that the book accepts. The call does nothing.
+fn orders_of(
+    book: &Book,
+    day: Day,
+    names: &[CodeName],
+    chosen: &[u32],
+    budget: u32,
+    freedom: &Freedom,
+)
+    requires faultless { order_fault book.now day names.now ≡ None }
+    requires free { IsFree book.now day chosen.now budget freedom.now }
+    ensures { OrdersAreSo book.now day chosen.now freedom.now }
+{
+    left_laws(book);
 }
 
 // The set of the codes that the names name, with what the supplementing rules add.

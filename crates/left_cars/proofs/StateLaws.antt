@@ -1,5 +1,5 @@
 -- What a search says of a code, beside a car that shows one value of it.
-use Rattle.std.proofs.Common.{◌≡◌, ◌⊎◌, inl, inr, ℕ, zero, suc, Bool, true, false, not, cond, List, [], ◌∷◌, ◌++◌, Some, None, length, slice_get, refl, sym, ap, subst, ◌∙◌}
+use Rattle.std.proofs.Common.{◌≡◌, ◌⊎◌, inl, inr, ℕ, zero, suc, Bool, true, false, not, cond, List, [], ◌∷◌, ◌++◌, Some, None, Result, Ok, Err, IfOk, length, slice_get, refl, sym, ap, subst, ◌∙◌}
 use Rattle.std.proofs.lemmas.Bool.{false_from_ne_true, cases_Bool, true≢false}
 use Rattle.std.proofs.lemmas.Option.{none-some, same_Some}
 use Rattle.pb_base.specs.Sets.{has}
@@ -14,6 +14,11 @@ use Rattle.left_cars.specs.declared.states.CodeState.TheVariants as state
 use Rattle.left_cars.specs.Seen.{IsSeen, SeenAt, only_value}
 use Rattle.left_cars.specs.declared.seen.Seen.{Seen}
 use Rattle.left_cars.proofs.LeftLaws.{length_of_left}
+
+-- a code that is open, or want of memory
+pub state_open : {E : Type 0} (IsSo : CodeState → Type 0) (made : Result CodeState E) → IsSo state.Open → IfOk made (λ s. s ≡ state.Open) → IfOk made IsSo
+state_open IsSo (Ok s) so is = subst IsSo (sym is) so
+state_open IsSo (Err wanting) so is = tt
 
 module _ (b : Contents) (day : ℕ) (chosen : List ℕ) where
   -- the other value is shown as well

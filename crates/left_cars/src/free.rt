@@ -11,6 +11,7 @@ ghost use Rattle.left_cars.specs.Seen.{AllSeen, IsSeen};
 ghost use Rattle.left_cars.specs.declared.states.CodeState.TheVariants as state;
 
 use crate::asking::begin;
+use crate::hints::{Hints, clauses_of};
 use crate::seen::{Seen, none_seen, see};
 use crate::states::{CodeState, Freedom};
 use book_model::Book;
@@ -34,13 +35,32 @@ pub fn free_codes(
     requires most { budget ≤ MOST_BUDGET }
     ensures { IfOk result (IsFree book.now day chosen.now budget) }
 {
+    let mut found = 0;
+    free_counted(alloc, book, day, chosen, budget, &mut found)
+}
+
+/// The same. The searches that find a car are added to a count: each shows as many further values of codes as it can, so there
+/// are few of them, which a test bounds. No contract speaks of it.
+pub fn free_counted(
+    alloc: Global,
+    book: &Book,
+    day: Day,
+    chosen: &[u32],
+    budget: u32,
+    found: &mut u32,
+) -> Result<Freedom, Memory>
+    requires chosen { AreChosen book.now chosen.now }
+    requires some { 0 < budget }
+    requires most { budget ≤ MOST_BUDGET }
+    ensures { IfOk result (IsFree book.now day chosen.now budget) }
+{
     let mut solver = begin(alloc, book, day, chosen)?;
     let outcome = ask(book, day, chosen, &[], budget, &mut solver)?;
     match outcome {
         Outcome::NotShown(_) => Ok(Freedom::NoneLeft),
         Outcome::Left(learnt) => Ok(Freedom::NotDecided(learnt)),
         Outcome::Shown(car) => {
-            let states = states_from(alloc, book, day, chosen, budget, &mut solver, &car)?;
+            let states = states_from(alloc, book, day, chosen, budget, &mut solver, &car, found)?;
             Ok(Freedom::Codes(states))
         }
     }
@@ -102,6 +122,7 @@ fn states_from(
     budget: u32,
     solver: &mut Solver,
     car: &CodeSet,
+    found: &mut u32,
 ) -> Result<Vec<CodeState>, Memory>
     requires chosen { AreChosen book.now chosen.now }
     requires some { 0 < budget }
@@ -112,16 +133,37 @@ fn states_from(
     ensures { IfOk result (λ states. HasStates book.now day chosen.now budget states.items) }
 {
     let mut seen = none_seen(alloc, book, day, chosen)?;
-    see(book, day, chosen, &mut seen, car);
-    let mut hints = Vec::new(alloc);
+    let mut hints = Hints::none(alloc, car.len());
+    see_one(book, day, chosen, &mut seen, &mut hints, car, found)?;
     let mut states = Vec::new(alloc);
     for place in 0..car.len() {
         let state = state_of(
-            book, day, chosen, budget, solver, &mut seen, &mut hints, place,
+            book, day, chosen, budget, solver, &mut seen, &mut hints, found, place,
         )?;
         states.push(state)?;
     }
     Ok(states)
+}
+
+// Notes what a car shows that was found, and hints that the next ones should show what none has shown.
+fn see_one(
+    book: &Book,
+    day: Day,
+    chosen: &[u32],
+    seen: &mut Seen,
+    hints: &mut Hints,
+    car: &CodeSet,
+    found: &mut u32,
+) -> Result<(), Memory>
+    requires seen { IsSeen book.now day chosen.now seen.old }
+    requires left { is_left book.now day chosen.now car.now ≡ true }
+    requires counted { length car.now ≡ length book.now.codes }
+    ensures seen { IsSeen book.now day chosen.now seen.new }
+    ensures all { AllSeen (length book.now.codes) seen.new }
+{
+    see(book, day, chosen, seen, car);
+    *found = found.saturating_add(1);
+    hints.renew(seen)
 }
 
 // The state of a code. What a car shows that is found for it is noted.
@@ -132,7 +174,8 @@ fn state_of(
     budget: u32,
     solver: &mut Solver,
     seen: &mut Seen,
-    hints: &mut Vec<Lit>,
+    hints: &mut Hints,
+    found: &mut u32,
     place: u32,
 ) -> Result<CodeState, Memory>
     requires chosen { AreChosen book.now chosen.now }
@@ -151,7 +194,9 @@ fn state_of(
         return Ok(CodeState::Ordered);
     }
     match seen.only_value(place) {
-        Some(value) => state_beside(book, day, chosen, budget, solver, seen, hints, place, value),
+        Some(value) => state_beside(
+            book, day, chosen, budget, solver, seen, hints, found, place, value,
+        ),
         None => Ok(CodeState::Open),
     }
 }
@@ -170,7 +215,8 @@ fn state_beside(
     budget: u32,
     solver: &mut Solver,
     seen: &mut Seen,
-    hints: &mut Vec<Lit>,
+    hints: &mut Hints,
+    found: &mut u32,
     place: u32,
     value: bool,
 ) -> Result<CodeState, Memory>
@@ -188,17 +234,26 @@ fn state_beside(
     ensures all { AllSeen (length book.now.codes) seen.new }
     ensures state { IfOk result (IsState book.now day chosen.now budget place) }
 {
-    seen.hint_new(hints)?;
-    solver.prefer(hints);
+    hints.point(seen, solver, place)?;
+    let known = clauses_of(solver);
     let outcome = ask_value(book, day, chosen, place, !value, budget, solver)?;
+    hints.weigh(solver, known, place);
     match outcome {
         Outcome::Shown(car) => {
-            see(book, day, chosen, seen, &car);
-            Ok(CodeState::Open)
+            let noted = see_one(book, day, chosen, seen, hints, &car, found);
+            state_when(noted)
         }
         Outcome::NotShown(_) => Ok(refuted(value)),
         Outcome::Left(learnt) => Ok(CodeState::Undecided(learnt)),
     }
+}
+
+// The state of a code that is open, unless memory was wanting.
+fn state_when(noted: Result<(), Memory>) -> Result<CodeState, Memory>
+    ensures { IfOk result (λ s. s ≡ state.Open) }
+{
+    noted?;
+    Ok(CodeState::Open)
 }
 
 // The state of a code that each car shows with this value.

@@ -3,8 +3,9 @@
 
 mod asking;
 mod free;
+mod hints;
 mod seen;
 mod states;
 
-pub use free::free_codes;
+pub use free::{free_codes, free_counted};
 pub use states::{CodeState, Freedom};

@@ -5,7 +5,6 @@ ghost use Rattle.pb_base.specs.Sets.{has};
 ghost use Rattle.left_cars.specs.Seen.{IsSeen, AllSeen, only_value};
 
 use book_model::Book;
-use clause_pool::Lit;
 use pb_base::{CodeSet, Day, Memory};
 use std::alloc::Global;
 
@@ -74,19 +73,5 @@ impl Seen {
         } else {
             None
         }
-    }
-
-    /// Hints that a search should show each value that no car shows. They are written into the list.
-    pub(crate) fn hint_new(&self, hints: &mut Vec<Lit>) -> Result<(), Memory>
-        requires { length self.now.with_it ≡ length self.now.without }
-    {
-        hints.clear();
-        for place in 0..self.with_it.len() {
-            match self.only_value(place) {
-                Some(value) => hints.push(Lit::new(place, !value))?,
-                None => {}
-            }
-        }
-        Ok(())
     }
 }

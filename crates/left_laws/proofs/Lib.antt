@@ -1,1 +1,2 @@
+pub mod AcceptLaws
 pub mod OrderedLaws

@@ -1,4 +1,4 @@
-//! What the states of codes mean for the orders of a released book.
+//! What the answers to questions about cars mean for the orders of a book.
 #![tactic(auto)]
 
 mod laws;

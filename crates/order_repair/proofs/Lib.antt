@@ -1,3 +1,4 @@
 mod PlaceLaws
 mod OrderLaws
 mod RepairLaws
+mod MendLaws

@@ -3,12 +3,14 @@
 --     IsUnfitCar b day kept x unfit      a car with the kept codes can't be built
 --     IsKept b day chosen k              what clashes, which of the chosen codes stay, and what is changed then
 --     IsRepair b day chosen budget accepted r    what is told of an order that is accepted, or isn't
+--     IsMended b day r                   what is told to change makes the order accepted, and at a book that can be released it is told
 --     IsAnswer b day names budget a      what is added to the order, what it comes to, and how it would be accepted
-use Rattle.std.specs.Prelude.{◌≡◌, ℕ, Bool, true, false, List, [], None, Some, Ok, IfSome}
+use Rattle.std.specs.Prelude.{◌≡◌, ℕ, Bool, true, false, List, [], ◌++◌, None, Some, Ok, IfSome}
 use Rattle.pb_base.specs.NamedSet.{named}
 use Rattle.pb_base.specs.Rule.{always}
 use Rattle.book_model.specs.Contents.{Contents}
 use Rattle.book_model.specs.Good.{is_good}
+use Rattle.book_model.specs.Sound.{IsReleasable}
 use Rattle.supplement.specs.Completion.{completion_of}
 use Rattle.parts_usage.specs.Fault.{order_fault}
 use Rattle.parts_usage.specs.Outcome.{outcome_of}
@@ -66,6 +68,18 @@ IsRepair b day chosen budget accepted (Undecided learnt) = (accepted ≡ false) 
 IsRepair b day chosen budget accepted (NoOrder m) = (accepted ≡ false) × IsVoid b day chosen m
 IsRepair b day chosen budget accepted (Keep k) = (accepted ≡ false) × IsKept b day chosen k
 
+-- the kept codes with the added ones are accepted; each car of a book that can be released can be built
+abbrev pub IsMendedBy : Contents → ℕ → List ℕ → Change → Type 0
+IsMendedBy b day kept (Add added) = is_accepted b day (names_at b.codes kept ++ added.items) ≡ true
+IsMendedBy b day kept (Unfit x unfit) = IsReleasable b → ⊥
+
+-- such a book has a car on each day of its term
+abbrev pub IsMended : Contents → ℕ → Repair → Type 0
+IsMended b day NotNeeded = Unit {0}
+IsMended b day (Undecided learnt) = Unit {0}
+IsMended b day (NoOrder m) = IsReleasable b → ⊥
+IsMended b day (Keep k) = IsMendedBy b day k.codes.items k.change
+
 abbrev pub accepts : Outcome → Bool
 accepts (Accepted set list) = true
 accepts (Refused rule) = false
@@ -76,3 +90,4 @@ pub record IsAnswer (b : Contents) (day : ℕ) (names : List (List ℕ)) (budget
   pub added : a.added ≡ (completion_of b day (named b.codes names)).added
   pub outcome : outcome_of b day names ≡ Ok a.outcome
   pub repair : IsRepair b day (chosen_of b.codes names) budget (accepts a.outcome) a.repair
+  pub mends : IsMended b day a.repair

@@ -7,7 +7,7 @@ ghost use Rattle.parts_usage.specs.Fault.{order_fault};
 ghost use Rattle.parts_usage.specs.Outcome.{outcome_of};
 ghost use Rattle.supplement.specs.Completion.{completion_of};
 ghost use Rattle.order_repair.specs.Ordered.{AreOrdered};
-ghost use Rattle.order_repair.specs.Repair.{IsAnswer, IsRepair, accepts};
+ghost use Rattle.order_repair.specs.Repair.{IsAnswer, IsMended, IsRepair, accepts};
 
 use crate::answer::{Repair, WhyAnswer};
 use crate::keeping::repair;
@@ -56,12 +56,28 @@ fn answer_of(
     let added = added_by(alloc, book, day, names)?;
     let chosen = chosen_of(alloc, book.codes(), names)?;
     let repair = repair_of(alloc, book, day, &chosen, budget, &judged)?;
+    mends(book, day, names, &chosen, budget, &judged, &repair);
     Ok(WhyAnswer {
         added,
         outcome: judged,
         repair,
     })
 }
+
+// What is told to change makes an order accepted. The call does nothing.
+fn mends(
+    book: &Book,
+    day: Day,
+    names: &[CodeName],
+    chosen: &[u32],
+    budget: u32,
+    judged: &Outcome,
+    repair: &Repair,
+)
+    requires faultless { order_fault book.now day names.now ≡ None }
+    requires repair { IsRepair book.now day chosen.now budget (accepts judged.now) repair.now }
+    ensures { IsMended book.now day repair.now }
+{}
 
 // What the supplementing rules add.
 fn added_by(alloc: Global, book: &Book, day: Day, names: &[CodeName]) -> Result<AddedList, Memory>

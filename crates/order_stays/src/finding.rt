@@ -27,8 +27,36 @@ pub(crate) enum Found {
     Undecided(Pool),
 }
 
-/// A solver over the rules of a day.
-pub(crate) fn solver_of(alloc: Global, book: &Book, day: Day) -> Result<Solver, Memory>
+/// A solver over the rules of a day. Its first search is to show a car with as many of these codes as it can, the first ones first:
+/// what the car has needs no search of its own.
+pub(crate) fn solver_for(
+    alloc: Global,
+    book: &Book,
+    day: Day,
+    chosen: &[u32],
+) -> Result<Solver, Memory>
+    ensures { IfOk result (IsOver (length book.now.codes) (rule_items book.now day)) }
+{
+    let mut solver = solver_of(alloc, book, day)?;
+    hint_codes(alloc, &mut solver, chosen)?;
+    Ok(solver)
+}
+
+// Hints that the next search should show these codes, the first ones first.
+fn hint_codes(alloc: Global, solver: &mut Solver, chosen: &[u32]) -> Result<(), Memory>
+    ensures { solver.new ≡ solver.old }
+{
+    let mut hints = Vec::new(alloc);
+    // The last hint is taken first.
+    for place in (0..chosen.len()).rev() {
+        hints.push(Lit::new(chosen[place], true))?;
+    }
+    solver.prefer(&hints);
+    Ok(())
+}
+
+// A solver over the rules of a day.
+fn solver_of(alloc: Global, book: &Book, day: Day) -> Result<Solver, Memory>
     ensures { IfOk result (IsOver (length book.now.codes) (rule_items book.now day)) }
 {
     let mut encoder = Encoder::new(alloc, book.codes().len())?;

@@ -8,7 +8,7 @@ ghost use Rattle.clausify.specs.Items.{rule_items};
 ghost use Rattle.item_search.specs.Search.{IsOver};
 ghost use Rattle.order_stays.specs.Stays.{IsCarWith, IsStaying, IsTried};
 
-use crate::finding::{Found, find_with, solver_of};
+use crate::finding::{Found, find_with, solver_for};
 use crate::stay::{Stay, Staying};
 use book_model::Book;
 use clause_pool::Pool;
@@ -31,7 +31,7 @@ pub fn codes_that_stay(
     requires most { budget ≤ MOST_BUDGET }
     ensures { IfOk result (IsStaying book.now day chosen.now budget) }
 {
-    let mut solver = solver_of(alloc, book, day)?;
+    let mut solver = solver_for(alloc, book, day, chosen)?;
     let found = find_with(alloc, book, day, &mut solver, &[], budget)?;
     match found {
         Found::Car(car) => stay_from(alloc, book, day, chosen, budget, &mut solver, car),

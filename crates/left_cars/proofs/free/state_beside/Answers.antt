@@ -1,18 +1,19 @@
 use Rattle.std.proofs.Common.{length, not, [], ◌∷◌}
 use Rattle.clause_pool.specs.Literal.{literal}
 use Rattle.item_search.specs.Search.{IsFound, NoneFound}
+use Rattle.left_cars.specs.Freedom.{IsState}
 use Rattle.left_cars.specs.Left.{is_left, IsGivenUp}
-use Rattle.left_cars.proofs.StateLaws.{open_by, refuted_by}
+use Rattle.left_cars.proofs.StateLaws.{open_by, refuted_by, state_open}
 use Rattle.left_cars.proofs.free.state_beside.Goals as goal
 
-pub see-requires-clause-left : goal.see-requires-clause-left
-see-requires-clause-left c =
+pub see_one-noted-requires-clause-left : goal.see_one-noted-requires-clause-left
+see_one-noted-requires-clause-left c =
     let found : IsFound (length c.args.book.now.codes) (is_left c.args.book.now c.args.day c.args.chosen.now) (literal c.args.place (not c.args.value) ∷ []) c.in-Shown.car =
     rw c.in-Shown.is at c.in_ok-outcome.ensures.outcome in
     found.passes
 
-pub see-requires-clause-counted : goal.see-requires-clause-counted
-see-requires-clause-counted c =
+pub see_one-noted-requires-clause-counted : goal.see_one-noted-requires-clause-counted
+see_one-noted-requires-clause-counted c =
     let found : IsFound (length c.args.book.now.codes) (is_left c.args.book.now c.args.day c.args.chosen.now) (literal c.args.place (not c.args.value) ∷ []) c.in-Shown.car =
     rw c.in-Shown.is at c.in_ok-outcome.ensures.outcome in
     found.counted
@@ -21,7 +22,8 @@ pub returns-in-Shown-clause-state : goal.returns-in-Shown-clause-state
 returns-in-Shown-clause-state c =
     let found : IsFound (length c.args.book.now.codes) (is_left c.args.book.now c.args.day c.args.chosen.now) (literal c.args.place (not c.args.value) ∷ []) c.in-Shown.car =
     rw c.in-Shown.is at c.in_ok-outcome.ensures.outcome in
-    (c.requires.further, open_by c.args.book.now c.args.day c.args.chosen.now c.args.place c.args.value c.in-Shown.car c.requires.shown found)
+    state_open (IsState c.args.book.now c.args.day c.args.chosen.now c.args.budget c.args.place) c.state_when.result
+    (c.requires.further, open_by c.args.book.now c.args.day c.args.chosen.now c.args.place c.args.value c.in-Shown.car c.requires.shown found) c.state_when.ensures
 
 pub returns-in-NotShown-clause-state : goal.returns-in-NotShown-clause-state
 returns-in-NotShown-clause-state c =

@@ -3,7 +3,7 @@ use Rattle.item_search.specs.Search.{IsFound, NoneFound}
 use Rattle.item_search.proofs.SearchLaws.{none_below, none_consistent}
 use Rattle.left_cars.specs.Left.{is_left}
 use Rattle.left_cars.proofs.StateLaws.{none_left}
-use Rattle.left_cars.proofs.free.free_codes.Goals as goal
+use Rattle.left_cars.proofs.free.free_counted.Goals as goal
 
 pub ask-requires-clause-below : goal.ask-requires-clause-below
 ask-requires-clause-below c = none_below (2 * length c.args.book.now.codes)
