@@ -1,0 +1,6 @@
+mod DayRanges
+mod OutcomesAlike
+mod PartSteps
+mod RunLaws
+mod ToldSame
+mod TextSteps

@@ -1,0 +1,4 @@
+pub mod Days
+pub mod Joined
+pub mod Same
+pub mod DaysText
