@@ -1,0 +1,4 @@
+pub mod AskedLaws
+pub mod CellLaws
+pub mod RunLaws
+pub mod RefusalLaws

@@ -1,0 +1,4 @@
+pub mod Fault
+pub mod Pass
+pub mod Stated
+pub mod Requirements

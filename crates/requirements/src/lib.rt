@@ -1,0 +1,13 @@
+//! Reads requirements: what has to hold of every car of a book, stated apart from its rules.
+#![tactic(auto)]
+
+mod fault;
+mod fields;
+mod read;
+mod requirement;
+mod row_reader;
+mod stated;
+
+pub use fault::{RequirementFault, RequirementKind};
+pub use read::read_requirements;
+pub use requirement::{Claim, MOST_REQUIREMENTS, Requirement};

@@ -1,0 +1,3 @@
+pub mod SourceLaws
+pub mod AnswerLaws
+pub mod CodingLaws
