@@ -8,6 +8,7 @@ use Rattle.book_model.specs.Activity.{is_within}
 use Rattle.book_model.specs.Book.{RuleFits}
 use Rattle.book_model.specs.Contents.{Contents}
 use Rattle.book_text.specs.declared.fault.BookFault.{BookFault}
+use Rattle.left_laws.specs.Laws.{OrdersMeet}
 use Rattle.pb_base.specs.Rule.{Rule}
 use Rattle.rule_text.specs.Reading.{rule_of}
 use Rattle.rule_text.specs.declared.fault.RuleFault.{RuleFault}
@@ -62,9 +63,9 @@ read_fits names text rule is = record { in_range = rule_of-codes names text rule
 
 -- a right answer, told
 pub told_right : {E : Type 0} (b : Contents) (day : ℕ) (rule : Rule) (budget : ℕ) (t : Told) (made : Result RunReply E) → IsTold b day [] rule budget t
-    → IfOk made (λ r. r ≡ told_reply b t) → IfOk made (IsAskReply b day rule budget)
-told_right b day rule budget t (Ok reply) right is = record { found = t; is_right = right; answer = is }
-told_right b day rule budget t (Err wanting) right is = tt
+    → OrdersMeet b day rule t → IfOk made (λ r. r ≡ told_reply b t) → IfOk made (IsAskReply b day rule budget)
+told_right b day rule budget t (Ok reply) right orders is = record { found = t; is_right = right; orders = orders; answer = is }
+told_right b day rule budget t (Err wanting) right orders is = tt
 
 -- the reply by what was read
 pub by_read : {E : Type 0} (b : Contents) (day budget : ℕ) (read found : Result Rule RuleFault) (made : Result RunReply E) → read ≡ found

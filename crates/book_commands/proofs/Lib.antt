@@ -13,6 +13,10 @@ pub mod Decided
 pub mod CompareLaws
 pub mod FreeLaws
 pub mod AskLaws
+pub mod RequireLaws
 pub mod WhyLaws
+pub mod DaysLaws
+pub mod BookFileLaws
 pub mod Lawful
 pub mod Promises
+pub mod AdviceLaws

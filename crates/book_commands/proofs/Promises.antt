@@ -4,24 +4,28 @@ use Rattle.std.specs.Prelude.{IsTrue}
 use Rattle.book_text.specs.BookText.{book_of}
 use Rattle.pb_outside.specs.Files.{FilesTold}
 use Rattle.command_words.specs.declared.task.BookCommand.{BookCommand}
-use Rattle.command_words.specs.declared.task.BookCommand.TheVariants.{Order, Check, Prove, Verify, Supplements, Compare, Free, Why, Ask}
+use Rattle.command_words.specs.declared.task.BookCommand.TheVariants.{Order, Check, Prove, Verify, Supplements, Compare, Free, Why, Ask, Days, Require}
 use Rattle.book_commands.specs.Ask.{ask_promise}
 use Rattle.book_commands.specs.Checks.{check_promise, proof_promise}
 use Rattle.book_commands.specs.CompareReply.{compare_promise}
 use Rattle.book_commands.specs.Ends.{IsDecided, IsOrderStatus}
+use Rattle.book_commands.specs.Days.{days_promise}
 use Rattle.book_commands.specs.Free.{free_promise}
 use Rattle.book_commands.specs.Order.{order_promise}
 use Rattle.book_commands.specs.Promise.{ReadsFiles}
 use Rattle.book_commands.specs.Promises.{promise_of}
+use Rattle.book_commands.specs.Require.{require_promise}
 use Rattle.book_commands.specs.Supplements.{supplements_promise}
 use Rattle.book_commands.specs.Verify.{verify_promise}
 use Rattle.book_commands.specs.Why.{why_promise}
 use Rattle.book_commands.proofs.AskLaws.{ask-kind, ask-answered}
 use Rattle.book_commands.proofs.Blocked.{check-blocked, proof-blocked}
 use Rattle.book_commands.proofs.Decided.{check_decided, proof_decided}
+use Rattle.book_commands.proofs.DaysLaws.{days-kind, days-answered}
 use Rattle.book_commands.proofs.FreeLaws.{free-kind, free-answered}
 use Rattle.book_commands.proofs.Lawful.{IsLawful}
 use Rattle.book_commands.proofs.Releasable.{check-releasable, proof-releasable, verified-releasable}
+use Rattle.book_commands.proofs.RequireLaws.{require-kind, require-told, has_stated}
 use Rattle.book_commands.proofs.Statuses.{same-kind, order-kind, verify-kind, check-kind, proof-kind, supplements-kind, texts-kind}
 use Rattle.book_commands.proofs.Statuses.{order-status, verify-status, check-answered, proof-answered, supplements-answered, compare-answered}
 use Rattle.book_commands.proofs.Valid.{has_book, has_certificate}
@@ -106,6 +110,18 @@ compare_lawful day file budget = record {
   decided = λ input files files' reply ample h left. ample;
 }
 
+require_lawful : (file : List ℕ) (budget : ℕ) → IsLawful (require_promise file budget)
+require_lawful file budget = record {
+  same_files = unread;
+  file_rose = λ input files files' h. h.rose;
+  no_file_fault = λ input files files' v sure h. has_stated input files.files file v (h.possible sure);
+  statuses = λ input files files' reply h. require-kind (book_of input) h.content budget reply h.answer;
+  answered = λ input files files' reply v h. require-told input file budget files files' reply v h;
+  releasable = λ input files files' reply asks h done. not_asked asks;
+  unreleasable = λ input files files' reply asks h refused. not_asked asks;
+  decided = λ input files files' reply ample h left. ample;
+}
+
 free_lawful : (day : ℕ) (ordered : List (List ℕ)) (budget : ℕ) → IsLawful (free_promise day ordered budget)
 free_lawful day ordered budget = record {
   same_files = λ files. refl;
@@ -142,6 +158,18 @@ why_lawful day ordered budget = record {
   decided = λ input files files' reply ample h left. ample;
 }
 
+days_lawful : (ordered : List (List ℕ)) → IsLawful (days_promise ordered)
+days_lawful ordered = record {
+  same_files = λ files. refl;
+  file_rose = λ input files files' h. absurd h;
+  no_file_fault = λ input files files' valid sure h. h;
+  statuses = λ input files files' reply h. days-kind (book_of input) ordered reply h.is_answer;
+  answered = λ input files files' reply v h. days-answered (book_of input) ordered reply v.book v.order h.is_answer;
+  releasable = λ input files files' reply asks h done. not_asked asks;
+  unreleasable = λ input files files' reply asks h refused. not_asked asks;
+  decided = λ input files files' reply ample h left. ample;
+}
+
 pub lawful : (command : BookCommand) → IsLawful (promise_of command)
 unfolding promise_of
 lawful (Order day ordered) = order_lawful day ordered
@@ -153,3 +181,5 @@ lawful (Compare day file budget) = compare_lawful day file budget
 lawful (Free day ordered budget) = free_lawful day ordered budget
 lawful (Why day ordered budget) = why_lawful day ordered budget
 lawful (Ask day rule budget) = ask_lawful day rule budget
+lawful (Days ordered) = days_lawful ordered
+lawful (Require file budget) = require_lawful file budget

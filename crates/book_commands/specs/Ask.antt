@@ -12,6 +12,7 @@ use Rattle.book_text.specs.BookText.{book_of}
 use Rattle.book_text.specs.declared.fault.BookFault.{BookFault}
 use Rattle.desk_words.specs.FaultText.{rule_fault_text as kind_and_place}
 use Rattle.desk_words.specs.Lines.{line}
+use Rattle.left_laws.specs.Laws.{OrdersMeet}
 use Rattle.parts_usage.specs.declared.fault.OrderFault.TheVariants.{DayOutsideTerm}
 use Rattle.pb_base.specs.Rule.{Rule}
 use Rattle.rule_text.specs.Reading.{rule_of}
@@ -41,6 +42,8 @@ told_reply b t = record { text = ask_text b t; status = ask_status t; notes = as
 pub record IsAskReply (b : Contents) (day : ℕ) (rule : Rule) (budget : ℕ) (reply : RunReply) : Type 0 where
   pub found : Told
   pub is_right : IsTold b day [] rule budget found
+  -- and so it is with the accepted orders
+  pub orders : OrdersMeet b day rule found
   pub answer : reply ≡ told_reply b found
 
 abbrev pub rule_fault_text : RuleFault → List ℕ

@@ -10,10 +10,14 @@ pub mod Verify
 pub mod Supplements
 pub mod Free
 pub mod Ask
+pub mod Require
 pub mod Why
+pub mod Days
 pub mod CompareReply
+pub mod BookFile
 pub mod Promises
 pub mod Inputs
 pub mod Due
 pub mod Sample
 pub mod Tells
+pub mod Advice

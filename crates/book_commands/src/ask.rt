@@ -1,10 +1,11 @@
 //! Whether a car of a day meets a rule, and what is to blame if none does.
-ghost use Rattle.std.specs.Prelude.{◌≡◌, ◌++◌, [], IfOk, OnOk, length};
+ghost use Rattle.std.specs.Prelude.{◌≡◌, ◌++◌, [], IfOk, OnOk, length, true};
 ghost use Rattle.blame.specs.Blame.{IsTold};
 ghost use Rattle.book_model.specs.Activity.{is_within};
 ghost use Rattle.book_model.specs.Book.{RuleFits};
 ghost use Rattle.book_text.specs.BookText.{book_of};
 ghost use Rattle.desk_words.specs.FaultText.{rule_place};
+ghost use Rattle.left_laws.specs.Laws.{OrdersMeet};
 ghost use Rattle.rule_text.specs.Reading.{rule_of};
 ghost use Rattle.book_commands.specs.Ask.{RepliesToAsk, RepliesOnDay, RepliesByRule, IsAskReply, ask_notes, ask_status, rule_fault_reply, rule_fault_text, told_reply};
 
@@ -18,6 +19,7 @@ use book_model::{Book, active};
 use book_text::read_book;
 use command_words::{Budget, RuleWord};
 use desk_words::{put_number, put_optional};
+use left_laws::left_laws;
 use parts_usage::OrderFault;
 use pb_base::{Body, Day, Fail, Formula, Memory, Text};
 use rule_text::{RuleFault, read_rule};
@@ -65,6 +67,7 @@ fn rule_reply(
     rule: &RuleWord,
     budget: &Budget,
 ) -> Result<RunReply, Memory>
+    requires { is_within book.now.first book.now.last day ≡ true }
     ensures { let read = rule_of book.now.codes rule.now in
         IfOk result (RepliesByRule book.now day budget.now read) }
 {
@@ -82,11 +85,22 @@ fn formula_reply(
     formula: &Formula,
     budget: &Budget,
 ) -> Result<RunReply, Memory>
-    requires { RuleFits (length book.now.codes) formula.now }
+    requires fits { RuleFits (length book.now.codes) formula.now }
+    requires within { is_within book.now.first book.now.last day ≡ true }
     ensures { IfOk result (IsAskReply book.now day formula.now budget.now) }
 {
     let told = find_or_blame(alloc, book, day, &[], formula, budget.clauses())?;
+    orders_of(book, day, formula, budget, &told);
     told_reply(alloc, book, told)
+}
+
+// What is told of the rule is so of the orders that the book accepts. The call does nothing.
+fn orders_of(book: &Book, day: Day, formula: &Formula, budget: &Budget, told: &Told)
+    requires within { is_within book.now.first book.now.last day ≡ true }
+    requires right { IsTold book.now day [] formula.now budget.now told.now }
+    ensures { OrdersMeet book.now day formula.now told.now }
+{
+    left_laws(book);
 }
 
 // The answer, with what was learnt in a search that was left in the log.

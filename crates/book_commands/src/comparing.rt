@@ -118,7 +118,11 @@ fn compared_reply(
 }
 
 // The released book of a text, with this budget for each question.
-fn released(alloc: Global, text: &[u8], budget: &Budget) -> Result<Released, Fail<NotReleased>>
+pub(crate) fn released(
+    alloc: Global,
+    text: &[u8],
+    budget: &Budget,
+) -> Result<Released, Fail<NotReleased>>
     ensures book { IfOk result (λ r. IsReleased text.now r.book) }
     ensures refused { IfRefused result (IsRefusal text.now budget.now) }
 {

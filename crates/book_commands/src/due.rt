@@ -10,9 +10,11 @@ use crate::ask::ask_reply;
 use crate::certify::verify_reply;
 use crate::check::{check_reply, proof_reply};
 use crate::comparing::compare_reply;
+use crate::days::days_reply;
 use crate::free::free_reply;
 use crate::judge::order_reply;
 use crate::object::Object;
+use crate::require::require_reply;
 use crate::run_reply::RunReply;
 use crate::supplements::supplements_reply;
 use crate::why::why_reply;
@@ -87,5 +89,7 @@ fn command_reply<F: Files>(
         BookCommand::Compare { day, file, budget } => {
             compare_reply(alloc, input, *day, file, budget, files)
         }
+        BookCommand::Days { codes } => Ok(days_reply(alloc, input, codes)?),
+        BookCommand::Require { file, budget } => require_reply(alloc, input, file, budget, files),
     }
 }

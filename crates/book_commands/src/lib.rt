@@ -2,10 +2,12 @@
 #![tactic(auto)]
 
 mod ask;
+mod book_file;
 mod cert_text;
 mod certify;
 mod check;
 mod comparing;
+mod days;
 mod due;
 mod fault_text;
 mod free;
@@ -13,6 +15,7 @@ mod judge;
 mod log;
 mod logged;
 mod object;
+mod require;
 mod run_reply;
 mod run_status;
 mod sample;
@@ -21,6 +24,7 @@ mod tally;
 mod tell;
 mod why;
 
+pub use book_file::{BookFile, read_book_file};
 pub use due::due_reply;
 pub use log::{Note, RunLog};
 pub use object::Object;

@@ -8,8 +8,10 @@ use book_text::BookFault;
 use clause_pool::Pool;
 use clausify::Question;
 use derivation::CertFault;
+use kept_requirements::RequirementNote;
 use parts_usage::OrderFault;
 use pb_base::{CodeSet, Memory};
+use requirements::RequirementFault;
 use rule_text::RuleFault;
 use std::alloc::Global;
 use std::marker::Model;
@@ -52,6 +54,10 @@ pub enum Note {
     Supplement(SupplementNote),
     /// A note of a comparison of two books.
     Compare(CompareNote),
+    /// A note on a requirement.
+    Requirement(RequirementNote),
+    /// The text of requirements has this fault.
+    Stated(RequirementFault),
     /// A search for a car was left when these clauses had been learnt for it.
     Left(Pool),
     /// A row that is kept is not right: its table, 0 form, 1 drafts, 2 books, 3 orders, 4 withdrawn, and its place in it, from

@@ -2,6 +2,7 @@ pub mod Parts
 pub mod Size
 pub mod Service
 pub mod Rejudging
+pub mod Impact
 pub mod AskWords
 pub mod Meaning
 pub mod Prepared

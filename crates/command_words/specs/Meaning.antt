@@ -11,6 +11,9 @@
 --     rejudge STORE BOOK WORKERS    the orders that this store keeps, judged again by the book of this number
 --     free DAY CODE.. [--budget N]    what can still be chosen on this day beside these codes
 --     why DAY CODE.. [--budget N]     what an order of these codes on this day comes to, and how it would be accepted
+--     days CODE..                   what an order of these codes comes to on every day of the book's term
+--     impact STORE FILE WORKERS     the orders that this store keeps, judged again by the book that this file is
+--     require FILE [--budget N]     whether the cars of the book keep the requirements in this file
 --     ask DAY RULE [--budget N]     whether a car of this day meets the rule, and what is to blame if none does
 -- A budget is the most clauses that may be learnt for one question. `ask` has words of its own (AskWords).
 use Rattle.std.specs.Prelude.{◌≡◌, ◌++◌, ◌==◌, ◌&&◌, ℕ, ◌%◌, List, [], ◌∷◌, Option, None, Some, codes, length, nat_le, if◌then◌else◌}
@@ -23,9 +26,10 @@ use Rattle.command_words.specs.AskWords.{behind_short, operands_of, option_value
 use Rattle.command_words.specs.Size.{Size}
 use Rattle.command_words.specs.Service.{Service}
 use Rattle.command_words.specs.Rejudging.{Rejudging}
+use Rattle.command_words.specs.Impact.{Impact as ImpactWords}
 use Rattle.command_words.specs.declared.task.Task.{Task}
-use Rattle.command_words.specs.declared.task.Task.TheVariants.{Book, Desk, Serve, Rejudge, Sample}
-use Rattle.command_words.specs.declared.task.BookCommand.TheVariants.{Order, Check, Prove, Verify, Supplements, Compare, Free, Why, Ask}
+use Rattle.command_words.specs.declared.task.Task.TheVariants.{Book, Desk, Serve, Rejudge, Impact, Sample}
+use Rattle.command_words.specs.declared.task.BookCommand.TheVariants.{Order, Check, Prove, Verify, Supplements, Compare, Free, Why, Ask, Days, Require}
 use Rattle.pb_base.specs.declared.limits.TheConstants.{MOST_BUDGET, DEFAULT_BUDGET, MOST_TEXT_BYTES}
 
 -- the number of 1 to 10 digits, where it lies in the range
@@ -120,11 +124,26 @@ why_of budget (day ∷ names) =
     option_and_then (λ on. option_and_then (λ n. option_map (λ ordered. Book (Why on ordered n)) (codes_of names)) (budget_of budget)) (short_number day)
 why_of budget [] = None
 
+abbrev pub days_of : Option (List ℕ) → Words → Option Task
+days_of None names = option_map (λ ordered. Book (Days ordered)) (codes_of names)
+days_of (Some budget) names = None
+
+abbrev pub impact : List ℕ → List ℕ → ℕ → ImpactWords
+impact store file workers = record { store = store; file = file; workers = workers }
+
+abbrev pub impact_of : Option (List ℕ) → Words → Option Task
+impact_of None (store ∷ file ∷ workers ∷ []) = option_map (λ w. Impact (impact store file w)) (number_in 1 16 workers)
+impact_of budget operands = None
+
+abbrev pub require_of : Option (List ℕ) → Words → Option Task
+require_of budget (file ∷ []) = option_map (λ n. Book (Require file n)) (budget_of budget)
+require_of budget operands = None
+
 -- the command words but `ask`
 abbrev pub command_words : Words
 command_words =
     codes "order" ∷ codes "check" ∷ codes "prove" ∷ codes "verify" ∷ codes "desk" ∷ codes "serve" ∷ codes "sample" ∷ codes "supplements"
-    ∷ codes "compare" ∷ codes "rejudge" ∷ codes "free" ∷ codes "why" ∷ []
+    ∷ codes "compare" ∷ codes "rejudge" ∷ codes "free" ∷ codes "why" ∷ codes "days" ∷ codes "impact" ∷ codes "require" ∷ []
 
 -- what a command word asks with a budget and operands
 abbrev pub asked : List ℕ → Option (List ℕ) → Words → Option Task
@@ -141,7 +160,10 @@ asked name budget operands =
     else (if same_name name (codes "rejudge") then rejudge_of budget operands
     else (if same_name name (codes "free") then free_of budget operands
     else (if same_name name (codes "why") then why_of budget operands
-    else None)))))))))))
+    else (if same_name name (codes "days") then days_of budget operands
+    else (if same_name name (codes "impact") then impact_of budget operands
+    else (if same_name name (codes "require") then require_of budget operands
+    else None))))))))))))))
 
 -- the words begin with a command word, and have its parts
 pub record AsksByForm (words : Words) (task : Task) : Type 0 where

@@ -3,11 +3,12 @@ ghost use Rattle.std.specs.Prelude.{◌≡◌, ◌%◌, ◌≤◌, IfOk, IfSome,
 ghost use Rattle.pb_base.specs.declared.limits.TheConstants.{MOST_BUDGET};
 ghost use Rattle.command_words.specs.Prepared.{lent, lent_option};
 ghost use Rattle.command_words.specs.Meaning.{number_in, codes_of, order_of, budget_of, budget_alone, check_of, prove_of, supplements_of};
-ghost use Rattle.command_words.specs.Meaning.{only_one, verify_of, desk_of, compare_of, rejudge_of, free_of, why_of};
+ghost use Rattle.command_words.specs.Meaning.{only_one, verify_of, desk_of, compare_of, rejudge_of, free_of, why_of, days_of, impact_of, require_of};
 ghost use Rattle.command_words.specs.Meaning.{door_of, serve_of, codes_number, sample_of, asked, command_words};
 
 use crate::budget::Budget;
 use crate::file_name::FileName;
+use crate::impact::Impact;
 use crate::rejudging::Rejudging;
 use crate::sample_size::SampleSize;
 use crate::service::Service;
@@ -17,7 +18,7 @@ use pb_base::{CodeList, CodeName, Memory, number_within, short_number};
 use std::alloc::Global;
 
 /// The command words but `ask`.
-pub fn command_words<'a>() -> [&'a str; 12]
+pub fn command_words<'a>() -> [&'a str; 15]
     ensures { lent result ≡ command_words }
 {
     [
@@ -33,6 +34,9 @@ pub fn command_words<'a>() -> [&'a str; 12]
         "rejudge",
         "free",
         "why",
+        "days",
+        "impact",
+        "require",
     ]
 }
 
@@ -69,6 +73,12 @@ pub fn asked(
         free_of(alloc, budget, operands)
     } else if name == "why" {
         why_of(alloc, budget, operands)
+    } else if name == "days" {
+        days_of(alloc, budget, operands)
+    } else if name == "impact" {
+        impact_of(alloc, budget, operands)
+    } else if name == "require" {
+        require_of(alloc, budget, operands)
     } else {
         Ok(None)
     }
@@ -257,6 +267,23 @@ fn compare_of(
     }
 }
 
+fn require_of(
+    alloc: Global,
+    budget: Option<&str>,
+    operands: &[&str],
+) -> Result<Option<Task>, Memory>
+    ensures { IfOk result (λ task. task ≡ require_of (lent_option budget.entry) (lent operands.now)) }
+{
+    let [file] = operands else {
+        return Ok(None);
+    };
+    let Some(budget) = budget_of(budget) else {
+        return Ok(None);
+    };
+    let file = FileName::of(alloc, file)?;
+    Ok(Some(Task::Book(BookCommand::Require { file, budget })))
+}
+
 fn rejudge_of(
     alloc: Global,
     budget: Option<&str>,
@@ -306,6 +333,37 @@ fn why_of(alloc: Global, budget: Option<&str>, operands: &[&str]) -> Result<Opti
             None => Ok(None),
         },
         _ => Ok(None),
+    }
+}
+
+fn days_of(alloc: Global, budget: Option<&str>, operands: &[&str]) -> Result<Option<Task>, Memory>
+    ensures { IfOk result (λ task. task ≡ days_of (lent_option budget.entry) (lent operands.now)) }
+{
+    if budget.is_some() {
+        return Ok(None);
+    }
+    match codes_of(alloc, operands)? {
+        Some(codes) => Ok(Some(Task::Book(BookCommand::Days { codes }))),
+        None => Ok(None),
+    }
+}
+
+fn impact_of(alloc: Global, budget: Option<&str>, operands: &[&str]) -> Result<Option<Task>, Memory>
+    ensures { IfOk result (λ task. task ≡ impact_of (lent_option budget.entry) (lent operands.now)) }
+{
+    if budget.is_some() {
+        return Ok(None);
+    }
+    let [store, file, workers] = operands else {
+        return Ok(None);
+    };
+    match number_in(workers, 1, 16) {
+        Some(workers) => {
+            let store = FileName::of(alloc, store)?;
+            let file = FileName::of(alloc, file)?;
+            Ok(Some(Task::Impact(Impact::of(store, file, workers))))
+        }
+        None => Ok(None),
     }
 }
 

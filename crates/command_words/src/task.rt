@@ -2,6 +2,7 @@
 
 use crate::budget::Budget;
 use crate::file_name::FileName;
+use crate::impact::Impact;
 use crate::rejudging::Rejudging;
 use crate::rule_word::RuleWord;
 use crate::sample_size::SampleSize;
@@ -19,6 +20,8 @@ pub enum Task {
     Serve(Service),
     /// The orders that a store keeps, judged again by one of its books.
     Rejudge(Rejudging),
+    /// The orders that a store keeps, judged again by the book that a file is, before it is released.
+    Impact(Impact),
     /// The release of a generated book, and what its orders come to.
     Sample(SampleSize),
 }
@@ -68,6 +71,15 @@ pub enum BookCommand {
     /// What changes on this day from the book to the one in this file, with this budget for each question.
     Compare {
         day: Day,
+        file: FileName,
+        budget: Budget,
+    },
+    /// What the order of these codes comes to on every day of the book's term.
+    Days {
+        codes: CodeList,
+    },
+    /// Whether the cars of the book keep the requirements in this file, with this budget for each question.
+    Require {
         file: FileName,
         budget: Budget,
     },

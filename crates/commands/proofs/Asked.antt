@@ -3,6 +3,7 @@ use Rattle.std.proofs.Common.{◌≡◌, refl, sym, subst, inl, inr, arith}
 use Rattle.command_words.specs.Parts.{Words}
 use Rattle.pb_base.specs.declared.answer.Fail.TheVariants as fails
 use Rattle.desk_run.specs.declared.end.DeskEnd.TheVariants.{NotStarted}
+use Rattle.book_commands.specs.BookFile as file
 use Rattle.book_commands.specs.Due.{no_memory}
 use Rattle.book_commands.specs.Inputs.{Inputs}
 use Rattle.book_commands.specs.RunReply.{memory_reply}
@@ -11,12 +12,13 @@ use Rattle.book_commands.proofs.DueLaws.{LosesFront-none}
 use Rattle.book_commands.proofs.Promises.{lawful}
 use Rattle.book_commands.specs.declared.run_status.RunStatus.{RunStatus}
 use Rattle.commands.specs.Outside.{KeeperTold, DoorSaid, Outside}
+use Rattle.commands.specs.Impacted.{kept_back}
 use Rattle.commands.specs.Rejudged.{unjudged}
 use Rattle.commands.specs.Serves.{unstarted}
 use Rattle.commands.specs.Does.{AnswersMemory, AnswersUsage, DoesTask, Does, ReadsNothing}
 use Rattle.command_words.specs.Meaning.{Asks, AsksNothing}
 use Rattle.command_words.specs.declared.task.Task.{Task}
-use Rattle.command_words.specs.declared.task.Task.TheVariants.{Book, Desk, Serve, Rejudge, Sample}
+use Rattle.command_words.specs.declared.task.Task.TheVariants.{Book, Desk, Serve, Rejudge, Impact, Sample}
 use Rattle.command_words.proofs.Meanings.{one_task}
 
 pub Does-of_task : (words : Words) (task : Task) (before after : Outside) (status : RunStatus) → Asks words task
@@ -65,6 +67,18 @@ wanting (Rejudge r) reads kept door writes writes' status h = record {
     run = record { cause = tt; left = inl refl; link = refl; later = record { never_falls = omega arith; kept = λ k. k } };
     told = h;
     untouched = refl;
+    door = refl;
+  };
+}
+wanting (Impact i) reads kept door writes writes' status h = record {
+  how = kept_back;
+  runs = record {
+    reply = memory_reply;
+    due = file.no_memory refl;
+    told = inl h;
+    files_kept = record { same = refl; later = record { never_falls = omega arith; kept = λ k. k } };
+    source = refl;
+    kept = refl;
     door = refl;
   };
 }

@@ -11,6 +11,8 @@ use Rattle.serve_run.specs.declared.work_end.WorkEnd.TheVariants.{Over, Fault, M
 use Rattle.serve_run.specs.declared.end.ServeEnd.TheVariants.{Closed, NoWorkers, Worked}
 use Rattle.desk_run.specs.declared.end.DeskEnd.{DeskEnd}
 use Rattle.desk_run.specs.declared.end.DeskEnd.TheVariants.{NotStarted, Served}
+use Rattle.book_commands.specs.BookFile as file
+use Rattle.book_commands.specs.BookFile.{RepliesToFile, IsKeptBackStatus}
 use Rattle.book_commands.specs.Due.{Due, answer, source_fault, file_fault, no_memory}
 use Rattle.book_commands.specs.Ends.{IsSampleStatus}
 use Rattle.book_commands.specs.RunReply.{RunReply, usage_reply, memory_reply, read_fault_reply}
@@ -21,20 +23,23 @@ use Rattle.book_commands.specs.declared.object.Object.TheVariants.{Source}
 use Rattle.book_commands.specs.declared.run_status.RunStatus.{RunStatus}
 use Rattle.book_commands.specs.declared.run_status.RunStatus.TheVariants as statuses
 use Rattle.book_commands.specs.Promises.{promise_of}
+use Rattle.book_commands.proofs.BookFileLaws.{content_kind}
 use Rattle.book_commands.proofs.Promises.{lawful}
 use Rattle.book_commands.proofs.Statuses.{sample-kind}
 use Rattle.book_commands.proofs.Told.{IsFailed, Ends-of_tells}
 use Rattle.commands.specs.DeskEnds.{RunsDesk, start_reply}
 use Rattle.commands.specs.Outside.{Outside}
-use Rattle.commands.specs.Rejudged.{RejudgeEnd, unjudged, judged, JudgesBy, RunsRejudge}
+use Rattle.commands.specs.Impacted.{ImpactEnd, kept_back, judged_by, ImpactsBy, IsImpactStatus, JudgesByFile, RunsImpact}
+use Rattle.commands.specs.Rejudged.{RejudgeEnd, unjudged, judged, JudgesBy, RepliesToRejudge, RunsRejudge}
+use Rattle.command_words.specs.Impact.{Impact as ImpactWords}
 use Rattle.command_words.specs.Rejudging.{Rejudging}
 use Rattle.command_words.specs.Service.{Service}
 use Rattle.commands.specs.Serves.{ServiceEnd, unstarted, served, ServesBy, RunsService}
-use Rattle.commands.specs.Causes.{IsDeskStatus, IsServiceStatus, IsRejudgeStatus, IsUsageStatus, IsCaused, by_words, by_inputs, by_sink, by_memory, by_reply, by_sample, by_desk, by_door, by_service, by_rejudge}
+use Rattle.commands.specs.Causes.{IsDeskStatus, IsServiceStatus, IsRejudgeStatus, IsUsageStatus, IsCaused, by_words, by_inputs, by_sink, by_memory, by_reply, by_sample, by_desk, by_door, by_service, by_rejudge, by_impact}
 use Rattle.commands.specs.Does.{AnswersBook, AnswersSample, AnswersUsage, DoesTask, Does}
 use Rattle.command_words.specs.Meaning.{Asks, AsksNothing}
 use Rattle.command_words.specs.declared.task.Task.{Task}
-use Rattle.command_words.specs.declared.task.Task.TheVariants.{Book, Desk, Serve, Rejudge, Sample}
+use Rattle.command_words.specs.declared.task.Task.TheVariants.{Book, Desk, Serve, Rejudge, Impact, Sample}
 use Rattle.commands.proofs.DeskTold.{Ran, ToldFrom, same_count, start_status}
 use Rattle.commands.proofs.Rejudges.{reply_status}
 use Rattle.command_words.proofs.Meanings.{asked_or_nothing}
@@ -173,7 +178,7 @@ of_service words service before after status asked h = by_service_end h.how word
 
 -- kept orders that were judged again, by how that ended
 by_rejudge_end : (how : RejudgeEnd) (words : Words) (r : Rejudging) (before after : Outside) (status : RunStatus) → Asks words (Rejudge r)
-    → (h : RunsRejudge r before after status) → h.how ≡ how → JudgesBy how r before after status → IsCaused words before after status
+    → (h : RunsRejudge r before after status) → h.how ≡ how → JudgesBy how (RepliesToRejudge r) before after status → IsCaused words before after status
 by_rejudge_end (unjudged (RefusedStart fault)) words r before after status asked h e run =
     by_told_end words (start_reply fault) before.writes before after status refl run.told (λ ends. by_rejudge (record {
       rejudging = r;
@@ -198,6 +203,52 @@ of_rejudge : (words : Words) (r : Rejudging) (before after : Outside) (status : 
     → RunsRejudge r before after status → IsCaused words before after status
 of_rejudge words r before after status asked h = by_rejudge_end h.how words r before after status asked h refl h.runs
 
+-- the book of a file was kept back
+by_file_reply : (words : Words) (i : ImpactWords) (before after : Outside) (status : RunStatus) (reply : RunReply) → Asks words (Impact i)
+    → (h : RunsImpact i before after status) → h.how ≡ kept_back → RepliesToFile i.file before.reads.files after.reads.files reply → status ≡ reply.status
+    → IsCaused words before after status
+by_file_reply words i before after status reply asked h e (file.unread fails is) ends = by_inputs (ends ∙ ap (λ (r : RunReply). r.status) is) (inr fails.rose)
+by_file_reply words i before after status reply asked h e (file.kept_back content read count replies) ends = by_impact (record {
+  impact = i;
+  asked = asked;
+  runs = h;
+  statuses = subst (λ (k : ImpactEnd). IsImpactStatus k status) (sym e) (subst IsKeptBackStatus (sym ends) (content_kind content reply replies));
+})
+by_file_reply words i before after status reply asked h e (file.no_memory is) ends = by_memory (ends ∙ ap (λ (r : RunReply). r.status) is)
+
+-- kept orders that were judged by the book of a file, by how that ended
+by_file_end : (how : RejudgeEnd) (words : Words) (i : ImpactWords) (before after : Outside) (status : RunStatus) → Asks words (Impact i)
+    → (h : RunsImpact i before after status) → h.how ≡ judged_by how → JudgesByFile how i before after status → IsCaused words before after status
+by_file_end (unjudged (RefusedStart fault)) words i before after status asked h e run =
+    by_told_end words (start_reply fault) before.writes before after status refl run.runs.told (λ ends. by_impact (record {
+      impact = i;
+      asked = asked;
+      runs = h;
+      statuses = subst (λ (k : ImpactEnd). IsImpactStatus k status) (sym e) (ends ∙ start_status fault);
+    }))
+by_file_end (unjudged NoMemory) words i before after status asked h e run =
+    by_told_end words memory_reply before.writes before after status refl (inl run.runs.told) by_memory
+by_file_end judged words i before after status asked h e run =
+    by_told_end words run.runs.judges.reply before.writes before after status refl run.runs.judges.told (λ ends. elim run.runs.judges.due [
+      | inl replies ↦ by_impact (record {
+        impact = i;
+        asked = asked;
+        runs = h;
+        statuses = subst (λ (k : ImpactEnd). IsImpactStatus k status) (sym e) (ends ∙ ap (λ (r : RunReply). r.status) replies.is);
+      })
+      | inr is ↦ by_memory (ends ∙ ap (λ (reply : RunReply). reply.status) is)
+    ])
+
+by_impact_end : (how : ImpactEnd) (words : Words) (i : ImpactWords) (before after : Outside) (status : RunStatus) → Asks words (Impact i)
+    → (h : RunsImpact i before after status) → h.how ≡ how → ImpactsBy how i before after status → IsCaused words before after status
+by_impact_end kept_back words i before after status asked h e run =
+    by_told_end words run.reply before.writes before after status refl run.told (λ ends. by_file_reply words i before after status run.reply asked h e run.due ends)
+by_impact_end (judged_by how) words i before after status asked h e run = by_file_end how words i before after status asked h e run
+
+of_impact : (words : Words) (i : ImpactWords) (before after : Outside) (status : RunStatus) → Asks words (Impact i)
+    → RunsImpact i before after status → IsCaused words before after status
+of_impact words i before after status asked h = by_impact_end h.how words i before after status asked h refl h.runs
+
 of_usage : (words : Words) (before after : Outside) (status : RunStatus) → AsksNothing words
     → AnswersUsage before after status → IsCaused words before after status
 of_usage words before after status none h = elim (Ends-of_tells usage_reply before.writes after.writes status h.told) [
@@ -211,6 +262,7 @@ of_task words (Book command) before after status asked h = of_book words command
 of_task words (Desk store) before after status asked h = of_desk words store before after status asked h
 of_task words (Serve service) before after status asked h = of_service words service before after status asked h
 of_task words (Rejudge r) before after status asked h = of_rejudge words r before after status asked h
+of_task words (Impact i) before after status asked h = of_impact words i before after status asked h
 of_task words (Sample size) before after status asked h = of_sample words size before after status asked h
 
 pub Does-caused : (words : Words) (before after : Outside) (status : RunStatus) → Does words before after status → IsCaused words before after status

@@ -8,9 +8,9 @@ use Rattle.book_commands.specs.declared.run_status.RunStatus.TheVariants as stat
 use Rattle.book_commands.proofs.Promises.{lawful}
 use Rattle.book_commands.proofs.Valid.{same_input}
 use Rattle.commands.specs.Ample.{AskAmple}
-use Rattle.commands.specs.Causes.{GivesReply, IsCaused, by_words, by_inputs, by_sink, by_memory, by_reply, by_sample, by_desk, by_door, by_service, by_rejudge}
+use Rattle.commands.specs.Causes.{GivesReply, IsCaused, by_words, by_inputs, by_sink, by_memory, by_reply, by_sample, by_desk, by_door, by_service, by_rejudge, by_impact}
 use Rattle.commands.specs.Outside.{Outside}
-use Rattle.command_words.specs.declared.task.Task.TheVariants.{Book, Desk, Serve, Rejudge, Sample}
+use Rattle.command_words.specs.declared.task.Task.TheVariants.{Book, Desk, Serve, Rejudge, Impact, Sample}
 use Rattle.command_words.proofs.Meanings.{one_task}
 use Rattle.commands.proofs.Releasable.{same_command}
 
@@ -39,3 +39,5 @@ IsCaused-decided words before after status (by_service h) asks left =
     let clash : Book asks.command ≡ Serve h.service = one_task words (Book asks.command) (Serve h.service) asks.asked h.asked in cc
 IsCaused-decided words before after status (by_rejudge h) asks left =
     let clash : Book asks.command ≡ Rejudge h.rejudging = one_task words (Book asks.command) (Rejudge h.rejudging) asks.asked h.asked in cc
+IsCaused-decided words before after status (by_impact h) asks left =
+    let clash : Book asks.command ≡ Impact h.impact = one_task words (Book asks.command) (Impact h.impact) asks.asked h.asked in cc

@@ -12,3 +12,4 @@ pub mod Traded
 pub mod Decided
 pub mod Runs
 pub mod Weaker
+pub mod OneReply

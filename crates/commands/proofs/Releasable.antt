@@ -19,13 +19,13 @@ use Rattle.book_commands.specs.declared.run_status.RunStatus.TheVariants as stat
 use Rattle.book_commands.proofs.Promises.{lawful}
 use Rattle.commands.specs.DeskEnds.{desk_outside, RunsDesk}
 use Rattle.commands.specs.Outside.{Outside}
-use Rattle.commands.specs.Causes.{GivesReply, IsCaused, by_words, by_inputs, by_sink, by_memory, by_reply, by_sample, by_desk, by_door, by_service, by_rejudge}
+use Rattle.commands.specs.Causes.{GivesReply, IsCaused, by_words, by_inputs, by_sink, by_memory, by_reply, by_sample, by_desk, by_door, by_service, by_rejudge, by_impact}
 use Rattle.commands.specs.Does.{Does}
 use Rattle.command_words.specs.Service.{Service}
 use Rattle.commands.specs.Serves.{ServiceEnd, unstarted, served, ServesBy}
 use Rattle.commands.specs.Released.{AskRelease, AskCheck, AskDesk, AskService, IsReleasableInput, IsBlockedInput, KeepsBooks, KeepsReleased, KeepsServed, ServesReleased}
 use Rattle.command_words.specs.Meaning.{Asks}
-use Rattle.command_words.specs.declared.task.Task.TheVariants.{Book, Desk, Serve, Rejudge, Sample}
+use Rattle.command_words.specs.declared.task.Task.TheVariants.{Book, Desk, Serve, Rejudge, Impact, Sample}
 use Rattle.commands.proofs.DeskTold.{Ran, ToldFrom, same_reads, unstarted_status}
 use Rattle.command_words.proofs.Meanings.{one_task}
 
@@ -87,6 +87,8 @@ by_reply_alone words command before after status P asked decided shown (by_servi
     let clash : Book command ≡ Serve h.service = one_task words (Book command) (Serve h.service) asked h.asked in cc
 by_reply_alone words command before after status P asked decided shown (by_rejudge h) =
     let clash : Book command ≡ Rejudge h.rejudging = one_task words (Book command) (Rejudge h.rejudging) asked h.asked in cc
+by_reply_alone words command before after status P asked decided shown (by_impact h) =
+    let clash : Book command ≡ Impact h.impact = one_task words (Book command) (Impact h.impact) asked h.asked in cc
 
 pub IsCaused-released : (words : Words) (before after : Outside) (status : RunStatus) → IsCaused words before after status
     → status ≡ statuses.Done → AskRelease words → IsReleasableInput before.reads.source.left

@@ -1,6 +1,7 @@
 -- A run that does what the words ask is all that is promised of it.
 use Rattle.command_words.specs.Parts.{Words}
 use Rattle.book_commands.specs.declared.run_status.RunStatus.{RunStatus}
+use Rattle.book_commands.proofs.AdviceLaws.{tells_orders}
 use Rattle.commands.specs.Does.{Does}
 use Rattle.commands.specs.Outside.{Outside}
 use Rattle.commands.specs.Run.{IsRun}
@@ -18,6 +19,7 @@ Does-run words before after status does = record {
   released = IsCaused-released words before after status (Does-caused words before after status does);
   blocked = IsCaused-blocked words before after status (Does-caused words before after status does);
   decided = IsCaused-decided words before after status (Does-caused words before after status does);
+  advises = λ h. tells_orders h.command h.input before.reads.files after.reads.files h.reply h.replies;
   kept_released = Does-released words before after status does;
   served_released = Does-served words before after status does;
   trades = Does-trades words before after status does;

@@ -4,6 +4,8 @@ use Rattle.std.specs.Prelude.{◌⊎◌, IsSome, IsSomeAnd}
 use Rattle.command_words.specs.Parts.{Words}
 use Rattle.pb_base.specs.declared.answer.Fail.TheVariants.{Refused, Memory as NoMemory}
 use Rattle.pb_outside.specs.Faults.{Rose}
+use Rattle.pb_outside.specs.Files.{FilesTold, FailsToRead}
+use Rattle.book_model.specs.Contents.{Contents}
 use Rattle.pb_outside.specs.Sink.{SinkTold}
 use Rattle.pb_outside.specs.declared.error.OutError.TheVariants as out
 use Rattle.order_desk.specs.Tables.{State, Tables}
@@ -17,8 +19,10 @@ use Rattle.desk_run.specs.Sure.{IsDoneOrMemory}
 use Rattle.desk_run.proofs.Sure.{no_bad_row, run_unfailing}
 use Rattle.desk_run.specs.declared.end.DeskEnd.{DeskEnd}
 use Rattle.desk_run.specs.declared.end.DeskEnd.TheVariants.{NotStarted, Served}
+use Rattle.book_commands.specs.BookFile as file
+use Rattle.book_commands.specs.BookFile.{HasBook, RepliesToFile}
 use Rattle.book_commands.specs.Due.{Due, answer, source_fault, file_fault, no_memory}
-use Rattle.book_commands.specs.Ends.{EndsSample}
+use Rattle.book_commands.specs.Ends.{EndsSample, IsDecided}
 use Rattle.book_commands.specs.Inputs.{Inputs, ReadsInput, FailsAtInput}
 use Rattle.book_commands.specs.Promises.{promise_of}
 use Rattle.book_commands.specs.RunReply.{RunReply, memory_reply, memory_text}
@@ -29,22 +33,25 @@ use Rattle.command_words.specs.declared.task.BookCommand.{BookCommand}
 use Rattle.book_commands.specs.declared.log.Note.{Note}
 use Rattle.book_commands.specs.declared.run_status.RunStatus.{RunStatus}
 use Rattle.book_commands.specs.declared.run_status.RunStatus.TheVariants as statuses
+use Rattle.book_commands.proofs.BookFileLaws.{has_file, valid_content, content_answered}
 use Rattle.book_commands.proofs.Lawful.{no_fault, valid_answer}
 use Rattle.book_commands.proofs.Promises.{lawful}
 use Rattle.book_commands.proofs.Statuses.{sample-answered}
 use Rattle.book_commands.proofs.Told.{LacksRoomFor, Ends-of_tells, told_room, told_or_lacks, written_or_lacks}
 use Rattle.book_commands.proofs.Valid.{same_input}
-use Rattle.commands.specs.Complete.{IsValidRead, IsValidTask, IsValidInput, CannotFailToRead, CannotFailToServe, CannotFailToOpen, CannotFailAt, CannotFail, NoCountRose, EndsNoted, EndsTask, IsAnswered, IsDueText, of_reply, of_sample, of_link, of_service, of_rejudge, of_memory, LacksRoom}
+use Rattle.commands.specs.Complete.{IsValidRead, IsValidTask, IsValidInput, CannotFailToRead, CannotFailToServe, CannotFailToOpen, CannotFailAt, CannotFail, NoCountRose, EndsNoted, EndsTask, IsAnswered, IsDueText, of_reply, of_sample, of_link, of_service, of_rejudge, of_file, of_impact, of_memory, IsValidImpact, LacksRoom}
 use Rattle.commands.specs.DeskEnds.{RunsDesk, desk_outside}
 use Rattle.commands.specs.Does.{AnswersBook, AnswersSample, DoesTask, Does}
 use Rattle.commands.specs.Outside.{Outside}
+use Rattle.commands.specs.Impacted.{ImpactEnd, kept_back, judged_by, ImpactsBy, RepliesToImpact}
 use Rattle.commands.specs.Rejudged.{RejudgeEnd, unjudged, judged, JudgesBy, RepliesToRejudge}
+use Rattle.command_words.specs.Impact.{Impact as ImpactWords}
 use Rattle.command_words.specs.Rejudging.{Rejudging}
 use Rattle.command_words.specs.Service.{Service}
 use Rattle.commands.specs.Serves.{ServiceEnd, unstarted, served, ServesBy}
 use Rattle.command_words.specs.Meaning.{Asks}
 use Rattle.command_words.specs.declared.task.Task.{Task}
-use Rattle.command_words.specs.declared.task.Task.TheVariants.{Book, Desk, Serve, Rejudge, Sample}
+use Rattle.command_words.specs.declared.task.Task.TheVariants.{Book, Desk, Serve, Rejudge, Impact, Sample}
 use Rattle.commands.proofs.DeskSure.{IsShort, sure_or_short, never_fails}
 use Rattle.commands.proofs.DeskTold.{Ran, ToldFrom, same_sink, desk_rose}
 use Rattle.commands.proofs.Rejudges.{reply_status}
@@ -267,7 +274,7 @@ rejudge_text_due words r old reply before after asked started due = elim due [
 ]
 
 sure_rejudge_end : (how : RejudgeEnd) (words : Words) (r : Rejudging) (before after : Outside) (status : RunStatus) → Asks words (Rejudge r)
-    → IsValidTask (Rejudge r) before → CannotFailAt (Rejudge r) before → IsSome before.writes.sink.room → JudgesBy how r before after status
+    → IsValidTask (Rejudge r) before → CannotFailAt (Rejudge r) before → IsSome before.writes.sink.room → JudgesBy how (RepliesToRejudge r) before after status
     → EndsOrLacks words (Rejudge r) before after status
 sure_rejudge_end (unjudged (Refused (BadRow table place))) words r before after status asked v keeper room run =
     absurd (no_bad_row before.keeper.rows (table, place) v run.run.cause.first)
@@ -280,6 +287,52 @@ sure_rejudge_end judged words r before after status asked v keeper room run =
     (judged_ends r run.old.tables run.judges.reply before after status run.judges.due)
     (rejudge_text_due words r run.old run.judges.reply before after asked run.started run.judges.due)
 
+-- the book of a file that was kept back
+file_ends : (i : ImpactWords) (reply : RunReply) (before after : Outside) (status : RunStatus) → IsValidImpact i before
+    → (FailsToRead i.file before.reads.files after.reads.files → ⊥) → RepliesToFile i.file before.reads.files after.reads.files reply → status ≡ reply.status
+    → EndsAt (Impact i) before after status
+file_ends i reply before after status v sure (file.unread fails is) ends = absurd (sure fails)
+file_ends i reply before after status v sure (file.kept_back content read count replies) ends =
+    elim (content_answered content reply (valid_content before.reads.files.files i.file content v.file read) replies) [
+      | inl decided ↦ inl (inl (subst IsDecided (sym ends) decided))
+      | inr left ↦ inl (inr (ends ∙ left.ends))
+    ]
+file_ends i reply before after status v sure (file.no_memory is) ends = inr (ends ∙ ap (λ (k : RunReply). k.status) is)
+
+-- kept orders that were judged by it, or whose judging found no memory
+impact_ends : (i : ImpactWords) (b : Contents) (t : Tables) (reply : RunReply) (before after : Outside) (status : RunStatus)
+    → RepliesToImpact b t reply ⊎ (reply ≡ memory_reply) → status ≡ reply.status → EndsAt (Impact i) before after status
+impact_ends i b t reply before after status due ends = elim due [
+  | inl replies ↦ inl (inl (inl (ends ∙ ap (λ (k : RunReply). k.status) replies.is)))
+  | inr is ↦ inr (ends ∙ ap (λ (k : RunReply). k.status) is)
+]
+
+impact_text_due : (words : Words) (i : ImpactWords) (b : Contents) (files : FilesTold) (old : State) (reply : RunReply) (before after : Outside) → Asks words (Impact i)
+    → HasBook i.file before.reads.files files b → IsStarted (desk_outside before before.writes.sink) old
+    → RepliesToImpact b old.tables reply ⊎ (reply ≡ memory_reply) → IsDueText words before after reply.text
+impact_text_due words i b files old reply before after asked has started due = elim due [
+  | inl replies ↦ of_impact i b files old reply asked has started replies refl
+  | inr is ↦ of_memory (ap (λ (k : RunReply). k.text) is)
+]
+
+sure_impact_end : (how : ImpactEnd) (words : Words) (i : ImpactWords) (before after : Outside) (status : RunStatus) → Asks words (Impact i)
+    → IsValidTask (Impact i) before → CannotFailAt (Impact i) before → IsSome before.writes.sink.room → ImpactsBy how i before after status
+    → EndsOrLacks words (Impact i) before after status
+sure_impact_end kept_back words i before after status asked v calls room run =
+    end_told words (Impact i) run.reply before.writes before after status refl room run.told
+    (file_ends i run.reply before after status v (λ fails. has_file before.reads.files.files i.file v.file (fails.possible calls.files)) run.due)
+    (of_file i run.reply asked run.due refl)
+sure_impact_end (judged_by (unjudged (Refused (BadRow table place)))) words i before after status asked v calls room run =
+    absurd (no_bad_row before.keeper.rows (table, place) v.rows run.runs.run.cause.first)
+sure_impact_end (judged_by (unjudged (Refused (Store first last)))) words i before after status asked v calls room run =
+    absurd (never_fails before.keeper.faults after.keeper.faults calls.keeper run.runs.run.cause.fails)
+sure_impact_end (judged_by (unjudged NoMemory)) words i before after status asked v calls room run =
+    end_told words (Impact i) memory_reply before.writes before after status refl room (inl run.runs.told) inr (of_memory refl)
+sure_impact_end (judged_by judged) words i before after status asked v calls room run =
+    end_told words (Impact i) run.runs.judges.reply before.writes before after status refl room run.runs.judges.told
+    (impact_ends i run.book run.runs.old.tables run.runs.judges.reply before after status run.runs.judges.due)
+    (impact_text_due words i run.book run.files run.runs.old run.runs.judges.reply before after asked run.has run.runs.started run.runs.judges.due)
+
 sure_task : (words : Words) (task : Task) (before after : Outside) (status : RunStatus) → Asks words task → IsValidTask task before
     → CannotFailAt task before → IsSome before.writes.sink.room → DoesTask task before after status → EndsOrLacks words task before after status
 sure_task words (Book command) before after status asked v calls room h = sure_book words command before after status asked v calls room h
@@ -288,6 +341,8 @@ sure_task words (Serve service) before after status asked v calls room h =
     sure_service_end h.how words service before after status asked v calls room h.runs
 sure_task words (Rejudge r) before after status asked v calls room h =
     sure_rejudge_end h.how words r before after status asked v calls room h.runs
+sure_task words (Impact i) before after status asked v calls room h =
+    sure_impact_end h.how words i before after status asked v calls room h.runs
 sure_task words (Sample size) before after status asked v calls room h = sure_sample words size before after status asked room h
 
 pub Does-sure : (words : Words) (before after : Outside) (status : RunStatus) → Does words before after status → CannotFail words before
@@ -378,7 +433,7 @@ unfailing_service (served (Closed out.Memory)) service before after status v non
     unrisen_end (Serve service) memory_reply _ before after status refl none run.serves.told inr
 
 unfailing_rejudge : (how : RejudgeEnd) (r : Rejudging) (before after : Outside) (status : RunStatus) → IsValidTask (Rejudge r) before
-    → NoCountRose before after → JudgesBy how r before after status → EndsAt (Rejudge r) before after status
+    → NoCountRose before after → JudgesBy how (RepliesToRejudge r) before after status → EndsAt (Rejudge r) before after status
 unfailing_rejudge (unjudged (Refused (BadRow table place))) r before after status v none run =
     absurd (no_bad_row before.keeper.rows (table, place) v run.run.cause.first)
 unfailing_rejudge (unjudged (Refused (Store first last))) r before after status v none run = absurd (none.keeper run.run.cause.fails.rose)
@@ -388,12 +443,27 @@ unfailing_rejudge judged r before after status v none run =
     unrisen_end (Rejudge r) run.judges.reply before.writes before after status refl none run.judges.told
     (judged_ends r run.old.tables run.judges.reply before after status run.judges.due)
 
+unfailing_impact : (how : ImpactEnd) (i : ImpactWords) (before after : Outside) (status : RunStatus) → IsValidTask (Impact i) before
+    → NoCountRose before after → ImpactsBy how i before after status → EndsAt (Impact i) before after status
+unfailing_impact kept_back i before after status v none run =
+    unrisen_end (Impact i) run.reply before.writes before after status refl none run.told
+    (file_ends i run.reply before after status v (λ fails. none.files fails.rose) run.due)
+unfailing_impact (judged_by (unjudged (Refused (BadRow table place)))) i before after status v none run =
+    absurd (no_bad_row before.keeper.rows (table, place) v.rows run.runs.run.cause.first)
+unfailing_impact (judged_by (unjudged (Refused (Store first last)))) i before after status v none run = absurd (none.keeper run.runs.run.cause.fails.rose)
+unfailing_impact (judged_by (unjudged NoMemory)) i before after status v none run =
+    unrisen_end (Impact i) memory_reply before.writes before after status refl none (inl run.runs.told) inr
+unfailing_impact (judged_by judged) i before after status v none run =
+    unrisen_end (Impact i) run.runs.judges.reply before.writes before after status refl none run.runs.judges.told
+    (impact_ends i run.book run.runs.old.tables run.runs.judges.reply before after status run.runs.judges.due)
+
 unfailing_task : (task : Task) (before after : Outside) (status : RunStatus) → IsValidTask task before → NoCountRose before after
     → DoesTask task before after status → EndsAt task before after status
 unfailing_task (Book command) before after status v none h = unfailing_book command before after status v none h
 unfailing_task (Desk store) before after status v none h = unfailing_desk store before after status v none h
 unfailing_task (Serve service) before after status v none h = unfailing_service h.how service before after status v none h.runs
 unfailing_task (Rejudge r) before after status v none h = unfailing_rejudge h.how r before after status v none h.runs
+unfailing_task (Impact i) before after status v none h = unfailing_impact h.how i before after status v none h.runs
 unfailing_task (Sample size) before after status v none h = unfailing_sample size before after status none h
 
 pub Does-unfailing : (words : Words) (before after : Outside) (status : RunStatus) → Does words before after status → IsValidInput words before

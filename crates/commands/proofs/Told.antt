@@ -1,14 +1,13 @@
 -- How the end of a service is told.
 use Rattle.std.proofs.Common.{◌≡◌, ◌∙◌, ℕ, ◌/◌, List, Result, Ok, Err, IfOk, ap, subst, inl, inr}
-use Rattle.std.specs.Prelude.{◌⊎◌}
 use Rattle.pb_base.specs.declared.answer.Memory.{Memory}
 use Rattle.pb_door.specs.DoorTold.{DoorTold}
 use Rattle.order_desk.specs.Tables.{State}
 use Rattle.session.specs.declared.end.SessionEnd.{SessionEnd}
 use Rattle.serve_run.specs.ServeRun.{IsServeRun}
 use Rattle.serve_run.specs.declared.end.ServeEnd.{ServeEnd}
-use Rattle.book_commands.specs.RunReply.{RunReply, due_of, memory_reply}
-use Rattle.book_commands.specs.Tells.{Outputs, IsWritten, Tells}
+use Rattle.book_commands.specs.RunReply.{RunReply, due_of}
+use Rattle.book_commands.specs.Tells.{Outputs, Tells}
 use Rattle.book_commands.specs.declared.run_status.RunStatus.{RunStatus}
 use Rattle.commands.specs.Serves.{end_reply}
 

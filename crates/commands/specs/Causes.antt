@@ -17,15 +17,17 @@ use Rattle.command_words.specs.declared.task.BookCommand.{BookCommand}
 use Rattle.book_commands.specs.declared.run_status.RunStatus.{RunStatus}
 use Rattle.book_commands.specs.declared.run_status.RunStatus.TheVariants as statuses
 use Rattle.commands.specs.DeskEnds.{RunsDesk}
+use Rattle.commands.specs.Impacted.{RunsImpact, IsImpactStatus}
 use Rattle.commands.specs.Outside.{Outside}
 use Rattle.commands.specs.Rejudged.{RejudgeEnd, unjudged, judged, RunsRejudge}
+use Rattle.command_words.specs.Impact.{Impact as ImpactWords}
 use Rattle.command_words.specs.Rejudging.{Rejudging}
 use Rattle.command_words.specs.Service.{Service}
 use Rattle.commands.specs.Serves.{ServiceEnd, unstarted, served, RunsService}
 use Rattle.serve_run.specs.declared.work_end.WorkEnd.TheVariants.{Over}
 use Rattle.serve_run.specs.declared.end.ServeEnd.TheVariants.{Worked}
 use Rattle.command_words.specs.Meaning.{Asks, AsksNothing}
-use Rattle.command_words.specs.declared.task.Task.TheVariants.{Book, Desk, Serve, Rejudge, Sample}
+use Rattle.command_words.specs.declared.task.Task.TheVariants.{Book, Desk, Serve, Rejudge, Impact, Sample}
 
 -- the text, the notes and the status are those of a reply to the words and to what was read
 pub record GivesReply (words : Words) (before after : Outside) (status : RunStatus) : Type 0 where
@@ -87,6 +89,13 @@ pub record GivesRejudge (words : Words) (before after : Outside) (status : RunSt
   pub runs : RunsRejudge rejudging before after status
   pub statuses : IsRejudgeStatus runs.how status
 
+-- they are those of orders that were judged by the book of a file
+pub record GivesImpact (words : Words) (before after : Outside) (status : RunStatus) : Type 0 where
+  pub impact : ImpactWords
+  pub asked : Asks words (Impact impact)
+  pub runs : RunsImpact impact before after status
+  pub statuses : IsImpactStatus runs.how status
+
 -- the source or the files failed
 abbrev pub FailsToReadFrom : Inputs → Inputs → Type 0
 FailsToReadFrom before after = Fails before.source.faults after.source.faults ⊎ Rose before.files.faults.count after.files.faults.count
@@ -103,6 +112,7 @@ pub data IsCaused (words : Words) (before after : Outside) (status : RunStatus) 
   by_door : status ≡ statuses.DoorFault → Rose before.door.told.faults after.door.told.faults → IsCaused words before after status
   by_service : GivesService words before after status → IsCaused words before after status
   by_rejudge : GivesRejudge words before after status → IsCaused words before after status
+  by_impact : GivesImpact words before after status → IsCaused words before after status
 
 -- the statuses of a run whose words are of no form
 abbrev pub IsUsageStatus : RunStatus → Type 0

@@ -6,6 +6,8 @@
 --     LacksRoom words before after status  the sink failed, which told less room than a text that was due has bytes
 use Rattle.std.specs.Prelude.{◌≡◌, ◌⊎◌, ℕ, ◌<◌, true, List, None, ◌++◌, IsSome, IsSomeAnd, length, take}
 use Rattle.pb_outside.specs.Faults.{Rose}
+use Rattle.pb_outside.specs.Files.{FilesTold}
+use Rattle.book_model.specs.Contents.{Contents}
 use Rattle.command_words.specs.Parts.{Words}
 use Rattle.keeper.specs.Rows.{begun}
 use Rattle.order_desk.specs.History.{Reaches}
@@ -17,7 +19,8 @@ use Rattle.session.specs.Session.{IsDue}
 use Rattle.desk_run.specs.DeskRun.{IsStarted, hand_at}
 use Rattle.desk_run.specs.Sure.{IsOrderly}
 use Rattle.book_commands.specs.Due.{Due}
-use Rattle.book_commands.specs.Ends.{EndsSample}
+use Rattle.book_commands.specs.BookFile.{HasBook, IsValidBook, RepliesToFile}
+use Rattle.book_commands.specs.Ends.{EndsSample, IsDecided}
 use Rattle.book_commands.specs.Inputs.{Inputs, input_limit}
 use Rattle.book_commands.specs.Promises.{promise_of}
 use Rattle.book_commands.specs.RunReply.{RunReply, memory_text}
@@ -28,14 +31,16 @@ use Rattle.book_commands.specs.declared.log.Note.{Note}
 use Rattle.book_commands.specs.declared.run_status.RunStatus.{RunStatus}
 use Rattle.book_commands.specs.declared.run_status.RunStatus.TheVariants as statuses
 use Rattle.commands.specs.DeskEnds.{desk_outside}
+use Rattle.commands.specs.Impacted.{RepliesToImpact}
 use Rattle.commands.specs.Outside.{Outside}
 use Rattle.commands.specs.Rejudged.{RepliesToRejudge}
+use Rattle.command_words.specs.Impact.{Impact as ImpactWords}
 use Rattle.command_words.specs.Rejudging.{Rejudging}
 use Rattle.command_words.specs.Service.{Service}
 use Rattle.commands.specs.Serves.{counts_text}
 use Rattle.command_words.specs.Meaning.{Asks}
 use Rattle.command_words.specs.declared.task.Task.{Task}
-use Rattle.command_words.specs.declared.task.Task.TheVariants.{Book, Desk, Serve, Rejudge, Sample}
+use Rattle.command_words.specs.declared.task.Task.TheVariants.{Book, Desk, Serve, Rejudge, Impact, Sample}
 
 -- ---- what is handed in
 
@@ -45,6 +50,11 @@ pub record IsValidRead (command : BookCommand) (reads : Inputs) : Type 0 where
   pub given : IsSomeAnd reads.source.left (λ all. input ≡ take input_limit all)
   pub valid : (promise_of command).is_valid input reads.files.files
 
+-- the file is a book that keeps the limits of a check, and the rows are right
+pub record IsValidImpact (i : ImpactWords) (before : Outside) : Type 0 where
+  pub file : IsValidBook before.reads.files.files i.file
+  pub rows : IsSomeAnd before.keeper.rows (λ rows. first_bad (begun rows) ≡ None)
+
 -- of a desk, the rows are right, and nothing in the stream is refused or cut; of a service and of a
 -- judging of kept orders the rows are right; a sample reads nothing
 abbrev pub IsValidTask : Task → Outside → Type 0
@@ -52,6 +62,7 @@ IsValidTask (Book command) before = IsValidRead command before.reads
 IsValidTask (Desk store) before = IsOrderly (desk_outside before before.writes.sink)
 IsValidTask (Serve service) before = IsSomeAnd before.keeper.rows (λ rows. first_bad (begun rows) ≡ None)
 IsValidTask (Rejudge r) before = IsSomeAnd before.keeper.rows (λ rows. first_bad (begun rows) ≡ None)
+IsValidTask (Impact i) before = IsValidImpact i before
 IsValidTask (Sample size) before = Unit {0}
 
 pub record IsValidInput (words : Words) (before : Outside) : Type 0 where
@@ -74,11 +85,17 @@ pub record CannotFailToOpen (before : Outside) : Type 0 where
   pub keeper : before.keeper.faults.faultless ≡ true
   pub door : before.door.faultless ≡ true
 
+-- and so do the files and the keeper of a desk
+pub record CannotFailToJudge (before : Outside) : Type 0 where
+  pub files : before.reads.files.faults.faultless ≡ true
+  pub keeper : before.keeper.faults.faultless ≡ true
+
 abbrev pub CannotFailAt : Task → Outside → Type 0
 CannotFailAt (Book command) before = CannotFailToRead before.reads
 CannotFailAt (Desk store) before = CannotFailToServe before
 CannotFailAt (Serve service) before = CannotFailToOpen before
 CannotFailAt (Rejudge r) before = before.keeper.faults.faultless ≡ true
+CannotFailAt (Impact i) before = CannotFailToJudge before
 CannotFailAt (Sample size) before = Unit {0}
 
 pub record CannotFail (words : Words) (before : Outside) : Type 0 where
@@ -102,13 +119,14 @@ pub record EndsNoted (IsEnd : RunStatus → List Note → Type 0) (before after 
   pub is_end : IsEnd status notes
 
 -- an order is accepted or refused; a check or a proof says so of the book, or leaves a question; a certificate and a desk's
--- link come to their end, and so do the ports of a service; kept orders are judged again, or there is no book of that number; a
--- sample comes to its end or leaves a question
+-- link come to their end, and so do the ports of a service; kept orders are judged again, or there is no book of that number, or
+-- the book of the file is refused or leaves a question; a sample comes to its end or leaves a question
 abbrev pub EndsTask : Task → Outside → Outside → RunStatus → Type 0
 EndsTask (Book command) before after status = EndsNoted (promise_of command).is_answer before after status
 EndsTask (Desk store) before after status = status ≡ statuses.Done
 EndsTask (Serve service) before after status = status ≡ statuses.Done
 EndsTask (Rejudge r) before after status = (status ≡ statuses.Done) ⊎ (status ≡ statuses.Faulty)
+EndsTask (Impact i) before after status = IsDecided status ⊎ (status ≡ statuses.Undecided)
 EndsTask (Sample size) before after status = EndsNoted EndsSample before after status
 
 pub record IsAnswered (words : Words) (before after : Outside) (status : RunStatus) : Type 0 where
@@ -131,6 +149,11 @@ pub data IsDueText (words : Words) (before after : Outside) (text : List ℕ) : 
       → IsDueText words before after text
   of_rejudge : (r : Rejudging) (old : State) (reply : RunReply) → Asks words (Rejudge r) → IsStarted (desk_outside before before.writes.sink) old
       → RepliesToRejudge r old.tables reply → text ≡ reply.text → IsDueText words before after text
+  of_file : (i : ImpactWords) (reply : RunReply) → Asks words (Impact i) → RepliesToFile i.file before.reads.files after.reads.files reply
+      → text ≡ reply.text → IsDueText words before after text
+  of_impact : (i : ImpactWords) (b : Contents) (files : FilesTold) (old : State) (reply : RunReply) → Asks words (Impact i)
+      → HasBook i.file before.reads.files files b → IsStarted (desk_outside before before.writes.sink) old → RepliesToImpact b old.tables reply
+      → text ≡ reply.text → IsDueText words before after text
   of_memory : text ≡ memory_text → IsDueText words before after text
 
 pub record LacksRoom (words : Words) (before after : Outside) (status : RunStatus) : Type 0 where

@@ -13,12 +13,13 @@ use Rattle.book_commands.specs.Tells.{Outputs, IsWritten, Tells}
 use Rattle.command_words.specs.declared.task.BookCommand.{BookCommand}
 use Rattle.book_commands.specs.declared.run_status.RunStatus.{RunStatus}
 use Rattle.commands.specs.DeskEnds.{RunsDesk}
+use Rattle.commands.specs.Impacted.{RunsImpact}
 use Rattle.commands.specs.Outside.{Outside}
 use Rattle.commands.specs.Rejudged.{RunsRejudge}
 use Rattle.commands.specs.Serves.{RunsService}
 use Rattle.command_words.specs.Meaning.{Asks, AsksNothing}
 use Rattle.command_words.specs.declared.task.Task.{Task}
-use Rattle.command_words.specs.declared.task.Task.TheVariants.{Book, Desk, Serve, Rejudge, Sample}
+use Rattle.command_words.specs.declared.task.Task.TheVariants.{Book, Desk, Serve, Rejudge, Impact, Sample}
 
 -- a command was answered: its reply is due, and was told; neither the keeper nor the door was touched
 pub record AnswersBook (command : BookCommand) (before after : Outside) (status : RunStatus) : Type 0 where
@@ -62,6 +63,7 @@ DoesTask (Book command) = AnswersBook command
 DoesTask (Desk store) = RunsDesk
 DoesTask (Serve service) = RunsService service
 DoesTask (Rejudge r) = RunsRejudge r
+DoesTask (Impact i) = RunsImpact i
 DoesTask (Sample size) = AnswersSample size
 
 -- whatever the words ask was done, and where they ask for nothing, the usage was told

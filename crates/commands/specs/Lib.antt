@@ -4,6 +4,7 @@ pub mod Begun
 pub mod DeskEnds
 pub mod Serves
 pub mod Rejudged
+pub mod Impacted
 pub mod Does
 pub mod Causes
 pub mod Released

@@ -66,13 +66,13 @@ RepliesBy None t reply = reply ≡ no_book_reply
 abbrev pub RepliesToRejudge : Rejudging → Tables → RunReply → Type 0
 RepliesToRejudge asked t reply = RepliesBy (book_at t.books asked.book) t reply
 
--- ---- the run
+-- ---- the run, by what is replied over what a desk keeps
 
 -- the orders of a desk in this state were judged again: the reply was told, or want of memory, and the rows that are kept are
 -- those of the state
-pub record JudgesAgain (asked : Rejudging) (old : State) (before after : Outside) (status : RunStatus) : Type 0 where
+pub record JudgesAgain (Replies : Tables → RunReply → Type 0) (old : State) (before after : Outside) (status : RunStatus) : Type 0 where
   pub reply : RunReply
-  pub due : RepliesToRejudge asked old.tables reply ⊎ (reply ≡ memory_reply)
+  pub due : Replies old.tables reply ⊎ (reply ≡ memory_reply)
   pub told : Tells reply before.writes after.writes status
   pub rows : IfSome after.keeper.rows (λ rows. rows ≡ rows_of old.tables)
   pub count : after.keeper.faults ≡ old.faults
@@ -80,19 +80,22 @@ pub record JudgesAgain (asked : Rejudging) (old : State) (before after : Outside
   pub door : after.door ≡ before.door
 
 -- the desk was started from the rows
-pub record HasJudged (asked : Rejudging) (before after : Outside) (status : RunStatus) : Type 0 where
+pub record HasJudged (Replies : Tables → RunReply → Type 0) (before after : Outside) (status : RunStatus) : Type 0 where
   pub old : State
   pub started : IsStarted (desk_outside before before.writes.sink) old
-  pub judges : JudgesAgain asked old before after status
+  pub judges : JudgesAgain Replies old before after status
 
 pub data RejudgeEnd : Type 0 where
   unjudged : Fail StartFault → RejudgeEnd
   judged : RejudgeEnd
 
-abbrev pub JudgesBy : RejudgeEnd → Rejudging → Outside → Outside → RunStatus → Type 0
-JudgesBy (unjudged why) asked before after status = HasNotServed why before after status
-JudgesBy judged asked before after status = HasJudged asked before after status
+abbrev pub JudgesBy : RejudgeEnd → (Tables → RunReply → Type 0) → Outside → Outside → RunStatus → Type 0
+JudgesBy (unjudged why) Replies before after status = HasNotServed why before after status
+JudgesBy judged Replies before after status = HasJudged Replies before after status
 
-pub record RunsRejudge (asked : Rejudging) (before after : Outside) (status : RunStatus) : Type 0 where
+pub record Judges (Replies : Tables → RunReply → Type 0) (before after : Outside) (status : RunStatus) : Type 0 where
   pub how : RejudgeEnd
-  pub runs : JudgesBy how asked before after status
+  pub runs : JudgesBy how Replies before after status
+
+abbrev pub RunsRejudge : Rejudging → Outside → Outside → RunStatus → Type 0
+RunsRejudge asked before after status = Judges (RepliesToRejudge asked) before after status

@@ -1,10 +1,12 @@
 -- What a run is: all that is promised of it, in one record.
-use Rattle.std.specs.Prelude.{◌≡◌, ◌≢◌, ◌⊎◌}
+use Rattle.std.specs.Prelude.{◌≡◌, ◌≢◌, ◌⊎◌, IfOk}
+use Rattle.book_text.specs.BookText.{book_of}
 use Rattle.command_words.specs.Parts.{Words}
+use Rattle.book_commands.specs.Advice.{TellsOrders}
 use Rattle.book_commands.specs.declared.run_status.RunStatus.{RunStatus}
 use Rattle.book_commands.specs.declared.run_status.RunStatus.TheVariants as statuses
 use Rattle.commands.specs.Ample.{AskAmple}
-use Rattle.commands.specs.Causes.{IsCaused, IsUsageStatus}
+use Rattle.commands.specs.Causes.{GivesReply, IsCaused, IsUsageStatus}
 use Rattle.commands.specs.Complete.{IsValidInput, CannotFail, NoCountRose, IsAnswered, LacksRoom}
 use Rattle.commands.specs.Does.{Does}
 use Rattle.commands.specs.Outside.{Outside}
@@ -24,6 +26,8 @@ pub record IsRun (words : Words) (before after : Outside) (status : RunStatus) :
   pub blocked : status ≡ statuses.Refused → AskCheck words → IsBlockedInput before.reads.source.left
   -- where the budget is above the number of clauses that can be new, no question is left
   pub decided : AskAmple words before → status ≢ statuses.Undecided
+  -- what free, why and ask tell is so of the orders that the book accepts
+  pub advises : (h : GivesReply words before after status) → IfOk (book_of h.input) (λ b. TellsOrders h.command b h.reply)
   -- whatever the status, each book that a desk keeps can be released, those that it found at its start included
   pub kept_released : AskDesk words → KeepsReleased before after status
   -- and so it is with the desk of a service

@@ -4,7 +4,7 @@ use Rattle.command_words.specs.Meaning.{Asks}
 use Rattle.command_words.specs.Parts.{Words}
 use Rattle.command_words.specs.Service.{Service}
 use Rattle.command_words.specs.declared.task.Task.{Task}
-use Rattle.command_words.specs.declared.task.Task.TheVariants.{Book, Desk, Serve, Rejudge, Sample}
+use Rattle.command_words.specs.declared.task.Task.TheVariants.{Book, Desk, Serve, Rejudge, Impact, Sample}
 
 -- the store whose rows a desk takes up, where the task has one
 abbrev pub store_of : Task → Option (List ℕ)
@@ -12,6 +12,7 @@ store_of (Book command) = None
 store_of (Desk store) = Some store
 store_of (Serve service) = Some service.store
 store_of (Rejudge r) = Some r.store
+store_of (Impact i) = Some i.store
 store_of (Sample size) = None
 
 -- the words ask for a task at this store

@@ -11,6 +11,7 @@ ghost use Rattle.commands.specs.Words.{NamesStore, store_of};
 
 use crate::begun::Begun;
 use crate::desk::run_store;
+use crate::impact::run_impact;
 use crate::judging::run_rejudge;
 use crate::run_end::RunEnd;
 use crate::usage::{tell_no_form, tell_no_memory};
@@ -70,6 +71,7 @@ fn do_task<R: Threads + Sync, S: Source, K: Sink, F: Files, P: Keeper, D: Door, 
         Task::Desk { store } => Begun::Ended(run_store(alloc, &store, world, gate)),
         Task::Serve(service) => Begun::Awaited(service, world),
         Task::Rejudge(asked) => Begun::Ended(run_rejudge(rt, alloc, &asked, world)),
+        Task::Impact(asked) => Begun::Ended(run_impact(rt, alloc, &asked, world)),
         Task::Sample(size) => {
             let status = tell_sample(alloc, &size, &mut world.channels);
             Begun::Ended(RunEnd { status, world })

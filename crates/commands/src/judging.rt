@@ -58,7 +58,7 @@ fn judge_kept<R: Threads + Sync, S: Source, K: Sink, F: Files, P: Keeper, D: Doo
     ensures { (kept : KeeperTold) →
         let sees = seen S.input K.output F.told P.told P.failures D.told D.faultless in
         let before = channels_seen S.input K.output F.told D.told D.faultless kept channels in
-        JudgesAgain asked.now desk before (sees result.world) result.status }
+        JudgesAgain (RepliesToRejudge asked.now) desk before (sees result.world) result.status }
 {
     let reply = rejudge_reply(rt, alloc, asked, &desk);
     let status = tell_made(reply, &mut channels.sink, &mut channels.log);

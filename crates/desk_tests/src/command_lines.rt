@@ -30,7 +30,9 @@ rejudge s.db 4294967295 16~rejudge s.db 4294967295 16
 rejudge s.db 4294967296 1~usage
 rejudge s.db 0 1~usage
 rejudge s.db 1 17~usage
-rejudge s.db 1 1 --budget 5~usage";
+rejudge s.db 1 1 --budget 5~usage
+impact s.db f.csv 016~impact s.db 16
+impact s.db f.csv 17~usage";
 
 fn words_of(alloc: Global, line: &str) -> Result<Vec<String>, Memory> {
     let mut words = Vec::new(alloc);
@@ -94,6 +96,7 @@ fn put_task(text: &mut Text, task: &Task) -> Result<(), Memory> {
         Task::Book(command) => put_command(text, command),
         Task::Serve(service) => put_service(text, service),
         Task::Rejudge(asked) => put_rejudging(text, asked),
+        Task::Impact(asked) => put_named(text, "impact", asked.store(), &[asked.workers()]),
         Task::Sample(size) => {
             put_numbers(text, "sample", &[size.start(), size.codes(), size.orders()])
         }

@@ -1,3 +1,4 @@
 pub mod Again
 pub mod Ordered
 pub mod StockText
+pub mod ImpactText

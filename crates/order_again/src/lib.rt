@@ -2,6 +2,7 @@
 #![tactic(auto)]
 
 mod completed;
+mod impact;
 mod judging;
 mod kept;
 mod laws;
@@ -9,6 +10,7 @@ mod outcome;
 mod text;
 mod workers;
 
+pub use impact::impact_text;
 pub use kept::Stock;
 pub use laws::again_laws;
 pub use outcome::Again;

@@ -17,13 +17,27 @@ pub fn stock_text(alloc: Global, to: &Book, stock: &[Stock], told: &[Again]) -> 
     ensures { IfOk result (λ text. text ≡ stock_text to.now stock.now told.now) }
 {
     let mut text = Text::new(alloc);
-    for (place, one) in stock.iter().enumerate() {
-        put_line(&mut text, to, one, told[place])?;
-    }
+    put_lines(&mut text, to, stock, told)?;
     text.put(b"end")?;
     put_number(&mut text, stock.len() as u64)?;
     text.put(b"\n")?;
     Ok(text.into_body())
+}
+
+/// Puts the line of each order behind a text.
+pub(crate) fn put_lines(
+    text: &mut Text,
+    to: &Book,
+    stock: &[Stock],
+    told: &[Again],
+) -> Result<(), Memory>
+    requires { length told.now ≡ length stock.now }
+    ensures { OnOk result (text.new ≡ text.old ++ lines_from to.now stock.now told.now) }
+{
+    for (place, one) in stock.iter().enumerate() {
+        put_line(text, to, one, told[place])?;
+    }
+    Ok(())
 }
 
 fn put_line(text: &mut Text, to: &Book, stock: &Stock, again: Again) -> Result<(), Memory>

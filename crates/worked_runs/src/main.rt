@@ -15,6 +15,7 @@ mod outside;
 mod piece;
 mod report;
 mod request;
+mod requirement_line;
 mod rows;
 mod run_words;
 mod runs;

@@ -1,6 +1,7 @@
 //! The notes of a run, a line each.
 
 use crate::compare_line::put_compare;
+use crate::requirement_line::put_requirement;
 use crate::supplement_line::put_supplement;
 use clausify::Question;
 use commands::Note;
@@ -46,6 +47,12 @@ pub fn put_note(text: &mut Text, note: &Note) -> Result<(), Memory> {
         Note::Cert(fault) => put_numbers(text, "certificate", &[fault.line]),
         Note::Supplement(told) => put_supplement(text, told),
         Note::Compare(told) => put_compare(text, told),
+        Note::Requirement(told) => put_requirement(text, told),
+        Note::Stated(fault) => put_numbers(
+            text,
+            "stated",
+            &[u64::from(fault.row), u64::from(fault.kind.number())],
+        ),
         Note::Left(learnt) => put_numbers(text, "left after", &[learnt.len() as u64]),
         Note::Count {
             which,

@@ -26,6 +26,10 @@ pub returns-in_ok-proof_reply-in-Prove-clause-reply : goal.returns-in_ok-proof_r
 unfolding promise_of
 returns-in_ok-proof_reply-in-Prove-clause-reply g c = rw c.in-Prove.is (record { is_answer = c.in_ok-proof_reply-in-Prove.ensures; untouched = refl })
 
+pub returns-in_ok-days_reply-in-Days-clause-reply : goal.returns-in_ok-days_reply-in-Days-clause-reply
+unfolding promise_of
+returns-in_ok-days_reply-in-Days-clause-reply g c = rw c.in-Days.is (record { is_answer = c.in_ok-days_reply-in-Days.ensures; untouched = refl })
+
 pub returns-in-Verify-clause-reply : goal.returns-in-Verify-clause-reply
 unfolding promise_of
 returns-in-Verify-clause-reply g c = rw c.in-Verify.is c.verify_reply.ensures.reply
@@ -54,3 +58,15 @@ returns-in-Compare-clause-cause g c = rw c.in-Compare.is c.compare_reply.ensures
 pub returns-in-Compare-clause-kept : goal.returns-in-Compare-clause-kept
 unfolding promise_of
 returns-in-Compare-clause-kept g c = rw c.in-Compare.is c.compare_reply.ensures.kept
+
+pub returns-in-Require-clause-reply : goal.returns-in-Require-clause-reply
+unfolding promise_of
+returns-in-Require-clause-reply g c = rw c.in-Require.is c.require_reply.ensures.reply
+
+pub returns-in-Require-clause-cause : goal.returns-in-Require-clause-cause
+unfolding promise_of
+returns-in-Require-clause-cause g c = rw c.in-Require.is c.require_reply.ensures.cause
+
+pub returns-in-Require-clause-kept : goal.returns-in-Require-clause-kept
+unfolding promise_of
+returns-in-Require-clause-kept g c = rw c.in-Require.is c.require_reply.ensures.kept

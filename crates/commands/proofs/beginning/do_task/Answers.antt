@@ -20,5 +20,11 @@ run_rejudge-requires-clause-named g c κs within = c.requires.named _ (ap store_
 pub returns-in-Rejudge-clause-ended : goal.returns-in-Rejudge-clause-ended
 returns-in-Rejudge-clause-ended g c = rw c.in-Rejudge.is c.run_rejudge.ensures
 
+pub run_impact-requires-clause-named : goal.run_impact-requires-clause-named
+run_impact-requires-clause-named g c κs within = c.requires.named _ (ap store_of c.in-Impact.is)
+
+pub returns-in-Impact-clause-ended : goal.returns-in-Impact-clause-ended
+returns-in-Impact-clause-ended g c = rw c.in-Impact.is c.run_impact.ensures
+
 pub returns-in-Sample-clause-ended : goal.returns-in-Sample-clause-ended
 returns-in-Sample-clause-ended g c = rw c.in-Sample.is (c.tell_sample-status.ensures _)
