@@ -1,7 +1,7 @@
 #!/bin/sh
 # Tries the archive to install: makes it twice, which has to give the same bytes, unpacks it in an empty folder, looks at its sums,
-# and types the pages README.md and docs/TOOLS.md there, without the kit on the path. Then the launcher is called through a link
-# from another folder, and the manual page is shown.
+# types the pages README.md and docs/TOOLS.md there, without the kit on the path, and places an order in the page of the archive in a
+# browser, if one is there. Then the launcher is called through a link from another folder, and the manual page is shown.
 #
 #   tests/archive.sh [PROGRAM]
 #
@@ -52,6 +52,10 @@ sed '/^## Get it/,$d' "$home/README.md" > "$first"
 export PAGES_FROM="$home"
 holds "README's first screen comes out as it is shown" "$top/tests/pages.sh" "$program" "$first"
 holds 'README.md and docs/TOOLS.md do' "$top/tests/pages.sh" "$program" "$home/README.md" "$home/docs/TOOLS.md"
+holds 'the proxy finds each file of its page' sh -c "cd '$home/examples/service' && for file in \$(sed -n 's/.* file \\(page[^ ]*\\) .*/\\1/p' haproxy.cfg); do [ -s \"\$file\" ] || { echo \"\$file\"; exit 1; }; done"
+if command -v haproxy > /dev/null && command -v chromedriver > /dev/null; then
+    holds 'an order is placed in its page' env PARTSBOOK_PROGRAM="$home/libexec/partsbook" "$top/tests/page.py" order
+fi
 mkdir "$work/bin" "$work/elsewhere"
 ln -s "$home/partsbook" "$work/bin/partsbook"
 holds 'through a link, from another folder' sh -c "cd '$work/elsewhere' && [ \"\$('$work/bin/partsbook' --quiet order 40 E60 TOW < '$home/examples/compact.csv')\" = 'refused ETOW' ]"

@@ -51,7 +51,7 @@ def told_by_free(program, book, chosen, day):
 def main():
     program, *books = sys.argv[1:]
     tried = 0
-    for path in books or sorted(TOP.glob("examples/*.csv")):
+    for path in books or sorted(path for path in TOP.glob("examples/*.csv") if path.read_bytes().startswith(b"book,")):
         book = pathlib.Path(path).read_bytes()
         rows = list(csv.reader(book.decode("utf-8-sig").splitlines()))
         codes = [row[1] for row in rows if row and row[0] == "code"]

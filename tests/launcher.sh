@@ -39,6 +39,9 @@ same() { # book, words..
     [ ! -s "$work/said.quiet" ] || wrong "$*: --quiet said something"
 }
 
+# A command without a book.
+out() { "$top/partsbook" "$@" < /dev/null > "$work/found" 2> "$work/said"; }
+
 # The last command has to have said this.
 said() { # a part of a line
     grep -qF -- "$1" "$work/said" || { wrong "not said: $1"; sed 's/^/    /' "$work/said"; }
@@ -133,6 +136,8 @@ same "$books/engine.csv" compare 2000 "$books/engine.csv"; said "the day isn't i
 # program counts where there are too many.
 size() { LC_ALL=C awk -v mode=size -f "$top/tools/book.awk" "$1"; }
 for book in "$books"/*.csv; do
+    # Requirements aren't a book.
+    grep -qE '^(require|uses),' "$book" && continue
     slices=$("$program" check < "$book" | grep -c '^slice')
     [ "$(size "$book" | cut -d' ' -f1)" = "$slices" ] || wrong "$book: $(size "$book") for $slices slices"
 done
@@ -146,8 +151,84 @@ awk 'BEGIN {
 same "$work/book.csv" check; said 'slice 0, counted from 0, has'
 [ "$(cat "$work/wanted")" = "limit questions 0 $(size "$work/book.csv" | cut -d' ' -f2)" ] || wrong "the questions are $(cat "$work/wanted"), and not $(size "$work/book.csv")"
 
+# The questions of supplements: 900 rules, of which each names the codes of the next 256.
+awk 'BEGIN {
+    sign = "ABCDEFGHIJKLMNOPQRSTUVWXYZ0123456789"
+    for (r = 0; r < 900; r++) name[r] = substr(sign, 1 + int(r / 36), 1) substr(sign, 1 + r % 36, 1)
+    print "book,T,1,10"
+    for (r = 0; r < 900; r++) print "code," name[r] ","
+    for (r = 0; r < 900; r++) {
+        rule = name[(r + 1) % 900]
+        for (n = 2; n <= 256; n++) rule = rule "/" name[(r + n) % 900]
+        print "supplement,S" r ",1," name[r] "," rule ",,"
+    }
+}' > "$work/book.csv"
+tried=$((tried + 1))
+"$program" supplements < "$work/book.csv" > "$work/wanted"
+asked() { LC_ALL=C awk -v mode=size -v asked=supplements -f "$top/tools/book.awk" "$1" | cut -d' ' -f2; }
+[ "$(cat "$work/wanted")" = "limit questions 0 $(asked "$work/book.csv")" ] || wrong "the questions of supplements are $(cat "$work/wanted"), and not $(asked "$work/book.csv")"
+
+# Long work on a terminal, over a program that only waits: a shell, which runs the file that is called as the command is. `desk` has
+# started when it reads its input.
+on_terminal() { # name, words..
+    name=$1
+    shift
+    tried=$((tried + 1))
+    echo 'sleep 4; read -r _' > "$work/$1"
+    (cd "$work" && { sleep 5; echo; } | PARTSBOOK_PROGRAM=$work/slow script -qefc "$top/partsbook $* < ${fed:-$books/estate.csv}" /dev/null > "$work/shown.$name" 2>&1) &
+}
+shown() { # name, what
+    tr '\r' '\n' < "$work/shown.$1" | grep -qF -- "$2" || { wrong "$1 on a terminal didn't show: $2"; tr '\r' '\n' < "$work/shown.$1" | sed 's/^/    /'; }
+}
+if command -v script > /dev/null; then
+    cp "$(readlink -f /bin/sh)" "$work/slow"
+    printf 'require,R1,TRUE,,\nrequire,R2,TRUE,,\n' > "$work/wants.csv"
+    echo 'a store' > "$work/kept.db"
+    for word in check prove supplements days; do on_terminal "$word" "$word"; done
+    on_terminal require require wants.csv
+    on_terminal changes changes "$books/tarn.csv"
+    on_terminal quiet --quiet check
+    fed=/dev/null on_terminal rejudge rejudge kept.db 1 1
+    fed=/dev/stdin on_terminal desk desk kept.db
+    wait
+    shown check 'check of 120 questions in 3 slices, 3 s'
+    shown prove 'prove of 21 questions in 3 slices, 3 s'
+    shown supplements "supplements of $(asked "$books/estate.csv") questions in 3 slices, 3 s"
+    shown days 'days of 3 slices, 3 s'
+    shown require 'require of 2 requirements in 3 slices, 3 s'
+    shown changes 'changes of 3 slices and, in the next book, 4, 3 s'
+    shown rejudge 'rejudge over 8 bytes, 3 s'
+    shown desk 'desk over 8 bytes, 3 s'
+    shown desk 'the desk has started after 4 s'
+    [ ! -s "$work/shown.quiet" ] || wrong "--quiet showed something on a terminal: $(cat "$work/shown.quiet")"
+else
+    echo 'there is no script (util-linux): long work on a terminal was not tried'
+fi
+
+# Commands that this program may not have yet.
+has() { "$program" "$@" < "$books/engine.csv" > "$work/found"; [ $? != 2 ]; }
+if has days; then
+    same "$books/tarn.csv" days LIFE MGB D20 CWH
+    same "$books/engine.csv" days G5 XX; said 'the book has no code `XX`'
+    changed engine.csv 's/M1+-G7/M1+-G8/'
+    tried=$((tried + 2))
+    out impact "$work/impact.db" "$work/book.csv" 1; said 'is no code of the book'
+    out impact "$work/impact.db" "$work/none" 1; said "the file $work/none can't be read"
+fi
+if has changes "$books/engine.csv"; then
+    same "$books/engine.csv" changes "$books/engine.csv"; said "$books/engine.csv: read 5 codes"
+    changed engine.csv 's/M1+-G7/M1+-G8/'
+    same "$books/engine.csv" changes "$work/book.csv"; said "the fault is in $work/book.csv"
+    same "$books/engine.csv" changes "$work/none"; said "the file $work/none can't be read"
+fi
+if has require "$work/none"; then
+    same "$books/tarn.csv" require "$books/tarn-laws.csv"
+    same "$books/engine.csv" require "$work/none"; said "the file $work/none can't be read"
+    printf 'require,R1,M1/M2,,\nuses,R2,A100,M1/M3,,\n' > "$work/wants.csv"
+    same "$books/engine.csv" require "$work/wants.csv"; said 'wants.csv, line 2: uses,R2,A100,M1/M3,,'; said 'no rule over the codes of the book'
+fi
+
 # Stores, and who holds one.
-out() { "$top/partsbook" "$@" < /dev/null > "$work/found" 2> "$work/said"; }
 tried=$((tried + 4))
 out rejudge "$work/new.db" 1 1; said 'a new one is made'; said 'the store has no book 1'
 out desk "$work/none/x.db"; said "there is no folder $work/none"

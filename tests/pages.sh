@@ -97,7 +97,7 @@ status_of_text() { # call, text
             else if (first ~ /^certificate fault /) print 8
             else if (first == "want of memory") print 9
             else if (first == "door fault") print 10
-            else if (last == "end blocked" || last ~ /^end [1-9]/ && call !~ / rejudge /) print 1
+            else if (last == "end blocked" || last ~ /^end [1-9]/ && call !~ / (rejudge|impact) /) print 1
             else if (last == "end undecided" || last == "end 0" && left) print 7
             else print 0
         }' "$2"

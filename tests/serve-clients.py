@@ -338,6 +338,7 @@ def proxy_before(service_port, folder):
     path = os.path.join(folder, "haproxy.cfg")
     with open(path, "w") as file:
         file.write(text)
+    os.symlink(os.path.join(TOP, "examples", "service", "page"), os.path.join(folder, "page"))
     proxy = subprocess.Popen([PROXY, "-db", "-q", "-f", path], stdin=subprocess.DEVNULL, stderr=subprocess.DEVNULL)
     try:
         until = time.time() + PATIENCE

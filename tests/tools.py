@@ -31,6 +31,8 @@ from program import find_program
 from stores import flat, journal_of, read_journal, tables_of
 
 PROGRAM = os.environ.setdefault("PARTSBOOK_PROGRAM", find_program())
+# The books among the examples; beside them are requirements.
+BOOKS = sorted(path for path in (TOP / "examples").glob("*.csv") if path.read_bytes().startswith(b"book,"))
 failed = 0
 
 
@@ -281,7 +283,7 @@ def next_(place):
 def sheet(place):
     """Each book of examples/ as a spreadsheet and as saved texts, and cells that are refused."""
     count = 0
-    for book in sorted((TOP / "examples").glob("*.csv")):
+    for book in BOOKS:
         wanted = [r.fields for r in read_records(book.read_text())]
         status, _, error = tool("to-sheet", book, place / f"{book.stem}.xlsx")
         checked = subprocess.run([PROGRAM, "check"], input=book.read_bytes(), capture_output=True, check=False)
@@ -325,7 +327,7 @@ def office(place):
         these = [*words, "--convert-to", to, "--outdir", place / "office", *sorted(place.glob("*.xlsx"))]
         subprocess.run(these, stdout=subprocess.DEVNULL, stderr=subprocess.DEVNULL, check=False)
     count = 0
-    for book in sorted((TOP / "examples").glob("*.csv")):
+    for book in BOOKS:
         wanted = [r.fields for r in read_records(book.read_text())]
         for end in ("xlsx", "csv"):
             status, text, error = tool("from-sheet", place / "office" / f"{book.stem}.{end}")
@@ -384,7 +386,7 @@ def cars_of(book, codes):
 def report(place):
     """The reports have each line of `check`, and texts of a book are never read as markup."""
     count = 0
-    for book in sorted((TOP / "examples").glob("*.csv")):
+    for book in BOOKS:
         data = book.read_bytes()
         plain = subprocess.run([PROGRAM, "check"], input=data, capture_output=True, check=False)
         lines = [line for line in plain.stdout.decode().splitlines() if line.split()[0] not in ("book", "slice", "end")]

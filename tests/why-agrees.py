@@ -111,7 +111,7 @@ def try_findings(program, name, rows, book):
 def main():
     program, *books = sys.argv[1:]
     tried = 0
-    for path in books or sorted(TOP.glob("examples/*.csv")):
+    for path in books or sorted(path for path in TOP.glob("examples/*.csv") if path.read_bytes().startswith(b"book,")):
         book = pathlib.Path(path).read_bytes().decode("utf-8-sig")
         rows = [row for row in csv.reader(io.StringIO(book)) if any(row)]
         codes = [row[1] for row in rows if row[0] == "code"]

@@ -14,8 +14,12 @@ PAGE = TOP / "docs" / "WRONG-BODIES.md"
 
 # What the changed code would do. An edit that has no line here is shown by its name alone.
 WOULD = {
+    "a_requirement_asked_on_its_first_slice_alone": "a requirement that fails later would be told as kept",
+    "idle_that_is_not_told": "a requirement about cars that there are none of would be told as kept",
+    "a_run_joined_over_days_that_differ": "days on which a requirement is kept would be told as days on which it fails",
     "a_chosen_code_left_out": "what can still be chosen would be told of cars that lack a chosen code",
-    "forced_told_as_excluded": "a code that every car that is left has would be told as one that none has",
+    "the_first_cars_values_told_as_forced": "a code would be told as forced or excluded by one car alone",
+    "none_left_where_the_search_was_left": "no car would be told to be left though the search for one was given up",
     "an_undecided_code_told_as_open": "a code would be told as open though the search for one of the two cars was given up",
     "each_open_code_comes": "a code would be told to come with the order though it isn't in the completed set",
     "passes_end_after_the_first": "codes would be added to an order that it doesn't need once others are gone",
@@ -37,6 +41,9 @@ WOULD = {
     "codes_of_one_book_left_free": "a car would be shown that one of the two books can't order",
     "another_part_is_the_same_position": "a position whose parts changed under the same formulas would count as the same, with no search",
     "the_first_book_compared_with_itself": "nothing would ever be told to change with the next book",
+    "days_joined_over_one_that_differs": "an order would be told to come to the same on days on which it comes to something else",
+    "told_beside_the_run_before": "after days on which an order is refused, all its codes would be told as if they had changed",
+    "judged_by_a_released_book": "what kept orders come to by a draft would be told of a book that is already released",
     "answers_in_another_order_by_two_workers": "what a kept order comes to would be told of another one where two workers judge",
     "judged_by_the_kept_book": "a kept order would be judged again by the book that it was accepted by, and so come out the same always",
     "a_start_from_another_store": "a desk would take up the rows of another store than the one that the words name",
@@ -82,12 +89,11 @@ WOULD = {
     "undecided_without_clauses": "a draft would be refused as undecided, and no question named",
     "a_book_written_before_the_growth": "a book could be in the store that the desk has no room for, so that the two differ",
     "a_repeated_order_under_the_newest_book": "an order that is sent again would be answered by another book than the one that accepted it",
-    "a_store_fault_made_up": "a want of memory would be told as a fault of the store, which had none",
+    "an_order_of_another_caller_listed": "a caller's list would go on with the orders of those whose names come after the caller's",
     "undecided_is_done": "a check that left questions open would end with the status of a book that can be released",
     "a_read_fault_of_a_desk_told_as_done": "a desk whose connection broke would end as if all were answered",
     "a_service_that_takes_no_link": "a service would end without having taken a connection, and tell what its store had at the start",
     "every_service_told_as_a_door_fault": "a service that has served all its connections would end as if its port had failed",
-    "every_desk_told_as_not_started": "a desk that served its callers would end as if it had not started",
 }
 
 HEAD = """# Wrong bodies that have to be refused

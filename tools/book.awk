@@ -3,6 +3,8 @@
 #
 #   LC_ALL=C awk -v mode=counts -f book.awk BOOK               sentences: the counts, and what looks wrong
 #   LC_ALL=C awk -v mode=size -f book.awk BOOK                 SLICES QUESTIONS, of a check of all slices together
+#   LC_ALL=C awk -v mode=size -v asked=prove -f book.awk BOOK  the same of `prove`, or of `supplements`
+#   LC_ALL=C awk -v mode=rows -f book.awk FILE                 how many records there are
 #   LC_ALL=C awk -v mode=row -v want=ROW -f book.awk BOOK      the line of this record, and then the record
 #   LC_ALL=C awk -v mode=fault -v fault='12 12 3 4' -f book.awk BOOK
 #                                                              sentences about `book fault 12 12 3 4`
@@ -64,6 +66,10 @@ function keep(kind, n) {
         what[dated] = kind
         name_of[dated] = kind == "variant" ? fields[3] : fields[2]
         mandatory[dated] = fields[4] == "mandatory"
+        if (kind == "supplement" && asked == "supplements") {
+            added[dated] = fields[4]
+            formula[dated] = fields[5]
+        }
     }
 }
 
@@ -175,6 +181,7 @@ END {
     if (state == 2 || state != 0 || field_count > 0) end_record()
     if (mode == "row") print_row()
     else if (mode == "size") print_size()
+    else if (mode == "rows") print rows + 0
     else if (mode == "fault") print_fault()
     else print_counts()
 }
@@ -251,17 +258,44 @@ function print_size(   i, day, days, slices, questions, f, u, count_days, d, per
     }
     for (d in day) {
         slices++
-        questions += 1 + 2 * count["code"]
+        if (asked == "supplements") {
+            questions += supplement_questions(d + 0)
+            continue
+        }
+        questions += 1
+        if (asked != "prove") questions += 2 * count["code"]
         for (k in per) delete per[k]
         for (i = 1; i <= dated; i++)
             if (what[i] == "variant" && from[i] <= d + 0 && d + 0 <= until[i]) per[name_of[i]]++
         for (i = 1; i <= dated; i++)
             if (what[i] == "position" && from[i] <= d + 0 && d + 0 <= until[i]) {
                 v = per[name_of[i]] + 0
-                questions += v + v * (v - 1) / 2 + mandatory[i]
+                questions += v * (v - 1) / 2 + mandatory[i]
+                if (asked != "prove") questions += v
             }
     }
     printf "%d %d\n", slices, questions
+}
+
+# Of a day: one for each active supplementing rule, and one for each two of other codes where the code of one stands in the formula
+# of the other.
+function supplement_questions(day,   i, j, w, n, m, n_th, words, asked_of, adding, seen, both) {
+    for (i = 1; i <= dated; i++)
+        if (what[i] == "supplement" && from[i] <= day && day <= until[i]) {
+            asked_of++
+            adding[added[i]] = adding[added[i]] " " i
+            n = split(formula[i], words, /[^A-Z0-9]+/)
+            for (w = 1; w <= n; w++) if (words[w] != "" && words[w] != added[i]) seen[i, words[w]]
+        }
+    for (w in seen) {
+        split(w, words, SUBSEP)
+        m = split(adding[words[2]], n_th, " ")
+        for (j = 1; j <= m; j++) {
+            asked_of++
+            if ((n_th[j], added[words[1]]) in seen) both++
+        }
+    }
+    return asked_of - both / 2
 }
 
 function where_it_is() { return "line " line_of[at] ": " }

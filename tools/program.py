@@ -52,7 +52,7 @@ def has_open(process, wanted):
 def is_desk_of(process, words, wanted):
     """Whether a process is a desk whose words name this store: a journal isn't open all the time."""
     for word, store in zip(words, words[1:]):
-        if word in ("desk", "serve", "rejudge") and "partsbook" in words[0]:
+        if word in ("desk", "serve", "rejudge", "impact") and "partsbook" in words[0]:
             at = os.stat(os.path.join(f"/proc/{process}/cwd", store))
             return (at.st_dev, at.st_ino) == (wanted.st_dev, wanted.st_ino)
     return False

@@ -1,0 +1,173 @@
+// The text of a book as records, for showing: docs/BOOK-FORMAT.md has the format. What follows from a book the desk says.
+
+import { el, name, text } from "/page/parts.js";
+
+// The fields of each record behind its first one.
+export const FIELDS = {
+  book: ["NAME", "FIRST", "LAST", "FORM"],
+  code: ["CODE", "TEXT"],
+  supplement: ["ID", "RANK", "CODE", "RULE", "FROM", "UNTIL"],
+  construct: ["ID", "CODE", "RULE", "FROM", "UNTIL"],
+  group: ["ID", "GROUPKIND", "CODES", "FROM", "UNTIL"],
+  module: ["ID", "TEXT"],
+  position: ["ID", "MODULE", "KIND", "FROM", "UNTIL"],
+  variant: ["ID", "POSITION", "PART", "QUANTITY", "RULE", "FROM", "UNTIL"],
+};
+
+// The field that begins at a place, and where it ends: at a comma, at a line end, or at the end of the text.
+function readField(whole, at) {
+  if (whole[at] !== '"') {
+    const end = endOfBare(whole, at);
+    return [whole.slice(at, end), end];
+  }
+  let field = "";
+  for (at += 1; ;) {
+    const quote = whole.indexOf('"', at);
+    if (quote < 0) return [field + whole.slice(at), whole.length];
+    field += whole.slice(at, quote);
+    if (whole[quote + 1] === '"') {
+      field += '"';
+      at = quote + 2;
+      continue;
+    }
+    const end = endOfBare(whole, quote + 1);
+    return [field + whole.slice(quote + 1, end), end];
+  }
+}
+
+function endOfBare(whole, at) {
+  const bare = /[^,\r\n]*/y;
+  bare.lastIndex = at;
+  bare.test(whole);
+  return bare.lastIndex;
+}
+
+// The records, each with its fields and the very text that it has in the book, and what stands before the first one.
+export function readRecords(whole) {
+  const records = [];
+  let at = whole[0] === "\ufeff" ? 1 : 0;
+  let before = null;
+  while (at < whole.length) {
+    const begin = at;
+    const fields = [];
+    let more = !"\r\n".includes(whole[at]);
+    if (more) before ??= begin;
+    while (more) {
+      const [field, end] = readField(whole, at);
+      fields.push(field);
+      more = whole[end] === ",";
+      at = more ? end + 1 : end;
+    }
+    if (whole[at] === "\r" && whole[at + 1] === "\n") at += 2;
+    else if (at < whole.length) at += 1;
+    if (fields.length > 0) records.push({ fields, raw: whole.slice(begin, at) });
+    else if (records.length > 0) records.at(-1).raw += whole.slice(begin, at);
+  }
+  return { records, before: whole.slice(0, before ?? whole.length) };
+}
+
+// A record as a line of a book.
+export function writeRecord(fields) {
+  const line = fields.map((field) => (/[",\r\n]/.test(field) ? `"${field.replaceAll('"', '""')}"` : field)).join(",");
+  return `${line === "" ? '""' : line}\n`;
+}
+
+export class Book {
+  constructor(whole) {
+    this.records = readRecords(whole).records.map((record) => record.fields);
+    this.of = new Map();
+    for (const fields of this.records) {
+      const key = `${this.shelf(fields[0])} ${fields[1]}`;
+      if (!this.of.has(key)) this.of.set(key, fields);
+    }
+    const [, title, first, last] = this.records[0] ?? [];
+    Object.assign(this, { title, first: +first, last: +last });
+    this.codes = this.records.filter((fields) => fields[0] === "code").map((fields) => fields[1]);
+  }
+
+  // Rules of all kinds share their names.
+  shelf(kind) {
+    return kind === "supplement" || kind === "construct" || kind === "group" ? "rule" : kind;
+  }
+
+  textOf(kind, id) {
+    return this.of.get(`${kind} ${id}`)?.[2] ?? "";
+  }
+
+  field(fields, wanted) {
+    return fields[FIELDS[fields[0]].indexOf(wanted) + 1] ?? "";
+  }
+
+  // The groups that count on a day, each with those of its codes that no earlier one has; and the codes that are in none.
+  groupsOn(day) {
+    const seen = new Set();
+    const groups = [];
+    for (const fields of this.records) {
+      if (fields[0] !== "group") continue;
+      const from = this.field(fields, "FROM");
+      const until = this.field(fields, "UNTIL");
+      if ((from !== "" && day < +from) || (until !== "" && day > +until)) continue;
+      const codes = fields[3].split("/").filter((code) => !seen.has(code));
+      codes.forEach((code) => seen.add(code));
+      if (codes.length > 0) groups.push({ id: fields[1], kind: fields[2], codes });
+    }
+    return { groups, rest: this.codes.filter((code) => !seen.has(code)) };
+  }
+
+  // A code with its text.
+  code(code) {
+    const said = this.textOf("code", code);
+    return el("span", { class: "code" }, name(code), said === "" ? null : " ", said === "" ? null : text(said));
+  }
+
+  // A rule in words; or of a supplementing rule only when it adds its code.
+  rule(id, when = false) {
+    const fields = this.of.get(`rule ${id}`);
+    if (fields === undefined) return el("span", null, name(id));
+    return el("span", { class: "rule" }, when ? whenWords(this.field(fields, "RULE")) : this.ruleWords(fields), " ",
+      el("span", { class: "id" }, `(rule ${id}${this.ruleDays(fields)})`));
+  }
+
+  ruleWords(fields) {
+    const formula = this.field(fields, "RULE");
+    if (fields[0] === "group") return `${fields[2] === "one" ? "exactly one of" : "at most one of"} ${fields[3].replaceAll("/", ", ")}`;
+    if (fields[0] === "supplement") return `${fields[3]} comes along ${whenWords(formula)}`;
+    if (/^\s*FALSE\s*;?\s*$/.test(formula)) return fields[2] === "*" ? "nothing can be ordered" : `${fields[2]} can't be ordered`;
+    return fields[2] === "*" ? `every car needs ${inWords(formula)}` : `${fields[2]} needs ${inWords(formula)}`;
+  }
+
+  ruleDays(fields) {
+    const from = this.field(fields, "FROM");
+    const until = this.field(fields, "UNTIL");
+    return `${from === "" ? "" : `, from day ${+from}`}${until === "" ? "" : `, until day ${+until}`}`;
+  }
+}
+
+function whenWords(formula) {
+  return /^\s*TRUE\s*;?\s*$/.test(formula) ? "always" : `with ${inWords(formula)}`;
+}
+
+// A formula with words for its signs; brackets stay.
+function inWords(formula) {
+  return formula.replace(/;\s*$/, "").replaceAll("/", " or ").replaceAll("+", " and ").replaceAll("-", "no ").replace(/\s+/g, " ").trim();
+}
+
+// A date as 2027-02-09, or as 09.02.2027, in the form of a field for dates; or else null.
+function dateOf(words) {
+  if (/^\d{4}-\d\d-\d\d$/.test(words)) return words;
+  const [, day, month, year] = /^(\d{1,2})\.(\d{1,2})\.(\d{4})$/.exec(words) ?? [];
+  return year === undefined ? null : `${year}-${month.padStart(2, "0")}-${day.padStart(2, "0")}`;
+}
+
+// A table of production days with rows DATE,DAY, as tools/from-sheet reads it.
+export function readDays(whole) {
+  const byDate = new Map();
+  const byDay = new Map();
+  for (const { fields } of readRecords(whole).records) {
+    const date = dateOf(fields[0].trim());
+    if (date === null || !/^\s*\d{1,5}\s*$/.test(fields[1] ?? "")) continue;
+    byDate.set(date, +fields[1]);
+    if (!byDay.has(+fields[1])) byDay.set(+fields[1], date);
+  }
+  return { byDate, byDay };
+}

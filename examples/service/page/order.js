@@ -1,0 +1,393 @@
+// Choosing and placing an order, and the caller's own orders. The state of each code is what the desk says of it.
+
+import { ask, lastNumber, readBooks, readFree, readOrder, readOrders, readWhy, trouble } from "/page/desk.js";
+import { Book, readDays } from "/page/book.js";
+import { button, days, el, name, put, say, text, working } from "/page/parts.js";
+
+const SHOWN = { ordered: "ordered", excluded: "not possible", comes: "comes by itself", left: "undecided", open: "" };
+
+// What is being ordered, and what the desk said of it last.
+const now = { books: [], number: null, book: null, day: null, codes: [], free: null, why: null, asked: 0, placed: null, wanted: null };
+const texts = new Map();
+const options = new Map();
+const place = {};
+let table = { byDate: new Map(), byDay: new Map() };
+
+export async function start() {
+  const said = await ask("GET", "/page/days.csv");
+  if (said.good) table = readDays(said.text);
+  frame();
+  await loadBooks();
+}
+
+function frame() {
+  place.book = el("select", { id: "book", onchange: () => chooseBook(+place.book.value) });
+  place.day = el("input", { id: "day", inputmode: "numeric", autocomplete: "off", maxlength: 5, size: 6, "aria-describedby": "term", onchange: () => chooseDay(place.day.value) });
+  place.date = el("input", { id: "date", type: "date", onchange: () => chooseDate(place.date.value) });
+  place.term = el("span", { id: "term", class: "soft" });
+  place.choices = el("div", { class: "choices" });
+  place.order = el("div", { class: "card summary", id: "summary", tabindex: -1, "aria-labelledby": "summary-title" });
+  place.bar = el("div", { class: "bar" });
+  put(document.getElementById("order"),
+    el("h1", { id: "order-title" }, "Order a car"),
+    el("div", { class: "fields" },
+      el("p", null, el("label", { for: "book" }, "Book"), place.book),
+      el("p", null, el("label", { for: "day" }, "Production day"), place.day, place.term),
+      table.byDate.size > 0 ? el("p", null, el("label", { for: "date" }, "or its date"), place.date) : null),
+    el("div", { class: "columns" }, place.choices, el("aside", { "aria-label": "The order" }, place.order)),
+    place.bar);
+}
+
+async function loadBooks() {
+  const answer = await ask("GET", "/books");
+  if (!answer.good) return say(trouble(answer), true);
+  now.books = readBooks(answer).filter((book) => !book.withdrawn).reverse();
+  put(place.book, now.books.map((book) => el("option", { value: book.number }, `${book.title}, ${days(book.first, book.last)} (book ${book.number})`)));
+  if (now.books.length === 0) return put(place.choices, el("p", null, "No book is in force: an engineer has to release one."));
+  return chooseBook(now.books[0].number);
+}
+
+async function bookOf(number) {
+  if (!texts.has(number)) {
+    const answer = await ask("GET", `/books/${number}`);
+    if (!answer.good) {
+      say(trouble(answer), true);
+      return null;
+    }
+    texts.set(number, new Book(answer.text));
+  }
+  return texts.get(number);
+}
+
+async function chooseBook(number) {
+  const book = await bookOf(number);
+  if (book === null || +place.book.value !== number) return;
+  Object.assign(now, { number, book, placed: null });
+  now.codes = now.codes.filter((code) => book.codes.includes(code));
+  put(place.term, `${book.first} to ${book.last}`);
+  await chooseDay(now.day !== null && now.day >= book.first && now.day <= book.last ? now.day : book.first);
+}
+
+async function chooseDay(word) {
+  if (!/^\d{1,5}$/.test(String(word).trim())) {
+    place.day.setAttribute("aria-invalid", "true");
+    return say("A production day is a number of one to five digits.", true);
+  }
+  place.day.removeAttribute("aria-invalid");
+  now.day = +word;
+  now.placed = null;
+  place.day.value = now.day;
+  place.date.value = table.byDay.get(now.day) ?? "";
+  drawChoices();
+  return refresh();
+}
+
+function chooseDate(date) {
+  const day = table.byDate.get(date);
+  if (day === undefined) return say("The table of production days doesn't have this date.", true);
+  return chooseDay(day);
+}
+
+// Asks the desk about the order as it stands. An answer that comes after a later question is left aside.
+async function refresh(said = "") {
+  const asked = (now.asked += 1);
+  const body = { day: now.day, codes: now.codes };
+  const [free, why] = await Promise.all([ask("POST", `/books/${now.number}/free`, body), ask("POST", `/books/${now.number}/why`, body)]);
+  if (asked !== now.asked) return;
+  const bad = [free, why].find((answer) => !answer.good);
+  if (bad) {
+    now.free = now.why = null;
+    say(trouble(bad), true);
+  } else {
+    now.free = readFree(free);
+    now.why = readWhy(why);
+    say(said, false, true);
+  }
+  drawStates();
+  await drawOrder();
+}
+
+function change(codes, said) {
+  now.codes = codes;
+  now.placed = null;
+  return refresh(said);
+}
+
+// The choices: a box for each group, in two columns of about as many codes, and one for the codes that are in none.
+
+function drawChoices() {
+  const { groups, rest } = now.book.groupsOn(now.day);
+  options.clear();
+  const halves = [[], []];
+  let before = 0;
+  for (const group of groups) {
+    const title = el("span", null, group.kind === "one" ? "Exactly one" : "At most one", " ", el("span", { class: "id" }, group.id));
+    halves[before * 2 < now.book.codes.length - rest.length ? 0 : 1].push(choice(group.codes, "", title));
+    before += group.codes.length;
+  }
+  put(place.choices, halves.map((half) => (half.length > 0 ? el("div", { class: "half" }, half) : null)),
+    rest.length > 0 ? choice(rest, "rest", groups.length > 0 ? "Further codes" : "Codes") : null);
+}
+
+function choice(codes, kind, title) {
+  return el("fieldset", { class: `card ${kind}`, onkeydown: walk }, el("legend", null, title), el("ul", { class: "options" }, codes.map(option)));
+}
+
+function option(code) {
+  const id = `code-${code}`;
+  const box = el("input", { type: "checkbox", id, "aria-describedby": `${id}-state`, onclick: (event) => clicked(event, code) });
+  const state = el("span", { class: "state", id: `${id}-state` });
+  const reason = el("div", { class: "reason", hidden: true });
+  const row = el("li", { class: "option" }, box, el("label", { for: id }, now.book.code(code)), state, reason);
+  options.set(code, { box, state, reason, row });
+  return row;
+}
+
+// Arrow keys go from code to code.
+function walk(event) {
+  const step = { ArrowDown: 1, ArrowUp: -1 }[event.key];
+  if (step === undefined || event.target.type !== "checkbox") return;
+  event.preventDefault();
+  const boxes = [...place.choices.querySelectorAll("input[type=checkbox]")];
+  boxes[boxes.indexOf(event.target) + step]?.focus();
+}
+
+function stateOf(code) {
+  if (now.codes.includes(code)) return "ordered";
+  return now.free?.states.get(code) ?? "unknown";
+}
+
+function wordOf(code, state) {
+  if (state === "forced") return now.why.adds.has(code) ? "comes along" : "needed";
+  return SHOWN[state] ?? "";
+}
+
+function drawStates() {
+  for (const [code, { box, state, reason, row }] of options) {
+    const it = stateOf(code);
+    row.dataset.state = it;
+    box.checked = it === "ordered" || it === "forced";
+    box.setAttribute("aria-disabled", it === "forced" || it === "excluded" ? "true" : "false");
+    put(state, wordOf(code, it));
+    reason.hidden = true;
+    put(reason);
+  }
+}
+
+function clicked(event, code) {
+  const state = stateOf(code);
+  if (state === "ordered") return change(now.codes.filter((other) => other !== code), `${code} is left out.`);
+  if (state === "forced" || state === "excluded") {
+    event.preventDefault();
+    return state === "forced" ? showForced(code) : showExcluded(code);
+  }
+  return change([...now.codes, code], `${code} is ordered.`);
+}
+
+function showReason(code, ...children) {
+  for (const [other, { reason }] of options) {
+    reason.hidden = other !== code;
+    put(reason, other === code ? children : []);
+  }
+  say(options.get(code).reason.textContent, false, true);
+}
+
+function showForced(code) {
+  const rule = now.why.adds.get(code);
+  if (rule !== undefined) return showReason(code, el("p", null, "It comes along ", now.book.rule(rule, true), "."));
+  return showReason(code,
+    el("p", null, "Every car that is left has it, and it doesn't come by itself. Without it: ", outcome(now.why.outcome), "."),
+    button(`Order ${code}`, () => take([...now.codes, code], `${code} is ordered.`, code)));
+}
+
+// The desk is asked with this code first, so that it says which of the others have to go.
+async function showExcluded(code) {
+  const answer = await ask("POST", `/books/${now.number}/why`, { day: now.day, codes: [code, ...now.codes] });
+  if (!answer.good) return say(trouble(answer), true);
+  const why = readWhy(answer);
+  const kept = now.codes.filter((other) => !why.leave.includes(other));
+  const group = now.book.groupsOn(now.day).groups.find((it) => it.codes.includes(code));
+  const possible = !why.leave.includes(code) && !why.noOrder && !why.undecided && why.leave.length > 0;
+  if (possible && group !== undefined && why.leave.every((other) => group.codes.includes(other))) {
+    return change([...kept, code], `${code} is ordered in place of ${why.leave.join(" and ")}.`);
+  }
+  return showReason(code, why.undecided ? el("p", null, "The desk couldn't decide why.") : clash(why, code),
+    possible ? el("p", null, "With it, ", list(why.leave, "and"), why.leave.length === 1 ? " has to go." : " have to go.") : null,
+    possible ? button(`Order ${code} without ${why.leave.join(", ")}`, () => take([...kept, code], `${code} is ordered, without ${why.leave.join(" and ")}.`, code)) : null);
+}
+
+// A change by a button that is gone afterwards: the focus goes back to the code.
+async function take(codes, said, code) {
+  options.get(code)?.box.focus();
+  await change(codes, said);
+}
+
+function list(codes, word) {
+  return codes.map((code, at) => [at === 0 ? null : at === codes.length - 1 ? ` ${word} ` : ", ", now.book.code(code)]);
+}
+
+// What can't be together, and by which rules.
+function clash(why, asked = null) {
+  if (why.noOrder) return el("p", null, "No car at all can be ordered on this day.");
+  if (why.clash === null) return null;
+  const others = why.clash.codes.filter((code) => code !== asked);
+  const together = asked === null ? [list(why.clash.codes, "and"), why.clash.codes.length === 1 ? " can't be had:" : " don't go together:"]
+    : others.length === 0 ? "It can't be had on this day:" : ["It doesn't go with ", list(others, "and"), ":"];
+  return [el("p", null, together), el("ul", { class: "rules" }, why.clash.entries.map((rule) => el("li", null, now.book.rule(rule))))];
+}
+
+function outcome(words) {
+  if (words[0] === "refused") return ["the order is refused, since ", now.book.rule(words[1])];
+  if (words[0] === "unfit") return [`the book gives ${words[2]} parts at `, name(words[1])];
+  return "the order is accepted";
+}
+
+// The order: what is in it, what comes by itself, what the desk says, placing.
+
+async function drawOrder() {
+  const number = place.number?.value ?? "";
+  const asked = now.asked;
+  const last = now.why?.outcome[0] === "accepted" && now.placed === null ? await placing(number) : now.placed;
+  if (asked !== now.asked) return;
+  put(place.order, el("h2", { id: "summary-title" }, "Your order"), codesPart(), now.placed === null ? verdict() : null, last, addedPart());
+  drawBar();
+}
+
+function codesPart() {
+  if (now.codes.length === 0) return el("p", { class: "soft" }, "Nothing is chosen yet.");
+  return el("ul", { class: "chosen" }, now.codes.map((code) => el("li", null, now.book.code(code),
+    button("×", () => dropped(code), { class: "close", "aria-label": `Leave ${code} out` }))));
+}
+
+async function dropped(code) {
+  await change(now.codes.filter((other) => other !== code), `${code} is left out.`);
+  place.order.focus();
+}
+
+function addedPart() {
+  if (now.why === null || now.why.adds.size === 0) return null;
+  return [el("h3", null, "Comes by itself"),
+    el("ul", { class: "chosen" }, [...now.why.adds].map(([code, rule]) => el("li", null, el("span", null, now.book.code(code), el("br"), el("small", { class: "soft" }, now.book.rule(rule, true))))))];
+}
+
+function verdict() {
+  const why = now.why;
+  if (why === null) return null;
+  if (why.outcome[0] === "accepted") return el("div", { class: "verdict ok" }, el("p", null, el("strong", null, "It can be placed."), " The desk accepts it as it stands."));
+  const kept = now.codes.filter((code) => !why.leave.includes(code));
+  const mend = why.leave.length > 0 || why.add.length > 0;
+  return el("div", { class: "verdict no" },
+    el("p", null, el("strong", null, "Not yet: "), outcome(why.outcome), "."),
+    clash(why),
+    why.undecided ? el("p", null, "The desk couldn't decide how it would be accepted.") : null,
+    why.leave.length > 0 ? el("p", null, "Leave out ", list(why.leave, "and"), ".") : null,
+    why.add.length > 0 ? el("p", null, why.leave.length > 0 ? "Then add " : "It would be accepted with ", list(why.add, "and"), "; others may do as well.") : null,
+    mend ? button(mendLabel(why), async () => {
+      await change([...kept, ...why.add], "The order is changed as the desk says.");
+      place.order.focus();
+    }) : null);
+}
+
+function mendLabel(why) {
+  const leave = why.leave.length > 0 ? `leave out ${why.leave.join(", ")}` : "";
+  const add = why.add.length > 0 ? `add ${why.add.join(", ")}` : "";
+  const whole = [leave, add].filter((part) => part !== "").join(" and ");
+  return whole[0].toUpperCase() + whole.slice(1);
+}
+
+async function placing(number) {
+  if (now.wanted === null) now.wanted = (await lastNumber()) + 1;
+  place.number = el("input", { id: "number", inputmode: "numeric", autocomplete: "off", maxlength: 9, size: 10, value: number || now.wanted });
+  const place_it = button("Place the order", () => working(place_it, "The desk places it", placeOrder), { class: "main" });
+  return el("div", { class: "placing" }, el("p", null, el("label", { for: "number" }, "Your number for it"), place.number), place_it);
+}
+
+async function placeOrder() {
+  const number = place.number.value.trim();
+  if (!/^[1-9]\d{0,8}$/.test(number)) return say("A number has one to nine digits, and doesn't begin with 0.", true);
+  const asked = now.asked;
+  const answer = await ask("PUT", `/orders/${number}`, { book: now.number, day: now.day, codes: now.codes });
+  if (answer.status === 409) now.wanted = null;
+  if (!answer.good) return say(trouble(answer), true);
+  now.wanted = +number + 1;
+  if (asked !== now.asked) return say(`Order ${number} is kept, as it was before you changed it here.`);
+  now.placed = el("div", { class: "verdict ok placed" }, el("h3", { tabindex: -1 }, `Order ${number} is kept`),
+    answer.status === 200 ? el("p", null, "It was placed before, and is kept once.") : null, shown(readOrder(answer), now.book),
+    button("Order another one like it", () => change(now.codes, "")), " ", button("Begin anew", () => change([], "")));
+  say("");
+  place.number = null;
+  await drawOrder();
+  now.placed.querySelector("h3").focus();
+}
+
+// The parts and the codes of an order that is kept.
+function shown(order, book) {
+  const modules = new Map();
+  for (const part of order.parts) modules.set(part.module, [...(modules.get(part.module) ?? []), part]);
+  return [
+    order.parts.length === 0 ? el("p", null, "It takes no parts.") : el("div", { class: "wide" }, el("table", { class: "partslist" }, el("caption", null, "Parts"),
+      el("thead", null, el("tr", null, ["Position", "Part", "Quantity"].map((word) => el("th", { scope: "col" }, word)))),
+      [...modules].map(([module, parts]) => el("tbody", null,
+        el("tr", null, el("th", { colspan: 3, scope: "rowgroup" }, module === "-" ? "Without a module" : [name(module), " ", text(book?.textOf("module", module) ?? "")])),
+        parts.map((part) => el("tr", null, el("td", null, name(part.position)), el("td", null, name(part.part)), el("td", { class: "number" }, part.quantity))))))),
+    el("h3", null, "Its codes"),
+    el("ul", { class: "chosen" }, order.codes.map((code) => el("li", null, book ? book.code(code) : name(code)))),
+  ];
+}
+
+// On a narrow window: what the order comes to, at the foot of it.
+function drawBar() {
+  const done = now.placed !== null;
+  const good = now.why?.outcome[0] === "accepted";
+  put(place.bar, el("span", { class: good ? "ok" : "no" }, done ? "Placed" : good ? "Can be placed" : "Not yet"),
+    el("span", { class: "soft" }, now.codes.length === 1 ? "1 code" : `${now.codes.length} codes`),
+    button("To the order", () => {
+      place.order.scrollIntoView({ block: "start" });
+      place.order.focus({ preventScroll: true });
+    }));
+}
+
+// The caller's own orders.
+
+const own = { last: 0, rows: null, more: null, one: null };
+
+export async function showOrders() {
+  own.rows = el("tbody");
+  own.more = button("Further orders", () => working(own.more, "Reading", listOrders));
+  own.one = el("div", { class: "card", tabindex: -1, hidden: true });
+  own.last = 0;
+  const asked = el("input", { id: "asked", inputmode: "numeric", autocomplete: "off", maxlength: 9, size: 10 });
+  put(document.getElementById("orders"), el("h1", { id: "orders-title" }, "My orders"),
+    el("form", { class: "fields", onsubmit: (event) => { event.preventDefault(); openOrder(asked.value.trim()); } },
+      el("p", null, el("label", { for: "asked" }, "Order number"), asked), el("p", null, el("button", { type: "submit" }, "Show it"))),
+    el("div", { class: "columns" },
+      el("div", { class: "wide" }, el("table", { class: "list" }, el("caption", null, "Orders by their numbers"),
+        el("thead", null, el("tr", null, ["Number", "Book", "Day", ""].map((word) => el("th", { scope: "col" }, word)))), own.rows), own.more),
+      el("aside", { "aria-label": "One order" }, own.one)));
+  await listOrders();
+}
+
+async function listOrders() {
+  const answer = await ask("GET", own.last === 0 ? "/orders" : `/orders/after/${own.last}`);
+  if (!answer.good) return say(trouble(answer), true);
+  const { orders, more } = readOrders(answer);
+  own.last = orders.at(-1)?.number ?? own.last;
+  own.rows.append(...orders.map((order) => el("tr", null, el("td", { class: "number" }, `${order.number}`), el("td", { class: "number" }, `${order.book}`),
+    el("td", { class: "number" }, `${order.day}`), el("td", null, button("Show", () => openOrder(order.number), { "aria-label": `Show order ${order.number}` })))));
+  own.more.hidden = !more;
+  if (own.rows.rows.length === 0) put(own.rows, el("tr", null, el("td", { colspan: 4, class: "soft" }, "You have placed none.")));
+}
+
+async function openOrder(number) {
+  if (!/^[1-9]\d{0,8}$/.test(String(number))) return say("A number has one to nine digits, and doesn't begin with 0.", true);
+  const answer = await ask("GET", `/orders/${number}`);
+  if (!answer.good) return say(trouble(answer), true);
+  const order = readOrder(answer);
+  const book = await bookOf(order.book);
+  say("");
+  own.one.hidden = false;
+  put(own.one, el("h2", null, `Order ${number}`),
+    el("p", null, `Book ${order.book}${book === null ? "" : ` (${book.title})`}, day ${order.day}${table.byDay.has(order.day) ? `, ${table.byDay.get(order.day)}` : ""}`),
+    shown(order, book));
+  own.one.focus();
+}
