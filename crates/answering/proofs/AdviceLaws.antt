@@ -1,5 +1,5 @@
 -- The text of a right answer is what is told of an order without a fault.
-use Rattle.std.proofs.Common.{◌≡◌, ℕ, List, None, Some, ◌⊎◌, inl, inr, refl, sym, subst}
+use Rattle.std.proofs.Common.{◌≡◌, ℕ, List, None, ◌⊎◌, inl, inr, sym, subst}
 use Rattle.book_model.specs.Contents.{Contents}
 use Rattle.parts_usage.specs.Fault.{order_fault}
 use Rattle.desk_words.specs.declared.order_words.OrderWords.{OrderWords}

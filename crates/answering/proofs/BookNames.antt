@@ -29,6 +29,7 @@ use Rattle.order_desk.specs.declared.event.Event.TheVariants.{PutDraft, GiveDraf
 use Rattle.order_desk.specs.declared.event.Reading.TheVariants as reading
 use Rattle.order_desk.specs.Tables.{Tables}
 use Rattle.order_desk.specs.Valid.{IsValid}
+use Rattle.order_desk.proofs.Growth.{reaches_grows}
 use Rattle.order_desk.proofs.StepValid.{reaches_valid}
 use Rattle.answering.specs.Answers.{IsAdvice, IsChecked, IsKeptBack, IsTold, IsToldAs, Telling, TellsFree, TellsWhy, advising, after_looking, after_placing, after_reading, by_accepted, by_fault, by_limits, by_outcome, by_reading, cert_shown, commits, course_of, either, placing, showing, text_shown, to_release, told_again}
 use Rattle.answering.specs.Course.{Course, asks, ends, ends_with, never, or_memory, says}
@@ -218,6 +219,8 @@ is_dealt call h said new valid answers =
     let led = leads call.caller call.what h said new answers in
     record {
       valid = reaches_valid h.state new.state led.later.reaches valid;
+      later = led.later;
+      grows = reaches_grows h.state new.state led.later.reaches;
       order = λ number order is left.
           places_order call.caller number order h said new valid left (subst (λ (w : What). course_of call.caller w h said new) is answers);
       book = led.names valid;

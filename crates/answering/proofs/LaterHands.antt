@@ -12,7 +12,7 @@ use Rattle.order_desk.specs.History.{Reaches}
 use Rattle.order_desk.specs.Step.{Step}
 use Rattle.order_desk.specs.Tables.{State}
 use Rattle.answering.specs.Hand.{Begins, Hand, Made, Stepped, Takes, with_made}
-use Rattle.answering.specs.LaterHand.{AddsSteps, IsLaterHand}
+use Rattle.answering.specs.LaterHand.{AddsSteps, IsLaterHand, seen_after}
 
 -- ---- histories
 
@@ -37,10 +37,14 @@ MadeOn book h new = MatchOption book (new.made ≡ h.made) (λ _. AddsSteps h ne
 
 made_same : (book : Option (Opened State)) (h : Hand) → MadeOn book h h
 made_same None h = refl
-made_same (Some book) h = ([], sym (append-nil h.made), omega arith)
+made_same (Some book) h = ([], sym (append-nil h.made), omega arith, refl)
 
 pub hand_same : (h : Hand) → IsLaterHand h h
 hand_same h = record { reaches = reaches_same h.state; left = omega arith; made = made_same h.book h; book = refl }
+
+seen_append : (s : State) (xs ys : List Made) → seen_after s (xs ++ ys) ≡ seen_after (seen_after s xs) ys
+seen_append s [] ys = refl
+seen_append s (x ∷ xs) ys = seen_append x.after xs ys
 
 made_twice : (book : Option (Opened State)) (h i j : Hand) → MadeOn book h i → MadeOn book i j → MadeOn book h j
 made_twice None h i j first second = second ∙ first
@@ -48,6 +52,7 @@ made_twice (Some book) h i j first second = (
   first.0 ++ second.0,
   second.1 ∙ ap (λ (l : List Made). l ++ second.0) first.1 ∙ append_assoc h.made first.0 second.0,
   (let a = first.2 in let b = second.2 in omega (arith, length-append first.0 second.0)),
+  second.3 ∙ ap (λ (s : State). seen_after s second.0) first.3 ∙ sym (seen_append h.state first.0 second.0),
 )
 
 pub hand_twice : (h i j : Hand) → IsLaterHand h i → IsLaterHand i j → IsLaterHand h j
@@ -62,15 +67,16 @@ pub begins_reached : (book : Option (Opened State)) (seen first : State) → Beg
 begins_reached None seen first same = subst (λ (s : State). Reaches seen s) (sym same) (reaches_same seen)
 begins_reached (Some book) seen first reached = reached
 
-made_one : (book : Option (Opened State)) (h new : Hand) (one : Made) → new.made ≡ with_made book h.made one → h.left ≡ new.left + 1 → MadeOn book h new
-made_one None h new one made left = made
-made_one (Some book) h new one made left = (one ∷ [], made, omega arith)
+made_one : (book : Option (Opened State)) (h new : Hand) (one : Made) → new.made ≡ with_made book h.made one → h.left ≡ new.left + 1
+    → new.state ≡ one.after → MadeOn book h new
+made_one None h new one made left last = made
+made_one (Some book) h new one made left last = (one ∷ [], made, omega arith, last)
 
 pub hand_stepped : (h : Hand) (e : Event) (a : Answer) (new : Hand) → Stepped h e a new → IsLaterHand h new
 hand_stepped h e a new s = record {
   reaches = reaches_twice h.state s.first new.state (begins_reached h.book h.state s.first s.begins) (reaches_step s.first new.state e a s.fits s.step);
   left = let less = s.left in omega arith;
-  made = made_one h.book h new (record { event = e; answer = a }) s.made s.left;
+  made = made_one h.book h new (record { before = s.first; event = e; answer = a; after = new.state }) s.made s.left refl;
   book = s.book;
 }
 

@@ -3,7 +3,9 @@ mod TableLaws
 pub mod LaterHands
 pub mod Seats
 mod NewOrders
-mod EventNames
+mod Repeats
+pub mod EventNames
 pub mod BookNames
 pub mod CheckedLaws
 mod AdviceLaws
+pub mod WorkedOrders

@@ -1,5 +1,5 @@
--- A new order is accepted exactly where it can be built.
-use Rattle.std.proofs.Common.{◌≡◌, ◌≢◌, ◌∙◌, ◌⊎◌, ℕ, ◌≤◌, ◌-◌, zero, suc, Bool, true, false, List, [], ◌∷◌, Option, None, Some, Ok, Err, Result, refl, sym, ap, subst, arith, inl, inr}
+-- A new order is accepted exactly where it can be built, and one whose number is taken changes nothing.
+use Rattle.std.proofs.Common.{◌≡◌, ◌∙◌, ◌⊎◌, ℕ, ◌≤◌, ◌-◌, zero, suc, Bool, true, false, List, [], ◌∷◌, Option, None, Some, Ok, Err, Result, refl, sym, ap, subst, arith, inl, inr}
 use Rattle.std.specs.Prelude.{length, nat_lt, ok_or, slice_get, if◌then◌else◌}
 use Rattle.std.specs.List.{AllByRecursion}
 use Rattle.std.proofs.lemmas.Bool.{lt-ltb}
@@ -37,12 +37,13 @@ use Rattle.order_desk.proofs.StepValid.{reaches_valid}
 use Rattle.answering.specs.Answers.{after_looking, after_placing, by_accepted, by_outcome, ordering, placing}
 use Rattle.answering.specs.Course.{ends_with, or_memory}
 use Rattle.answering.specs.Hand.{Begins, Hand, Stepped}
-use Rattle.answering.specs.Headline.{AcceptsExactly, IsAccepted, IsNewOrder, IsUnwritten, PlacesOrder, WantsMemory, list_text}
+use Rattle.answering.specs.Headline.{AcceptsExactly, IsAccepted, IsKeptList, IsNewOrder, IsNumberUsed, IsRepeated, IsToldAgain, IsUnwritten, IsUsedFor, OrderComes, PlacesOrder, WantsMemory, list_text}
 use Rattle.answering.specs.Told.{IsBookThere, as_looked, as_placed}
 use Rattle.answering.specs.declared.asked.KeptOrder.{KeptOrder}
 use Rattle.answering.specs.declared.asked.Looked.{Looked}
 use Rattle.answering.specs.declared.asked.Looked.TheVariants.{Free, Kept}
 use Rattle.answering.proofs.LaterHands.{begins_reached, hand_same, hand_stepped}
+use Rattle.answering.proofs.Repeats.{follows_said, follows_shown, kept_list, look_says_used, look_shows_kept, place_says_used, place_shows_kept, told_list}
 use Rattle.answering.proofs.ToldLaws.{tells_taken}
 
 -- ---- books in valid tables
@@ -114,16 +115,17 @@ placing_ends text None h said new is = is.1
 placing_ends text (Some k) h said new is =
     again_ends (outcome_of k.book.book k.order.day k.order.codes) k.book.book (reply.Placed false) h said new is
 
--- what is replied behind the last event, where that was the first order of its number
+-- what is replied behind the last event
 abbrev Replied : List ℕ → Answer → Reply → Type 0
 Replied text (answer.Say r) said = said ≡ r
 Replied text answer.Placed said = said ≡ reply.Placed true text
+Replied text (answer.Kept order r) said = IsKeptList r.book order said
 Replied text _ said = Unit {0}
 
 replied : (text : List ℕ) (o : Option KeptOrder) (h : Hand) (said : Reply) (new : Hand) → after_placing text o h said new
     → Replied text (as_placed o) said
 replied text None h said new is = is.0
-replied text (Some k) h said new is = tt
+replied text (Some k) h said new is = told_list k h said new is
 
 -- ---- the call of an order
 
@@ -165,8 +167,7 @@ module _ (caller : List ℕ) (number : ℕ) (order : OrderWords) where
     valid_first : IsValid h.state.tables → IsValid s.first.tables
     valid_first valid = reaches_valid h.state s.first (begins_reached h.book h.state s.first s.begins) valid
 
-    ended : (said : Reply) → ((b : KeptBook) → IsNewOrder s.first.tables caller number order b → Comes s.first b.released.book said mid.state)
-        → PlacesOrder h caller number order said mid
+    ended : (said : Reply) → OrderComes s.first caller number order said mid.state → PlacesOrder h caller number order said mid
     ended said so = inr (
       record {
         between = h;
@@ -181,17 +182,55 @@ module _ (caller : List ℕ) (number : ℕ) (order : OrderWords) where
     )
 
     no_memory : (said : Reply) → IsValid h.state.tables → said ≡ reply.Memory → PlacesOrder h caller number order said mid
-    no_memory said valid is = ended said (λ b fresh.
-        wanting s.first b said mid.state (is_release s.first.tables order.book b (valid_first valid) fresh.there) fresh.formed
-        (record { told = is; unchanged = ap (λ k. k.tables) same_state }))
+    no_memory said valid is = ended said (record {
+      fresh = λ b fresh.
+          wanting s.first b said mid.state (is_release s.first.tables order.book b (valid_first valid) fresh.there) fresh.formed
+          (record { told = is; unchanged = ap (λ k. k.tables) same_state });
+      repeated = λ b again. record { told = inr is; unchanged = same_state };
+      used = λ kept used. record { told = inr is; unchanged = same_state };
+    })
 
-    -- the look of a new order answers nothing else
-    not_new : (said : Reply) → (a ≢ answer.Say reply.Memory) → ((b : KeptBook) → a ≢ answer.Book b.released) → PlacesOrder h caller number order said mid
-    not_new said not_memory not_book = ended said (λ b fresh.
-        elim ((look_tells s.first.tables caller number order b fresh s.first refl a mid.state s.step).0) [
-          | inl is ↦ absurd (not_book b is)
-          | inr is ↦ absurd (not_memory is)
-        ])
+    looks_again : (b : KeptBook) → IsRepeated s.first.tables caller number order b → IsOrMemory (answer.Kept order b.released) a
+    looks_again b again =
+        (follows_shown (look s.first.tables caller number order) (answer.Kept order b.released) s.first a mid.state
+        (look_shows_kept s.first.tables caller number order b again) s.step).0
+
+    looks_used : (kept : OrderWords) → IsUsedFor s.first.tables caller number order kept → a ≡ answer.Say (reply.NumberUsed kept.book)
+    looks_used kept used =
+        (follows_said (look s.first.tables caller number order) (answer.Say (reply.NumberUsed kept.book)) s.first a mid.state
+        (look_says_used s.first.tables caller number order kept used) s.step).0
+
+  -- the look found a kept order
+  found_kept : (h : Hand) (k : KeptOrder) (mid : Hand) (s : Stepped h (Read (Look caller number order)) (answer.Kept k.order k.book) mid)
+      (said : Reply) → IsKeptList k.book.book k.order said → PlacesOrder h caller number order said mid
+  found_kept h k mid s said is =
+      ended h (answer.Kept k.order k.book) mid s said (record {
+        fresh = λ b fresh. elim ((look_tells s.first.tables caller number order b fresh s.first refl (answer.Kept k.order k.book) mid.state s.step).0) [
+          | inl other ↦ absurd (cc)
+          | inr other ↦ absurd (cc)
+        ];
+        repeated = λ b again. record {
+          told = elim (looks_again h (answer.Kept k.order k.book) mid s b again) [
+            | inl same ↦ kept_list k order b.released said same is
+            | inr other ↦ absurd (cc)
+          ];
+          unchanged = same_state h (answer.Kept k.order k.book) mid s;
+        };
+        used = λ kept used. let other = looks_used h (answer.Kept k.order k.book) mid s kept used in absurd (cc);
+      })
+
+  -- the look found a book, so no order is kept
+  free_comes : (h : Hand) (r : Release) (mid : Hand) (s : Stepped h (Read (Look caller number order)) (answer.Book r) mid) (said : Reply)
+      → ((b : KeptBook) → IsNewOrder s.first.tables caller number order b → Comes s.first b.released.book said mid.state)
+      → PlacesOrder h caller number order said mid
+  free_comes h r mid s said fresh = ended h (answer.Book r) mid s said (record {
+    fresh = fresh;
+    repeated = λ b again. elim (looks_again h (answer.Book r) mid s b again) [
+      | inl other ↦ absurd (cc)
+      | inr other ↦ absurd (cc)
+    ];
+    used = λ kept used. let other = looks_used h (answer.Book r) mid s kept used in absurd (cc);
+  })
 
   same_release : (r : Release) (b : KeptBook) → IsOrMemory (answer.Book b.released) (answer.Book r) → r ≡ b.released
   same_release r b (inl is) = cc
@@ -211,7 +250,7 @@ module _ (caller : List ℕ) (number : ℕ) (order : OrderWords) where
 
     refuses : (said : Reply) (rule : ℕ) → outcome_of r.book order.day order.codes ≡ Ok (outcome.Refused rule)
         → said ≡ (reply.Refused (construct_id r.book rule)) → PlacesOrder h caller number order said mid
-    refuses said rule is told = ended h (answer.Book r) mid s said (λ b fresh. record {
+    refuses said rule is told = free_comes h r mid s said (λ b fresh. record {
       built = λ can. let no_ = other_outcome b.released (Ok (outcome.Refused rule)) (released b fresh) fresh.formed (comes_to b fresh _ is) can in absurd (cc);
       unbuilt = λ cannot.
           let turned = turned_away b.released order.day order.codes (released b fresh) fresh.formed cannot in
@@ -231,7 +270,7 @@ module _ (caller : List ℕ) (number : ℕ) (order : OrderWords) where
         refused_same k n is = cc
 
     faulty : (said : Reply) (fault : OrderFault) → outcome_of r.book order.day order.codes ≡ Err fault → PlacesOrder h caller number order said mid
-    faulty said fault is = ended h (answer.Book r) mid s said (λ b fresh. record {
+    faulty said fault is = free_comes h r mid s said (λ b fresh. record {
       built = λ can. let no_ = other_outcome b.released (Err fault) (released b fresh) fresh.formed (comes_to b fresh _ is) can in absurd (cc);
       unbuilt = λ cannot. let no_ = refused_outcome b.released (Err fault) (released b fresh) fresh.formed (comes_to b fresh _ is) cannot in absurd (cc);
       one_list = λ can. let no_ = other_outcome b.released (Err fault) (released b fresh) fresh.formed (comes_to b fresh _ is) can in absurd (cc);
@@ -306,6 +345,26 @@ module _ (caller : List ℕ) (number : ℕ) (order : OrderWords) where
                 unchanged = unkept.unchanged;
               })
 
+      again_placed : (b : KeptBook) → IsRepeated p.first.tables caller number order b → (said : Reply)
+          → Replied (accepted_text r.book set list) a said → IsToldAgain p.first order b.released.book said late.state
+      again_placed b again said rest =
+          let came = follows_shown (place p.first.tables caller number order) (answer.Kept order b.released) p.first a late.state
+          (place_shows_kept p.first.tables caller number order b again) p.step in
+          record {
+            told = elim came.0 [
+              | inl kept ↦ subst (λ given. Replied (accepted_text r.book set list) given said) kept rest
+              | inr memory ↦ inr (subst (λ given. Replied (accepted_text r.book set list) given said) memory rest)
+            ];
+            unchanged = came.1;
+          }
+
+      used_placed : (kept : OrderWords) → IsUsedFor p.first.tables caller number order kept → (said : Reply)
+          → Replied (accepted_text r.book set list) a said → IsNumberUsed p.first kept said late.state
+      used_placed kept used said rest =
+          let came = follows_said (place p.first.tables caller number order) (answer.Say (reply.NumberUsed kept.book)) p.first a late.state
+          (place_says_used p.first.tables caller number order kept used) p.step in
+          record { told = inl (subst (λ given. Replied (accepted_text r.book set list) given said) came.0 rest); unchanged = came.1 }
+
       placed : (said : Reply) → Replied (accepted_text r.book set list) a said → PlacesOrder h caller number order said late
       placed said rest = inr (
         record {
@@ -319,11 +378,15 @@ module _ (caller : List ℕ) (number : ℕ) (order : OrderWords) where
               subst (λ b. Begins b mid.state p.first) (s.book ∙ alone) p.begins
               ∙ same_state h (answer.Book r) mid s ∙ begun h (answer.Book r) mid s alone;
         },
-        λ b fresh. record {
-          built = λ can. ends_so b fresh said can rest;
-          unbuilt = λ cannot.
-              let no_ = refused_outcome b.released (Ok (outcome.Accepted set list)) (release_there b fresh) fresh.formed (outcome_there b fresh) cannot in absurd (cc);
-          one_list = λ can. (built b.released order.day order.codes (release_there b fresh) fresh.formed can).one_list;
+        record {
+          fresh = λ b fresh. record {
+            built = λ can. ends_so b fresh said can rest;
+            unbuilt = λ cannot.
+                let no_ = refused_outcome b.released (Ok (outcome.Accepted set list)) (release_there b fresh) fresh.formed (outcome_there b fresh) cannot in absurd (cc);
+            one_list = λ can. (built b.released order.day order.codes (release_there b fresh) fresh.formed can).one_list;
+          };
+          repeated = λ b again. again_placed b again said rest;
+          used = λ kept used. used_placed kept used said rest;
         },
       )
 
@@ -344,14 +407,24 @@ module _ (caller : List ℕ) (number : ℕ) (order : OrderWords) where
   look_said : (h : Hand) → IsValid h.state.tables → (said : Reply) (new : Hand) → Stepped h (Read (Look caller number order)) (answer.Say said) new
       → PlacesOrder h caller number order said new
   look_said h valid said new s =
-      ended h (answer.Say said) new s said (λ b fresh.
-      elim ((look_tells s.first.tables caller number order b fresh s.first refl (answer.Say said) new.state s.step).0) [
-        | inl is ↦ absurd (cc)
-        | inr is ↦
-            let memory : said ≡ reply.Memory = cc in
-            wanting s.first b said new.state (is_release s.first.tables order.book b (valid_first h (answer.Say said) new s valid) fresh.there) fresh.formed
-            (record { told = memory; unchanged = ap (λ k. k.tables) (same_state h (answer.Say said) new s) })
-      ])
+      let same = same_state h (answer.Say said) new s in
+      ended h (answer.Say said) new s said (record {
+        fresh = λ b fresh. elim ((look_tells s.first.tables caller number order b fresh s.first refl (answer.Say said) new.state s.step).0) [
+          | inl is ↦ absurd (cc)
+          | inr is ↦
+              let memory : said ≡ reply.Memory = cc in
+              wanting s.first b said new.state (is_release s.first.tables order.book b (valid_first h (answer.Say said) new s valid) fresh.there) fresh.formed
+              (record { told = memory; unchanged = ap (λ k. k.tables) same })
+        ];
+        repeated = λ b again. elim (looks_again h (answer.Say said) new s b again) [
+          | inl is ↦ absurd (cc)
+          | inr is ↦ let memory : said ≡ reply.Memory = cc in record { told = inr memory; unchanged = same }
+        ];
+        used = λ kept used.
+            let is = looks_used h (answer.Say said) new s kept used in
+            let named : said ≡ reply.NumberUsed kept.book = cc in
+            record { told = inl named; unchanged = same };
+      })
 
   after_look : (h : Hand) → IsValid h.state.tables → 2 ≤ h.left → (l : Looked) (mid : Hand)
       → Stepped h (Read (Look caller number order)) (as_looked l) mid → (said : Reply) (new : Hand)
@@ -359,7 +432,7 @@ module _ (caller : List ℕ) (number : ℕ) (order : OrderWords) where
   after_look h valid left (Kept k) mid s said new ends =
       subst (λ (n : Hand). PlacesOrder h caller number order said n)
       (sym (again_ends (outcome_of k.book.book k.order.day k.order.codes) k.book.book (reply.Placed false) mid said new ends))
-      (not_new h (answer.Kept k.order k.book) mid s said (λ is. cc) (λ b is. cc))
+      (found_kept h k mid s said (told_list k mid said new ends))
   after_look h valid left (Free r) mid s said new (inl memory) =
       subst (λ (k : Hand). PlacesOrder h caller number order said k) (sym memory.1) (no_memory h (answer.Book r) mid s said valid memory.0)
   after_look h valid left (Free r) mid s said new (inr goes) =
@@ -375,14 +448,15 @@ module _ (caller : List ℕ) (number : ℕ) (order : OrderWords) where
 
   -- who is alone finds the desk as it was when the call began
   pub places_alone : (h : Hand) (said : Reply) (new : Hand) → h.book ≡ None → IsValid h.state.tables → 2 ≤ h.left
-      → ordering caller number order h said new → (b : KeptBook) → IsNewOrder h.state.tables caller number order b
-      → AcceptsExactly h.state caller number order b.released.book said new.state
-  places_alone h said new alone valid left ends b fresh = by (places_order h said new valid left ends)
+      → ordering caller number order h said new → OrderComes h.state caller number order said new.state
+  places_alone h said new alone valid left ends = by (places_order h said new valid left ends)
     where
-      by : PlacesOrder h caller number order said new → AcceptsExactly h.state caller number order b.released.book said new.state
+      by : PlacesOrder h caller number order said new → OrderComes h.state caller number order said new.state
       by (inl (told, same)) =
-          subst (λ (k : Hand). AcceptsExactly h.state caller number order b.released.book said k.state) (sym same)
-          (wanting h.state b said h.state (is_release h.state.tables order.book b valid fresh.there) fresh.formed (record { told = told; unchanged = refl }))
-      by (inr (last, so)) =
-          subst (λ s. (c : KeptBook) → IsNewOrder s.tables caller number order c → AcceptsExactly s caller number order c.released.book said new.state)
-          (last.at_once alone) so b fresh
+          subst (λ (k : Hand). OrderComes h.state caller number order said k.state) (sym same) (record {
+            fresh = λ b fresh.
+                wanting h.state b said h.state (is_release h.state.tables order.book b valid fresh.there) fresh.formed (record { told = told; unchanged = refl });
+            repeated = λ b again. record { told = inr told; unchanged = refl };
+            used = λ kept used. record { told = inr told; unchanged = refl };
+          })
+      by (inr (last, so)) = subst (λ s. OrderComes s caller number order said new.state) (last.at_once alone) so

@@ -1,12 +1,12 @@
 -- A call of a pass is a step of the one who holds it.
-use Rattle.std.proofs.Common.{◌≡◌, ◌∙◌, ℕ, ◌+◌, ◌-◌, List, [], ◌∷◌, ◌++◌, length, map, refl, sym, ap, subst, arith, length-append}
-use Rattle.std.proofs.lemmas.List.{map-append}
+use Rattle.std.proofs.Common.{◌≡◌, ◌∙◌, ℕ, zero, suc, ◌+◌, ◌-◌, Some, take, List, [], ◌∷◌, ◌++◌, length, refl, sym, ap, subst, arith, length-append}
+use Rattle.std.specs.Prelude.{slice_get}
 use Rattle.turn_book.specs.History.{AddsCall, IsHistory, end_of, entry}
 use Rattle.turn_book.specs.Places.{Rises, at_places}
 use Rattle.turn_book.specs.Standing.{Opened, Standing}
 use Rattle.turn_book.specs.declared.entry.Entry.{Entry}
 use Rattle.turn_book.proofs.Histories.{end_of_append, history_front, history_rest, history_weaker}
-use Rattle.turn_book.proofs.Places.{at_last, at_places_append, at_places_longer, rises_push, rises_wider}
+use Rattle.turn_book.proofs.Places.{at_last, at_places_append, at_places_longer, length_at_places, rises_push, rises_wider}
 use Rattle.order_desk.specs.declared.answer.Answer.{Answer}
 use Rattle.order_desk.specs.declared.event.Event.{Event}
 use Rattle.order_desk.specs.Fits.{Fits}
@@ -15,8 +15,8 @@ use Rattle.order_desk.specs.Step.{Step}
 use Rattle.order_desk.specs.Tables.{State}
 use Rattle.order_desk.specs.Turn.{IsTurn}
 use Rattle.order_desk.specs.Valid.{IsValid}
-use Rattle.answering.specs.Hand.{Stepped}
-use Rattle.answering.specs.Seat.{IsSeated, hand_of, made_of, sitting}
+use Rattle.answering.specs.Hand.{Made, Stepped}
+use Rattle.answering.specs.Seat.{IsSeated, hand_of, sitting, steps_of}
 
 -- a pass that has seen nothing
 pub seated_new : (book : Opened State) (pass : Standing State Event Answer) → pass.table ≡ book.table → pass.seen ≡ [] → pass.own ≡ []
@@ -48,6 +48,41 @@ FitsAt s event = Fits s.tables event
 pub legal_turns : (start : State) (log : Log) → IsHistory FitsAt IsTurn start log → IsLegal start log
 legal_turns start log history = history_weaker FitsAt IsTurn Step (λ x c r y turn. turn.step) start log history
 
+-- ---- the steps of a history
+
+pub steps_append : (start : State) (xs ys : Log) → steps_of start (xs ++ ys) ≡ steps_of start xs ++ steps_of (end_of start xs) ys
+steps_append start [] ys = refl
+steps_append start (e ∷ es) ys =
+    ap (λ (l : List Made). record { before = start; event = e.call; answer = e.reply; after = e.after } ∷ l) (steps_append e.after es ys)
+
+length_steps : (start : State) (log : Log) → length (steps_of start log) ≡ length log
+length_steps start [] = refl
+length_steps start (e ∷ es) = let rest = length_steps e.after es in omega (arith, rest)
+
+rises_steps : (start : State) (log : Log) (places : List ℕ) → Rises 0 (length log) places → Rises 0 (length (steps_of start log)) places
+rises_steps start log places rises = subst (λ (n : ℕ). Rises 0 n places) (sym (length_steps start log)) rises
+
+-- as many as there are places
+pub length_made : (start : State) (log : Log) (places : List ℕ) → Rises 0 (length log) places → length (at_places (steps_of start log) places) ≡ length places
+length_made start log places rises = length_at_places 0 (steps_of start log) places (rises_steps start log places rises)
+
+-- each begins at the state to which all entries before it lead
+step_begins : (start : State) (log : Log) (place : ℕ) (one : Made) → slice_get (steps_of start log) place ≡ Some one
+    → one.before ≡ end_of start (take place log)
+step_begins start [] place one is = cc
+step_begins start (e ∷ es) zero one is =
+    let first : Made = record { before = start; event = e.call; answer = e.reply; after = e.after } in
+    let same : first ≡ one = cc in
+    sym (ap (λ (m : Made). m.before) same)
+step_begins start (e ∷ es) (suc place) one is = step_begins e.after es place one is
+
+-- the steps at places of a history stay as it grows
+pub steps_longer : (start : State) (log later : Log) (places : List ℕ) → Rises 0 (length log) places
+    → at_places (steps_of start (log ++ later)) places ≡ at_places (steps_of start log) places
+steps_longer start log later places rises =
+    ap (λ (l : List Made). at_places l places) (steps_append start log later)
+    ∙ at_places_longer 0 (steps_of start log) (steps_of (end_of start log) later) places (rises_steps start log places rises)
+
 module _ (book : Opened State) (pass : Standing State Event Answer) (seated : IsSeated (sitting book pass)) (event : Event) (answer : Answer)
     (between : Log) (after : State) where
   abbrev front : Log
@@ -64,12 +99,23 @@ module _ (book : Opened State) (pass : Standing State Event Answer) (seated : Is
   rises_front =
       rises_wider 0 0 (length pass.seen) (length front) pass.own (omega arith) (omega (arith, length-append pass.seen between)) seated.rises
 
-  own_made : at_places (front ++ one ∷ []) (pass.own ++ length front ∷ []) ≡ at_places pass.seen pass.own ++ one ∷ []
+  abbrev step_to : State → Made
+  step_to last = record { before = end_of book.start front; event = event; answer = answer; after = last }
+
+  last_step : at_places (steps_of book.start (front ++ one ∷ [])) (length front ∷ []) ≡ step_to after ∷ []
+  last_step =
+      ap (λ (l : List Made). at_places l (length front ∷ [])) (steps_append book.start front (one ∷ []))
+      ∙ subst (λ (n : ℕ). at_places (steps_of book.start front ++ step_to after ∷ []) (n ∷ []) ≡ step_to after ∷ [])
+      (length_steps book.start front) (at_last (steps_of book.start front) (step_to after))
+
+  own_made : at_places (steps_of book.start (front ++ one ∷ [])) (pass.own ++ length front ∷ [])
+      ≡ at_places (steps_of book.start pass.seen) pass.own ++ step_to (end_of book.start (front ++ one ∷ [])) ∷ []
   own_made =
-      at_places_append (front ++ one ∷ []) pass.own (length front ∷ [])
-      ∙ ap (λ (l : Log). l ++ at_places (front ++ one ∷ []) (length front ∷ [])) (at_places_longer 0 front (one ∷ []) pass.own rises_front
-      ∙ at_places_longer 0 pass.seen between pass.own seated.rises)
-      ∙ ap (λ (l : Log). at_places pass.seen pass.own ++ l) (at_last front one)
+      at_places_append (steps_of book.start (front ++ one ∷ [])) pass.own (length front ∷ [])
+      ∙ ap (λ (l : List Made). l ++ at_places (steps_of book.start (front ++ one ∷ [])) (length front ∷ []))
+      (steps_longer book.start front (one ∷ []) pass.own rises_front ∙ steps_longer book.start pass.seen between pass.own seated.rises)
+      ∙ ap (λ (l : List Made). at_places (steps_of book.start pass.seen) pass.own ++ l) last_step
+      ∙ ap (λ (s : State). at_places (steps_of book.start pass.seen) pass.own ++ step_to s ∷ []) (sym (end_of_append book.start front (one ∷ [])))
 
   steps : (left : ℕ) → left + 1 ≡ pass.left → IsLegal book.start (front ++ one ∷ [])
       → Stepped (hand_of (sitting book pass)) event answer (hand_of (sitting book (next left)))
@@ -82,7 +128,7 @@ module _ (book : Opened State) (pass : Standing State Event Answer) (seated : Is
         fits = last.0;
         step = subst (λ (s : State). Step (end_of book.start front) event answer s) (sym (end_of_append book.start front (one ∷ []))) last.1;
         left = sym fewer;
-        made = ap (map made_of) own_made ∙ map-append made_of (at_places pass.seen pass.own) (one ∷ []);
+        made = own_made;
         book = refl;
       }
 

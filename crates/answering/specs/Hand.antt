@@ -1,4 +1,5 @@
 -- What one knows and may do who makes steps of the desk.
+--     Made                  a step that was made
 --     Hand                  the turn book that it stands on, if others step too, the state after all that was seen, how many
 --                           steps are left, and which were made
 --     Stepped h e a new     the event e was taken and answered with a
@@ -16,10 +17,12 @@ use Rattle.order_desk.specs.Step.{Step}
 use Rattle.order_desk.specs.Tables.{State}
 use Rattle.turn_book.specs.Standing.{Opened}
 
--- an event that was taken, and its answer
+-- an event that was taken and its answer, with the states at which the step began and ended
 pub record Made : Type 0 where
+  pub before : State
   pub event : Event
   pub answer : Answer
+  pub after : State
 
 -- who is alone stands on no turn book, and keeps no list of the steps made
 pub record Hand : Type 0 where
@@ -37,16 +40,13 @@ abbrev pub with_made : Option (Opened State) → List Made → Made → List Mad
 with_made None made one = made
 with_made (Some book) made one = made ++ one ∷ []
 
-abbrev pub made_then : Hand → Event → Answer → List Made
-made_then h event answer = with_made h.book h.made (record { event = event; answer = answer })
-
 pub record Stepped (h : Hand) (event : Event) (answer : Answer) (new : Hand) : Type 0 where
   pub first : State
   pub begins : Begins h.book h.state first
   pub fits : Fits first.tables event
   pub step : Step first event answer new.state
   pub left : h.left ≡ new.left + 1
-  pub made : new.made ≡ made_then h event answer
+  pub made : new.made ≡ with_made h.book h.made (record { before = first; event = event; answer = answer; after = new.state })
   pub book : new.book ≡ h.book
 
 pub record IsOver (h : Hand) (answer : Answer) (new : Hand) : Type 0 where

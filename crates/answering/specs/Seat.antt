@@ -1,9 +1,10 @@
 -- A holder of the desk in turn with others: it makes its steps with the calls of a pass.
 --     Sitting       the turn book, and the pass
+--     steps_of      the steps of a history
 --     hand_of s     what such a holder knows and may do
 --     IsSeated s    the pass is of this book, it has seen a legal history that leads to valid tables, and its own places are
 --                   places of that history, and rise
-use Rattle.std.specs.Prelude.{◌≡◌, [], Option, None, Some, length, map}
+use Rattle.std.specs.Prelude.{◌≡◌, List, [], ◌∷◌, Option, None, Some, length}
 use Rattle.order_desk.specs.declared.answer.Answer.{Answer}
 use Rattle.order_desk.specs.declared.event.Event.{Event}
 use Rattle.order_desk.specs.History.{IsLegal}
@@ -30,15 +31,17 @@ pass_of book (Some pass) = pass
 abbrev pub state_seen : Sitting → State
 state_seen s = end_of s.book.start s.pass.seen
 
-abbrev pub made_of : Entry State Event Answer → Made
-made_of e = record { event = e.call; answer = e.reply }
+-- the entries of a history as steps: each begins at the state to which all those before it lead
+abbrev pub steps_of : State → List (Entry State Event Answer) → List Made
+steps_of start [] = []
+steps_of start (e ∷ es) = record { before = start; event = e.call; answer = e.reply; after = e.after } ∷ steps_of e.after es
 
 abbrev pub hand_of : Sitting → Hand
 hand_of s = record {
   book = Some s.book;
   state = state_seen s;
   left = s.pass.left;
-  made = map made_of (at_places s.pass.seen s.pass.own);
+  made = at_places (steps_of s.book.start s.pass.seen) s.pass.own;
 }
 
 pub record IsSeated (s : Sitting) : Type 0 where

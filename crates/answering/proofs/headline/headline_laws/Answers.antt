@@ -11,9 +11,9 @@ returns-clause-orders c call number order h said new is valid left answers =
     places_order call.caller number order h said new valid left (subst (λ (w : What). course_of call.caller w h said new) is answers)
 
 pub returns-clause-alone : goal.returns-clause-alone
-returns-clause-alone c call number order h said new b is valid left answers alone fresh =
+returns-clause-alone c call number order h said new is valid left answers alone =
     places_alone call.caller number order h said new alone valid left
-    (subst (λ (w : What). course_of call.caller w h said new) is answers) b fresh
+    (subst (λ (w : What). course_of call.caller w h said new) is answers)
 
 pub returns-clause-books : goal.returns-clause-books
 returns-clause-books c = released_book
