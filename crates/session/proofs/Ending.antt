@@ -19,7 +19,7 @@ use Rattle.http_wire.specs.declared.message.BodyStep.TheVariants.{Message, Cut}
 use Rattle.answering.specs.Hand.{Hand}
 use Rattle.session.specs.Reading.{Stop, whole, unread, wanting, ReadsMessage, Reads}
 use Rattle.session.specs.Responses.{AnswersMessage, IsLast, interim, closing_memory_response}
-use Rattle.session.specs.Session.{LinkTold, IsDue, IsWritten, IsCounted, IsReadOut, IsSession, NothingLeft, StopsAt, WriteFails, told}
+use Rattle.session.specs.Session.{FailsLast, LinkTold, IsDue, IsWritten, IsCounted, IsReadOut, IsSession, NothingLeft, StopsAt, StopsWriting, WriteFails, told}
 use Rattle.session.specs.Steps.{AwaitsBody, EndsAnswered, EndsBehind, EndsRefused, EndsUnanswered, EndsUnread, EndsWith, IsQuiet, ReadsOn, Receives, ReceivesBehind, ReceivesHead, seen, stream_of}
 use Rattle.session.specs.declared.end.SessionEnd.{SessionEnd}
 use Rattle.session.specs.declared.end.SessionEnd.TheVariants.{Done, Broken, ReadFault, WriteFault, Memory}
@@ -47,6 +47,23 @@ due_alone stop left last h is read = record {
   joined = refl;
 }
 
+-- and it is the piece whose writing failed
+fails_alone : (h : Hand) (last : List ℕ) (x y : SinkTold) (fault : Unwritten) → WriteFails last x y fault → FailsLast [] h last x y fault
+fails_alone h last x y fault fails = record {
+  done = [];
+  last = [];
+  are_all = refl;
+  one = omega arith;
+  responses = [];
+  between = h;
+  answered = (refl, refl);
+  piece = last;
+  joined = refl;
+  middle = x;
+  whole = takes_nothing x;
+  fails = fails;
+}
+
 -- what is known of reading where nothing was answered
 pub record ReadsNone (due : SessionEnd) (stop : Stop) (before after : SourceTold) : Type 0 where
   pub read : IfSome before.left (λ s. Reads stop s [])
@@ -57,11 +74,13 @@ pub record ReadsNone (due : SessionEnd) (stop : Stop) (before after : SourceTold
 -- how a session ends where the last piece was written
 pub record IsEnd (due : SessionEnd) (stop : Stop) (last : List ℕ) : Type 0 where
   pub stops : StopsAt due stop
+  pub stops_writing : (h : Hand) (x y : SinkTold) → StopsWriting due [] h last x y
   pub is_last : IsLast stop last
   pub written : (x y : SinkTold) → Takes last x y → IsWritten due last x y
 
 pub ends_alone : (due : SessionEnd) (stop : Stop) (last : List ℕ) (end : SessionEnd) (before after : LinkTold) → IsEnd due stop last
     → ReadsNone due stop before.input after.input → EndsWith due last end before.output after.output → EndsUnanswered end before after
+unfolding due_alone
 ends_alone due stop last end before after is reads (inl (same, taken)) = λ h.
     let s : IsSession due h before after h = record {
       stop = stop;
@@ -69,6 +88,7 @@ ends_alone due stop last end before after is reads (inl (same, taken)) = λ h.
       out = last;
       due = due_alone stop before.input.left last h is.is_last reads.read;
       written = is.written before.output after.output taken;
+      stops_writing = is.stops_writing h before.output after.output;
       counted = reads.counted;
       later = reads.later;
       read_out = reads.read_out;
@@ -81,6 +101,7 @@ ends_alone due stop last end before after is reads (inr (fault, same, fails)) = 
       out = last;
       due = due_alone stop before.input.left last h is.is_last reads.read;
       written = fails;
+      stops_writing = fails_alone h last before.output after.output fault fails;
       counted = tt;
       later = reads.later;
       read_out = reads.read_out;
@@ -107,7 +128,7 @@ pub at_end : (held held' : List ℕ) (input input' : SourceTold) (output output'
     → EndsUnanswered Done (seen held input output) (told input' output')
 at_end held held' input input' output output' step count later same =
     ends_alone Done (whole ended) [] Done (seen held input output) (told input' output')
-    (record { stops = tt; is_last = refl; written = λ x y taken. taken })
+    (record { stops = tt; stops_writing = λ h x y. tt; is_last = refl; written = λ x y taken. taken })
     (record {
       read = told_first (ReadsHead End) (λ s. Reads (whole ended) s []) stops_ended (stream_of held input.left) (stream_of held' input'.left)
           (reads_on (ReadsHead End) held held' input.left input'.left step);
@@ -132,7 +153,7 @@ pub at_refusal : (status : ℕ) (end : SessionEnd) (held held' : List ℕ) (inpu
     → mid ≡ output → EndsRefused status end mid output' → EndsUnanswered end (seen held input output) (told input' output')
 at_refusal status end held held' input input' output mid output' step count later same (last, is, ends) =
     ends_alone Broken (whole (refused status)) last end (seen held input output) (told input' output')
-    (record { stops = tt; is_last = is; written = λ x y taken. taken })
+    (record { stops = tt; stops_writing = λ h x y. tt; is_last = is; written = λ x y taken. taken })
     (record {
       read = told_first (ReadsHead (Bad status)) (λ s. Reads (whole (refused status)) s []) (stops_refused status) (stream_of held input.left) (stream_of held' input'.left)
           (reads_on (ReadsHead (Bad status)) held held' input.left input'.left step);
@@ -150,7 +171,7 @@ read_fault : (fault : Unread) (held : List ℕ) (input input' : SourceTold) (out
     → IsLater input.faults input'.faults → output' ≡ output → EndsUnanswered (ReadFault fault) (seen held input output) (told input' output')
 read_fault fault held input input' output output' fails later same =
     ends_alone (ReadFault fault) (unread None) [] (ReadFault fault) (seen held input output) (told input' output')
-    (record { stops = tt; is_last = refl; written = λ x y taken. taken })
+    (record { stops = tt; stops_writing = λ h x y. tt; is_last = refl; written = λ x y taken. taken })
     (record { read = unknown (unread None) (stream_of held input.left) (λ s. tt); counted = fails; later = later; read_out = tt })
     (silent (ReadFault fault) output output' same)
 
@@ -158,7 +179,7 @@ want : (end : SessionEnd) (held : List ℕ) (input input' : SourceTold) (output 
     → mid ≡ output → EndsWith Memory closing_memory_response end mid output' → EndsUnanswered end (seen held input output) (told input' output')
 want end held input input' output mid output' later same ends =
     ends_alone Memory (wanting None) closing_memory_response end (seen held input output) (told input' output')
-    (record { stops = tt; is_last = refl; written = λ x y taken. taken })
+    (record { stops = tt; stops_writing = λ h x y. tt; is_last = refl; written = λ x y taken. taken })
     (record { read = unknown (wanting None) (stream_of held input.left) (λ s. tt); counted = tt; later = later; read_out = tt })
     (moved Memory closing_memory_response end output mid output' same ends)
 
@@ -186,6 +207,7 @@ behind_head head stop so x y reads = told_first (ReadsHead (Head head)) (λ s. R
 
 pub at_interim_fault : (head : Kept) (fault : Unwritten) (start before : LinkTold) (input : SourceTold) (output : SinkTold) → ReceivesHead head start before
     → input.faults ≡ before.input.faults → WriteFails (interim head) before.output output fault → EndsUnanswered (WriteFault fault) start (told input output)
+unfolding due_alone
 at_interim_fault head fault start before input output received same fails = λ h. record {
   stop = unread (Some head);
   stops = tt;
@@ -193,6 +215,8 @@ at_interim_fault head fault start before input output received same fails = λ h
   due = due_alone (unread (Some head)) start.input.left (interim head) h refl
       (behind_head head (unread (Some head)) (λ s t reads. (t, reads)) start.input.left before.input.left received.read);
   written = subst (λ (s : SinkTold). WriteFails (interim head) s output fault) received.output fails;
+  stops_writing = fails_alone h (interim head) start.output output fault
+      (subst (λ (s : SinkTold). WriteFails (interim head) s output fault) received.output fails);
   counted = tt;
   later = subst (λ (f : Faults). IsLater start.input.faults f) (sym same) received.quiet.later;
   read_out = tt;
@@ -212,7 +236,7 @@ pub at_cut : (head : Kept) (held held' : List ℕ) (input input' : SourceTold) (
     → input'.faults.count ≡ input.faults.count → IsLater input.faults input'.faults → output' ≡ output → EndsBehind head Broken (seen held input output) (told input' output')
 at_cut head held held' input input' output output' step count later same = λ start awaits.
     ends_alone Broken (whole (cut head)) (interim head) Broken start (told input' output')
-    (record { stops = tt; is_last = refl; written = λ x y taken. taken })
+    (record { stops = tt; stops_writing = λ h x y. tt; is_last = refl; written = λ x y taken. taken })
     (record {
       read = told_behind (ReadsHead (Head head)) (λ t. length t < head.length) (λ s. Reads (whole (cut head)) s []) (λ s t reads short. (t, reads, short))
           start.input.left (stream_of held input.left) awaits.read
@@ -230,7 +254,7 @@ body_fault : (head : Kept) (fault : Unread) (held : List ℕ) (input input' : So
     → IsLater input.faults input'.faults → output' ≡ output → EndsBehind head (ReadFault fault) (seen held input output) (told input' output')
 body_fault head fault held input input' output output' fails later same = λ start awaits.
     ends_alone (ReadFault fault) (unread (Some head)) (interim head) (ReadFault fault) start (told input' output')
-    (record { stops = tt; is_last = refl; written = λ x y taken. taken })
+    (record { stops = tt; stops_writing = λ h x y. tt; is_last = refl; written = λ x y taken. taken })
     (record {
       read = behind_head head (unread (Some head)) (λ s t reads. (t, reads)) start.input.left (stream_of held input.left) awaits.read;
       counted = read_fails_behind start.input.faults input.faults input'.faults fault awaits.quiet fails;
@@ -243,7 +267,7 @@ body_want : (head : Kept) (end : SessionEnd) (held : List ℕ) (input input' : S
     → mid ≡ output → EndsWith Memory closing_memory_response end mid output' → EndsBehind head end (seen held input output) (told input' output')
 body_want head end held input input' output mid output' later same ends = λ start awaits.
     ends_alone Memory (wanting (Some head)) (interim head ++ closing_memory_response) end start (told input' output')
-    (record { stops = tt; is_last = refl; written = λ x y taken. taken })
+    (record { stops = tt; stops_writing = λ h x y. tt; is_last = refl; written = λ x y taken. taken })
     (record {
       read = behind_head head (wanting (Some head)) (λ s t reads. (t, reads)) start.input.left (stream_of held input.left) awaits.read;
       counted = tt;
@@ -316,30 +340,68 @@ at_close m h new before mid after text received answers closes taken same = reco
   out = interim m.head ++ text;
   due = due_one m (whole closed) before.input.left h text new refl (read_closed m closes before.input.left mid.input.left received.read) answers;
   written = takes_both (interim m.head) text before.output mid.output after.output received.written taken;
+  stops_writing = tt;
   counted = ap (λ (f : Faults). f.count) same ∙ received.quiet.count;
   later = subst (λ (f : Faults). IsLater before.input.faults f) (sym same) received.quiet.later;
   read_out = tt;
 }
 
 -- a response that could not be written is the last that was due, whether or not its message closes
+record IsUnwritten (m : Whole) (h new : Hand) (x : Option (List ℕ)) (text : List ℕ) : Type 0 where
+  stop : Stop
+  due : IsDue stop x h (interim m.head ++ text) new
+  one : due.messages ≡ m ∷ []
+  read_out : (z : Option (List ℕ)) → IsReadOut stop x z
+
 due_unwritten : (close : Bool) (m : Whole) (h new : Hand) (x y : Option (List ℕ)) (text : List ℕ) → m.head.close ≡ close → ReadsOn (ReadsMessage m) x y
-    → AnswersMessage m h text new → (stop : Stop) × IsDue stop x h (interim m.head ++ text) new × ((z : Option (List ℕ)) → IsReadOut stop x z)
-due_unwritten true m h new x y text closes reads answers = (whole closed, due_one m (whole closed) x h text new refl (read_closed m closes x y reads) answers, λ z. tt)
-due_unwritten false m h new x y text stays reads answers = (unread None, due_one m (unread None) x h text new refl (read_open m stays x y reads) answers, λ z. tt)
+    → AnswersMessage m h text new → IsUnwritten m h new x text
+unfolding due_one
+due_unwritten true m h new x y text closes reads answers = record {
+  stop = whole closed;
+  due = due_one m (whole closed) x h text new refl (read_closed m closes x y reads) answers;
+  one = refl;
+  read_out = λ z. tt;
+}
+due_unwritten false m h new x y text stays reads answers = record {
+  stop = unread None;
+  due = due_one m (unread None) x h text new refl (read_open m stays x y reads) answers;
+  one = refl;
+  read_out = λ z. tt;
+}
+
+-- what is written for it is the piece whose writing failed
+fails_one : (m : Whole) (messages : List Whole) (h : Hand) (piece : List ℕ) (x y : SinkTold) (fault : Unwritten) → messages ≡ m ∷ []
+    → WriteFails piece x y fault → FailsLast messages h piece x y fault
+fails_one m messages h piece x y fault one fails = record {
+  done = [];
+  last = m ∷ [];
+  are_all = one;
+  one = omega arith;
+  responses = [];
+  between = h;
+  answered = (refl, refl);
+  piece = piece;
+  joined = refl;
+  middle = x;
+  whole = takes_nothing x;
+  fails = fails;
+}
 
 at_write_fault : (m : Whole) (h new : Hand) (before mid after : LinkTold) (text : List ℕ) (fault : Unwritten) → Receives m before mid → AnswersMessage m h text new
     → WriteFails text mid.output after.output fault → after.input.faults ≡ mid.input.faults → IsSession (WriteFault fault) h before after new
 at_write_fault m h new before mid after text fault received answers fails same =
-    let due = due_unwritten m.head.close m h new before.input.left mid.input.left text refl received.read answers in
+    let is = due_unwritten m.head.close m h new before.input.left mid.input.left text refl received.read answers in
+    let both = fails_behind (interim m.head) text before.output mid.output after.output fault received.written fails in
     record {
-      stop = due.0;
+      stop = is.stop;
       stops = tt;
       out = interim m.head ++ text;
-      due = due.1;
-      written = fails_behind (interim m.head) text before.output mid.output after.output fault received.written fails;
+      due = is.due;
+      written = both;
+      stops_writing = fails_one m is.due.messages h (interim m.head ++ text) before.output after.output fault is.one both;
       counted = tt;
       later = subst (λ (f : Faults). IsLater before.input.faults f) (sym same) received.quiet.later;
-      read_out = due.2 after.input.left;
+      read_out = is.read_out after.input.left;
     }
 
 answered_last : (end : SessionEnd) (m : Whole) (h new : Hand) (before mid after : LinkTold) (text : List ℕ) → Receives m before mid → AnswersMessage m h text new

@@ -8,10 +8,11 @@ use Rattle.http_wire.specs.declared.message.Message.{Message}
 use Rattle.answering.specs.Hand.{Hand}
 use Rattle.session.specs.Reading.{Stop, whole, unread, wanting, ReadsMessage, Reads}
 use Rattle.session.specs.Responses.{AnswersMessage, interim}
-use Rattle.session.specs.Session.{LinkTold, IsDue, IsWritten, IsReadOut, IsSession, told}
+use Rattle.session.specs.Session.{FailsLast, LinkTold, IsDue, IsWritten, IsReadOut, IsSession, StopsWriting, told}
 use Rattle.session.specs.Steps.{ReadsOn, Receives, GoesOn, seen}
 use Rattle.session.specs.declared.end.SessionEnd.{SessionEnd}
 use Rattle.session.specs.declared.end.SessionEnd.TheVariants.{Done, Broken, ReadFault, WriteFault, Memory}
+use Rattle.session.specs.declared.end.WriteFault.{WriteFault as Unwritten}
 use Rattle.session.proofs.Faults.{counted_behind, later_twice}
 use Rattle.session.proofs.Streams.{reads-cons, stream_of-nothing, told_behind}
 use Rattle.session.proofs.Writing.{takes_both, fails_behind}
@@ -37,6 +38,35 @@ written_behind (ReadFault fault) a b x y z first second = takes_both a b x y z f
 written_behind (WriteFault fault) a b x y z first second = fails_behind a b x y z fault first second
 written_behind Memory a b x y z first second = takes_both a b x y z first second
 
+-- a message that was answered is one more of those that are done
+fails_later : (m : Message) (messages : List Message) (h between : Hand) (text out : List ℕ) (x y z : SinkTold) (fault : Unwritten)
+    → AnswersMessage m h text between → Takes (interim m.head ++ text) x y → FailsLast messages between out y z fault
+    → FailsLast (m ∷ messages) h (interim m.head ++ text ++ out) x z fault
+fails_later m messages h between text out x y z fault answers first f = record {
+  done = m ∷ f.done;
+  last = f.last;
+  are_all = ap (λ (ms : List Message). m ∷ ms) f.are_all;
+  one = f.one;
+  responses = interim m.head ++ text ++ f.responses;
+  between = f.between;
+  answered = (between, text, f.responses, answers, f.answered, refl);
+  piece = f.piece;
+  joined = ap (λ (t : List ℕ). interim m.head ++ text ++ t) f.joined ∙ sym (append_assoc (interim m.head ++ text) f.responses f.piece);
+  middle = f.middle;
+  whole = takes_both (interim m.head ++ text) f.responses x y f.middle first f.whole;
+  fails = f.fails;
+}
+
+stops_later : (end : SessionEnd) (m : Message) (messages : List Message) (h between : Hand) (text out : List ℕ) (x y z : SinkTold)
+    → AnswersMessage m h text between → Takes (interim m.head ++ text) x y → StopsWriting end messages between out y z
+    → StopsWriting end (m ∷ messages) h (interim m.head ++ text ++ out) x z
+stops_later (WriteFault fault) m messages h between text out x y z answers first f =
+    fails_later m messages h between text out x y z fault answers first f
+stops_later Done m messages h between text out x y z answers first f = tt
+stops_later Broken m messages h between text out x y z answers first f = tt
+stops_later (ReadFault fault) m messages h between text out x y z answers first f = tt
+stops_later Memory m messages h between text out x y z answers first f = tt
+
 read_out_behind : (R : List ℕ → List ℕ → Type 0) (stop : Stop) (x y z : Option (List ℕ)) → ReadsOn R x y → IsReadOut stop y z → IsReadOut stop x z
 read_out_behind R (whole ended) x y z reads out = told_behind R (λ _. z ≡ Some []) (λ _. z ≡ Some []) (λ s t _ nothing. nothing) x y reads out
 read_out_behind R (whole (refused status)) x y z reads out = tt
@@ -47,6 +77,7 @@ read_out_behind R (wanting head) x y z reads out = tt
 
 behind_message : (m : Message) (h between : Hand) (before mid : LinkTold) (output : SinkTold) (text : List ℕ) → Receives m before mid → m.head.close ≡ false
     → AnswersMessage m h text between → Takes text mid.output output → GoesOn h before between (told mid.input output)
+unfolding due-cons
 behind_message m h between before mid output text received stays answers taken = λ end last new s. record {
   stop = s.stop;
   stops = s.stops;
@@ -54,6 +85,8 @@ behind_message m h between before mid output text received stays answers taken =
   due = due-cons m s.stop h between new before.input.left mid.input.left text s.out received.read stays answers s.due;
   written = written_behind end (interim m.head ++ text) s.out before.output output last.output
       (takes_both (interim m.head) text before.output mid.output output received.written taken) s.written;
+  stops_writing = stops_later end m s.due.messages h between text s.out before.output output last.output answers
+      (takes_both (interim m.head) text before.output mid.output output received.written taken) s.stops_writing;
   counted = counted_behind end before.input.faults mid.input.faults last.input.faults received.quiet s.counted;
   later = later_twice before.input.faults mid.input.faults last.input.faults received.quiet.later s.later;
   read_out = read_out_behind (ReadsMessage m) s.stop before.input.left mid.input.left last.input.left received.read s.read_out;

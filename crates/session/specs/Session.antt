@@ -2,8 +2,9 @@
 --     LinkTold                               what a link tells of its two ends
 --     IsDue stop left h out new              this is what has to be written, where so much was left to be read and the session
 --                                            stopped there
+--     FailsLast messages h out new ..        writing failed at the last piece that was due
 --     IsSession end h before after new       a session that ended so
-use Rattle.std.specs.Prelude.{◌≡◌, ℕ, List, [], ◌++◌, Option, Some, IfSome}
+use Rattle.std.specs.Prelude.{◌≡◌, ℕ, ◌≤◌, List, [], ◌++◌, Option, Some, IfSome, length}
 use Rattle.pb_outside.specs.Faults.{Faults, IsLater}
 use Rattle.pb_outside.specs.Sink.{SinkTold, Takes, Refuses}
 use Rattle.pb_outside.specs.Source.{SourceTold}
@@ -60,6 +61,28 @@ IsWritten Broken out before after = Takes out before after
 IsWritten (ReadFault fault) out before after = Takes out before after
 IsWritten Memory out before after = Takes out before after
 
+-- what is due for all messages but at most one was written; after the piece whose writing failed nothing was done
+pub record FailsLast (messages : List Message) (h : Hand) (out : List ℕ) (before after : SinkTold) (fault : Unwritten) : Type 0 where
+  pub done : List Message
+  pub last : List Message
+  pub are_all : messages ≡ done ++ last
+  pub one : length last ≤ 1
+  pub responses : List ℕ
+  pub between : Hand
+  pub answered : AnswersAll done h responses between
+  pub piece : List ℕ
+  pub joined : out ≡ responses ++ piece
+  pub middle : SinkTold
+  pub whole : Takes responses before middle
+  pub fails : WriteFails piece middle after fault
+
+abbrev pub StopsWriting : SessionEnd → List Message → Hand → List ℕ → SinkTold → SinkTold → Type 0
+StopsWriting (WriteFault fault) messages h out before after = FailsLast messages h out before after fault
+StopsWriting Done messages h out before after = Unit {0}
+StopsWriting Broken messages h out before after = Unit {0}
+StopsWriting (ReadFault fault) messages h out before after = Unit {0}
+StopsWriting Memory messages h out before after = Unit {0}
+
 -- no read failed, or just the last one; where writing failed or memory is wanting nothing is said of it
 abbrev pub IsCounted : SessionEnd → Faults → Faults → Type 0
 IsCounted Done before after = after.count ≡ before.count
@@ -83,6 +106,7 @@ pub record IsSession (end : SessionEnd) (h : Hand) (before after : LinkTold) (ne
   pub out : List ℕ
   pub due : IsDue stop before.input.left h out new
   pub written : IsWritten end out before.output after.output
+  pub stops_writing : StopsWriting end due.messages h out before.output after.output
   pub counted : IsCounted end before.input.faults after.input.faults
   pub later : IsLater before.input.faults after.input.faults
   pub read_out : IsReadOut stop before.input.left after.input.left
