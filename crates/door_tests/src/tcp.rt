@@ -14,15 +14,16 @@ use tcp_door::{TcpDoor, TcpLink, TcpPort};
 // How many pieces a long request has: 2 MiB in all.
 const PIECES: u32 = 256;
 
-// The port of a door for one worker.
+// The port of a door for one worker, which listens at this port of the machine.
 fn only_port<'a, R: Net<Listener = TcpListener, Stream = TcpStream> + Clock + Sync>(
     alloc: Global,
     door: &mut TcpDoor<'a, R>,
+    number: u16,
     links: u32,
 ) -> Result<TcpPort<&'a R>, OutError>
     ensures { IfOk result (λ port. port.out ≡ false) }
 {
-    let mut ports = door.listen(alloc, 0, 1, links)?;
+    let mut ports = door.listen(alloc, number, 1, links)?;
     match ports.pop() {
         Some(port) => Ok(port),
         None => Err(OutError::Memory),
@@ -44,7 +45,7 @@ fn read_all<C: Clock + Drop>(alloc: Global, link: &mut TcpLink<C>) -> Result<Vec
 fn links_come_and_go(rt: HostRuntime) -> Result<(), Fail> {
     let alloc = rt.alloc();
     let mut door = TcpDoor::new(alloc, &rt);
-    let mut port = only_port(alloc, &mut door, 2)?;
+    let mut port = only_port(alloc, &mut door, 0, 2)?;
     let address = port.address()?;
     assert!(rt; address.ip().is_loopback());
     let mut client = TcpStream::connect(&rt, address)?;
@@ -69,6 +70,16 @@ fn links_come_and_go(rt: HostRuntime) -> Result<(), Fail> {
     }
     assert!(rt; port.next()?.is_none());
     assert_eq!(rt; port.faults(), 0);
+    Ok(())
+}
+
+#[test]
+fn a_door_listens_at_the_port_that_is_asked_for(rt: HostRuntime) -> Result<(), Fail> {
+    let alloc = rt.alloc();
+    let mut door = TcpDoor::new(alloc, &rt);
+    let number = only_port(alloc, &mut door, 0, 1)?.address()?.port();
+    let port = only_port(alloc, &mut door, number, 1)?;
+    assert_eq!(rt; port.address()?.port(), number);
     Ok(())
 }
 
@@ -112,7 +123,7 @@ fn refuse_early<C: Clock + Copy + Drop + Send>(
 fn an_early_refusal_reaches_a_client_that_sends_on(rt: HostRuntime) -> Result<(), Fail> {
     let alloc = rt.alloc();
     let mut door = TcpDoor::new(alloc, &rt);
-    let mut port = only_port(alloc, &mut door, 1)?;
+    let mut port = only_port(alloc, &mut door, 0, 1)?;
     let address = port.address()?;
     let (rt, port) = (&rt, &mut port);
     let (refused, answer) = thread::join(

@@ -1,5 +1,5 @@
 //! A port in memory.
-ghost use Rattle.std.specs.Prelude.{◌≡◌, ◌<◌, ◌↔◌, [], false, IsTrue, IfOk, IfSome, OnErr, MatchOption};
+ghost use Rattle.std.specs.Prelude.{◌≡◌, ◌⊎◌, ⊤, ◌<◌, ◌↔◌, [], false, IsTrue, IfOk, IfSome, OnErr, MatchOption};
 ghost use Rattle.pb_outside.specs.FaultPlan.{faults_of, is_over, is_to_fail};
 ghost use Rattle.pb_outside.specs.Faults.{Fails, IsLater};
 ghost use Rattle.pb_door.specs.LinkTold.{IsUnwritten};
@@ -97,11 +97,15 @@ impl DoorPort for MemoryPort {
 
     ghost faultless = { λ p. is_over p.plan };
 
+    ghost exhausted = { λ p. p.coming ≡ [] };
+
     fn next(&mut self) -> Result<Option<MemoryLink>, OutError>
         requires { self.old.out ≡ false }
         ensures found { IfOk result (λ found. MatchOption found
             (told_by self.new ≡ closes (told_by self.old))
             (λ link. told_by self.new ≡ gives (exchange_told link) (told_by self.old))) }
+        ensures none { IfOk result (λ found. MatchOption found
+            ((self.old.left ≡ 0) ⊎ (self.old.coming ≡ [])) (λ _. ⊤)) }
         ensures left { IfOk result (λ found. IfSome found (λ _. 0 < self.old.left)) }
         ensures unwritten { IfOk result (λ found. IfSome found (λ link. IsUnwritten (exchange_told link))) }
         ensures err { OnErr result (told_by self.new ≡ counts self.new.plan.faults (told_by self.old)) }

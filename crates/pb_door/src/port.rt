@@ -1,5 +1,5 @@
 //! Where links come from, one after the other.
-ghost use Rattle.std.specs.Prelude.{◌≡◌, ◌<◌, ◌≤◌, Bool, false, true, IfOk, IfSome, OnErr, MatchOption};
+ghost use Rattle.std.specs.Prelude.{◌≡◌, ◌⊎◌, ⊤, ◌<◌, ◌≤◌, Bool, false, true, IfOk, IfSome, OnErr, MatchOption};
 ghost use Rattle.pb_outside.specs.Faults.{Fails, IsLater};
 ghost use Rattle.pb_door.specs.LinkTold.{IsUnwritten, link_told};
 ghost use Rattle.pb_door.specs.PortTold.{PortTold, closes, counts, ends, faults_of, gives, share_of};
@@ -16,6 +16,9 @@ pub trait DoorPort {
     /// Whether no call on the port fails from here on.
     ghost faultless: { Self → Bool };
 
+    /// That the port has no more links, however many it might still give.
+    ghost exhausted: { Self → Type 0 };
+
     /// The next link, of which nothing was read and which has taken nothing. None says that the port has given as
     /// many as it may, or has no more. It may wait for a peer.
     fn next(&mut self) -> Result<Option<Self::L>, OutError>
@@ -24,6 +27,8 @@ pub trait DoorPort {
             (told self.new ≡ closes (told self.old))
             (λ link. let taken = link_told (Self.L.input link) (Self.L.output link) in
             told self.new ≡ gives taken (told self.old))) }
+        ensures none { IfOk result (λ found. MatchOption found
+            (((told self.old).left ≡ 0) ⊎ exhausted self.old) (λ _. ⊤)) }
         ensures left { IfOk result (λ found. IfSome found (λ _. 0 < (told self.old).left)) }
         ensures unwritten { IfOk result (λ found. IfSome found
             (λ link. IsUnwritten (link_told (Self.L.input link) (Self.L.output link)))) }

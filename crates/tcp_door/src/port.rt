@@ -93,6 +93,9 @@ impl<C: Clock + Copy + Drop + Send> DoorPort for TcpPort<C> {
 
     ghost faultless = { λ _. false };
 
+    // A listener always has another.
+    ghost exhausted = { λ _. ⊥ };
+
     fn next(&mut self) -> Result<Option<TcpLink<C>>, OutError> {
         if self.left == 0 {
             self.over = true;
