@@ -1,4 +1,4 @@
--- A run that says that a book can be released, or that it can't, or keeps a released one, is right.
+-- A run that says that a book can be released, or that it can't, is right.
 use Rattle.std.proofs.Common.{◌≡◌, ◌∙◌, ℕ, List, Option, None, Some, sym, subst, inl, inr}
 use Rattle.std.specs.Prelude.{◌⊎◌, IsOkAnd, IfSome, IsTrue, take}
 use Rattle.book_model.specs.Contents.{Contents}
@@ -6,10 +6,6 @@ use Rattle.book_model.specs.Sound.{IsReleasable}
 use Rattle.book_text.specs.BookText.{book_of}
 use Rattle.pb_outside.specs.Source.{ReadsUpTo}
 use Rattle.command_words.specs.Parts.{Words}
-use Rattle.pb_outside.specs.Sink.{SinkTold}
-use Rattle.desk_run.specs.declared.end.DeskEnd.{DeskEnd}
-use Rattle.desk_run.specs.declared.end.DeskEnd.TheVariants.{NotStarted, Served}
-use Rattle.desk_run.proofs.Released.{run_released, told_released}
 use Rattle.book_commands.specs.Checks.{IsUnreleasable}
 use Rattle.book_commands.specs.Inputs.{input_limit}
 use Rattle.book_commands.specs.Promises.{promise_of}
@@ -17,16 +13,11 @@ use Rattle.command_words.specs.declared.task.BookCommand.{BookCommand}
 use Rattle.book_commands.specs.declared.run_status.RunStatus.{RunStatus}
 use Rattle.book_commands.specs.declared.run_status.RunStatus.TheVariants as statuses
 use Rattle.book_commands.proofs.Promises.{lawful}
-use Rattle.commands.specs.DeskEnds.{desk_outside, RunsDesk}
 use Rattle.commands.specs.Outside.{Outside}
 use Rattle.commands.specs.Causes.{GivesReply, IsCaused, by_words, by_inputs, by_sink, by_memory, by_reply, by_sample, by_desk, by_door, by_service, by_rejudge, by_impact}
-use Rattle.commands.specs.Does.{Does}
-use Rattle.command_words.specs.Service.{Service}
-use Rattle.commands.specs.Serves.{ServiceEnd, unstarted, served, ServesBy}
-use Rattle.commands.specs.Released.{AskRelease, AskCheck, AskDesk, AskService, IsReleasableInput, IsBlockedInput, KeepsBooks, KeepsReleased, KeepsServed, ServesReleased}
+use Rattle.commands.specs.Released.{AskRelease, AskCheck, IsReleasableInput, IsBlockedInput}
 use Rattle.command_words.specs.Meaning.{Asks}
 use Rattle.command_words.specs.declared.task.Task.TheVariants.{Book, Desk, Serve, Rejudge, Impact, Sample}
-use Rattle.commands.proofs.DeskTold.{Ran, ToldFrom, same_reads, unstarted_status}
 use Rattle.command_words.proofs.Meanings.{one_task}
 
 of_input : (IsRight : Contents → Type 0) (left left' : Option (List ℕ)) (input : List ℕ) → ReadsUpTo input_limit left left' input
@@ -101,34 +92,3 @@ pub IsCaused-blocked : (words : Words) (before after : Outside) (status : RunSta
 IsCaused-blocked words before after status h refused asks =
     by_reply_alone words asks.command before after status (IsBlockedInput before.reads.source.left) asks.asked (inr refused)
     (refused_reply words before after status refused asks) h
-
--- what a desk keeps that was started
-by_end : (how : DeskEnd) (before after : Outside) (middle : SinkTold) (status : RunStatus) → Ran how before after middle
-    → ToldFrom how before after middle status → after.reads.files ≡ before.reads.files
-    → KeepsBooks how before after status
-by_end (Served end) before after middle status run told files =
-    run_released (Served end) (desk_outside before before.writes.sink) (desk_outside after middle) run
-by_end (NotStarted why) before after middle status run told files = record {
-  untouched = same_reads why before after middle run files;
-  statuses = unstarted_status why before after middle status told;
-}
-
-desk_released : (before after : Outside) (status : RunStatus) → RunsDesk before after status → KeepsReleased before after status
-desk_released before after status h = record { runs = h; books = by_end h.how before after h.middle status h.run h.told h.files }
-
-pub Does-released : (words : Words) (before after : Outside) (status : RunStatus) → Does words before after status → AskDesk words
-    → KeepsReleased before after status
-Does-released words before after status does asks = desk_released before after status (does.asked (Desk asks.store) asks.asked)
-
--- what a service keeps whose desk was started
-keeps_served : (how : ServiceEnd) (service : Service) (before after : Outside) (status : RunStatus) → ServesBy how service before after status
-    → KeepsServed how before after status
-keeps_served (served how) service before after status run = told_released run.serves.new.tables after.keeper.rows run.serves.valid run.serves.rows
-keeps_served (unstarted why) service before after status run =
-    record { untouched = run.untouched; statuses = unstarted_status why before after before.writes.sink status run.told }
-
-pub Does-served : (words : Words) (before after : Outside) (status : RunStatus) → Does words before after status → AskService words
-    → ServesReleased words before after status
-Does-served words before after status does asks =
-    let h = does.asked (Serve asks.service) asks.asked in
-    record { service = asks.service; asked = asks.asked; runs = h; books = keeps_served h.how asks.service before after status h.runs }

@@ -6,10 +6,10 @@ use Rattle.commands.specs.Does.{Does}
 use Rattle.commands.specs.Outside.{Outside}
 use Rattle.commands.specs.Run.{IsRun}
 use Rattle.commands.proofs.Caused.{Does-caused, Does-usage}
-use Rattle.commands.proofs.Releasable.{IsCaused-released, IsCaused-blocked, Does-released, Does-served}
+use Rattle.commands.proofs.Headlines.{Does-headline}
+use Rattle.commands.proofs.Releasable.{IsCaused-released, IsCaused-blocked}
 use Rattle.commands.proofs.Decided.{IsCaused-decided}
 use Rattle.commands.proofs.Sure.{Does-sure, Does-unfailing}
-use Rattle.commands.proofs.Traded.{Does-trades, Does-serves_trades}
 
 pub Does-run : (words : Words) (before after : Outside) (status : RunStatus) → Does words before after status → IsRun words before after status
 Does-run words before after status does = record {
@@ -20,10 +20,7 @@ Does-run words before after status does = record {
   blocked = IsCaused-blocked words before after status (Does-caused words before after status does);
   decided = IsCaused-decided words before after status (Does-caused words before after status does);
   advises = λ h. tells_orders h.command h.input before.reads.files after.reads.files h.reply h.replies;
-  kept_released = Does-released words before after status does;
-  served_released = Does-served words before after status does;
-  trades = Does-trades words before after status does;
-  service_trades = Does-serves_trades words before after status does;
+  headline = Does-headline words before after status does;
   complete = Does-sure words before after status does;
   unfailing = Does-unfailing words before after status does;
 }

@@ -9,7 +9,8 @@ pub mod Does
 pub mod Causes
 pub mod Released
 pub mod Complete
-pub mod Traded
+pub mod Exchanges
+pub mod Headline
 pub mod Ample
 pub mod Run
 pub mod Limits

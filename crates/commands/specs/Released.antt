@@ -1,21 +1,16 @@
--- What a run's status says of the book that was read, and which books a desk keeps.
-use Rattle.std.specs.Prelude.{◌≡◌, ◌⊎◌, ℕ, List, Option, IfSome, IsOkAnd, IsTrue, All, take}
+-- What a run's status says of the book that was read, and which words ask for a desk.
+use Rattle.std.specs.Prelude.{◌≡◌, ◌⊎◌, ℕ, List, Option, IfSome, IsOkAnd, IsTrue, take}
 use Rattle.book_model.specs.Sound.{IsReleasable}
 use Rattle.book_text.specs.BookText.{book_of}
 use Rattle.command_words.specs.Parts.{Words}
-use Rattle.desk_run.specs.Released.{IsReleasedRow}
-use Rattle.desk_run.specs.declared.end.DeskEnd.{DeskEnd}
-use Rattle.desk_run.specs.declared.end.DeskEnd.TheVariants.{NotStarted, Served}
 use Rattle.book_commands.specs.Checks.{IsUnreleasable}
 use Rattle.book_commands.specs.Inputs.{input_limit}
 use Rattle.book_commands.specs.Promises.{promise_of}
 use Rattle.command_words.specs.declared.task.BookCommand.{BookCommand}
 use Rattle.book_commands.specs.declared.run_status.RunStatus.{RunStatus}
 use Rattle.book_commands.specs.declared.run_status.RunStatus.TheVariants as statuses
-use Rattle.commands.specs.DeskEnds.{RunsDesk}
 use Rattle.commands.specs.Outside.{Outside}
 use Rattle.command_words.specs.Service.{Service}
-use Rattle.commands.specs.Serves.{ServiceEnd, unstarted, served, RunsService}
 use Rattle.command_words.specs.Meaning.{Asks}
 use Rattle.command_words.specs.declared.task.Task.TheVariants.{Book, Desk, Serve}
 
@@ -50,28 +45,7 @@ pub record IsUnstarted (before after : Outside) (status : RunStatus) : Type 0 wh
   pub untouched : after.reads ≡ before.reads
   pub statuses : (status ≡ statuses.WriteFault) ⊎ (status ≡ statuses.NotStarted) ⊎ (status ≡ statuses.WantOfMemory)
 
--- by how a desk's run ended: where a link was served, each book that is kept can be released. A keeper that tells no rows, as
--- that over a file, leaves this empty; that the tables of the last state are valid the run itself says
-abbrev pub KeepsBooks : DeskEnd → Outside → Outside → RunStatus → Type 0
-KeepsBooks (Served end) before after status = IfSome after.keeper.rows (λ kept. All IsReleasedRow kept.books)
-KeepsBooks (NotStarted why) before after status = IsUnstarted before after status
-
-pub record KeepsReleased (before after : Outside) (status : RunStatus) : Type 0 where
-  pub runs : RunsDesk before after status
-  pub books : KeepsBooks runs.how before after status
-
 -- the words ask for a service
 pub record AskService (words : Words) : Type 0 where
   pub service : Service
   pub asked : Asks words (Serve service)
-
--- by how a service ended, in the same way
-abbrev pub KeepsServed : ServiceEnd → Outside → Outside → RunStatus → Type 0
-KeepsServed (served how) before after status = IfSome after.keeper.rows (λ kept. All IsReleasedRow kept.books)
-KeepsServed (unstarted why) before after status = IsUnstarted before after status
-
-pub record ServesReleased (words : Words) (before after : Outside) (status : RunStatus) : Type 0 where
-  pub service : Service
-  pub asked : Asks words (Serve service)
-  pub runs : RunsService service before after status
-  pub books : KeepsServed runs.how before after status

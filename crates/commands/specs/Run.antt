@@ -1,4 +1,4 @@
--- What a run is: all that is promised of it, in one record.
+-- What a run is, in one record. It is what it does; each other field follows from that, by a law of proofs/Runs.
 use Rattle.std.specs.Prelude.{◌≡◌, ◌≢◌, ◌⊎◌, IfOk}
 use Rattle.book_text.specs.BookText.{book_of}
 use Rattle.command_words.specs.Parts.{Words}
@@ -9,9 +9,9 @@ use Rattle.commands.specs.Ample.{AskAmple}
 use Rattle.commands.specs.Causes.{GivesReply, IsCaused, IsUsageStatus}
 use Rattle.commands.specs.Complete.{IsValidInput, CannotFail, NoCountRose, IsAnswered, LacksRoom}
 use Rattle.commands.specs.Does.{Does}
+use Rattle.commands.specs.Headline.{Headline}
 use Rattle.commands.specs.Outside.{Outside}
-use Rattle.commands.specs.Released.{AskRelease, AskCheck, AskDesk, AskService, IsReleasableInput, IsBlockedInput, KeepsReleased, ServesReleased}
-use Rattle.commands.specs.Traded.{Trades, ServesTrades}
+use Rattle.commands.specs.Released.{AskRelease, AskCheck, AskDesk, AskService, IsReleasableInput, IsBlockedInput, IsUnstarted}
 use Rattle.command_words.specs.Meaning.{AsksNothing}
 
 pub record IsRun (words : Words) (before after : Outside) (status : RunStatus) : Type 0 where
@@ -28,14 +28,8 @@ pub record IsRun (words : Words) (before after : Outside) (status : RunStatus) :
   pub decided : AskAmple words before → status ≢ statuses.Undecided
   -- what free, why and ask tell is so of the orders that the book accepts
   pub advises : (h : GivesReply words before after status) → IfOk (book_of h.input) (λ b. TellsOrders h.command b h.reply)
-  -- whatever the status, each book that a desk keeps can be released, those that it found at its start included
-  pub kept_released : AskDesk words → KeepsReleased before after status
-  -- and so it is with the desk of a service
-  pub served_released : AskService words → ServesReleased words before after status
-  -- a desk that was started deals with each order and each release as the words of the trade say
-  pub trades : AskDesk words → Trades before after status
-  -- and so does a service with those of each of its links
-  pub service_trades : AskService words → ServesTrades words before after status
+  -- whatever the status, a desk that was started, alone or for many workers, keeps what it promises
+  pub headline : AskDesk words ⊎ AskService words → IsUnstarted before after status ⊎ Headline before after
   -- where no call fails from here on, valid words and inputs have their answer, memory and the sink's room allowing
   pub complete : CannotFail words before → IsAnswered words before after status ⊎ LacksRoom words before after status
   -- and they have it where no count rose, memory allowing

@@ -2,18 +2,16 @@
 use Rattle.std.proofs.Common.{◌≡◌, ◌∙◌, ℕ, ◌+◌, ◌<◌, true, List, [], ◌∷◌, ◌++◌, length, Option, Some, refl, sym, ap, subst, inl, inr, length-append, arith}
 use Rattle.std.specs.Prelude.{map, unwrap_or}
 use Rattle.std.proofs.lemmas.Bool.{lt-ltb}
-use Rattle.std.proofs.lemmas.List.{length-map}
 use Rattle.pb_outside.specs.Faults.{Rose}
 use Rattle.pb_door.specs.DoorTold.{has_failed}
 use Rattle.pb_door.specs.LinkTold.{LinkTold}
 use Rattle.pb_door.specs.PortTold.{PortTold}
-use Rattle.turn_book.proofs.Places.{length_at_places}
-use Rattle.turn_book.specs.Places.{at_places}
 use Rattle.turn_book.specs.Standing.{Opened}
 use Rattle.order_desk.specs.Tables.{State}
 use Rattle.answering.specs.Hand.{Hand, Made}
 use Rattle.answering.specs.LaterHand.{IsLaterHand}
-use Rattle.answering.specs.Seat.{IsSeated, Sitting, hand_of, made_of, sitting}
+use Rattle.answering.specs.Seat.{IsSeated, Sitting, hand_of, sitting}
+use Rattle.answering.proofs.Seats.{length_made}
 use Rattle.session.specs.declared.end.SessionEnd.{SessionEnd}
 use Rattle.serve_run.specs.Work.{EndsWork, Notes, ServesLinks, Works}
 use Rattle.serve_run.specs.declared.work_end.WorkEnd.{WorkEnd}
@@ -45,7 +43,7 @@ failed_so Memory before after none is so = cc
 
 -- the calls of a pass are the steps that were made
 steps_made : (book : Opened State) (pass : Passed) → IsSeated (sitting book pass) → length (hand_of (sitting book pass)).made ≡ length pass.own
-steps_made book pass seated = length-map (at_places pass.seen pass.own) made_of ∙ length_at_places 0 pass.seen pass.own seated.rises
+steps_made book pass seated = length_made book.start pass.seen pass.own seated.rises
 
 pub done_so : (book : Opened State) (share : ℕ) (before after : WorkerTold) (pass later : Passed) → IsFresh book share pass → IsUnused before.port → before.faults ≡ []
     → after.pass ≡ Some later → IsSeated (sitting book later)

@@ -6,14 +6,15 @@ use Rattle.std.proofs.lemmas.Bool.{cases_lt}
 use Rattle.std.proofs.lemmas.List.{length-map}
 use Rattle.pb_outside.specs.Faults.{Rose, raised}
 use Rattle.pb_door.specs.DoorTold.{AreLent, DoorTold, faults_with, has_failed, lends, takes_back}
-use Rattle.pb_door.specs.PortTold.{PortTold, new_ports, numbers_below}
+use Rattle.pb_door.specs.PortTold.{PortTold, new_ports, numbers_below, share_of}
 use Rattle.order_desk.specs.Tables.{State}
 use Rattle.session.specs.declared.end.SessionEnd.{SessionEnd}
 use Rattle.serve_run.specs.declared.end.ServeEnd.{ServeEnd}
 use Rattle.serve_run.specs.declared.end.ServeEnd.TheVariants.{Closed, NoWorkers, Worked}
 use Rattle.serve_run.specs.ServeRun.{AreEnded, IsServeRun, IsServed}
+use Rattle.serve_run.specs.Work.{links_of}
 use Rattle.serve_run.specs.Workers.{IsPortsRun}
-use Rattle.serve_run.proofs.Fresh.{length_ports, numbers_ports}
+use Rattle.serve_run.proofs.Fresh.{length_ports, numbers_ports, shares_ports}
 use Rattle.serve_run.proofs.Shares.{shares_fit}
 
 -- the steps of all workers are no more than the whole
@@ -32,6 +33,10 @@ rose_with ports n failed = subst (λ (b : Bool). Rose n (if b then raised n else
 
 numbers_told : (links workers : ℕ) (ports : List PortTold) → ports ≡ new_ports links workers → map (λ p. p.number) ports ≡ numbers_below workers
 numbers_told links workers ports are = ap (λ (ps : List PortTold). map (λ p. p.number) ps) are ∙ numbers_ports links workers workers
+
+shares_told : (links workers : ℕ) (ports : List PortTold) → ports ≡ new_ports links workers
+    → map links_of ports ≡ map (share_of links workers) (numbers_below workers)
+shares_told links workers ports are = ap (λ (ps : List PortTold). map links_of ps) are ∙ shares_ports links workers workers
 
 module _ (old new : State) (share links workers : ℕ) (ports ports' : List PortTold) (faults : List (List SessionEnd)) (are : ports ≡ new_ports links workers) where
   -- the ports that come back are those that were given
@@ -56,6 +61,8 @@ module _ (old new : State) (share links workers : ℕ) (ports ports' : List Port
         served = subst (λ (ps : List PortTold). IsServed old new share ps faults) (sym is_back) run.served;
         ended = subst (λ (ps : List PortTold). AreEnded end ps) (sym is_back) run.ended;
         numbers = ap (λ (ps : List PortTold). map (λ p. p.number) ps) is_back ∙ numbers_back (Worked end) run;
+        shares =
+            ap (λ (ps : List PortTold). map links_of ps) is_back ∙ (run.shares ∙ shares_told links workers ports are);
         told = back ∙ ap₂ takes_back (sym is_back) lent;
         cause = λ is. subst (λ (n : ℕ). Rose before.faults n) (sym count) (rose_with ports' before.faults (run.cause is));
       }

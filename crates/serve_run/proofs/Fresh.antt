@@ -6,6 +6,7 @@ use Rattle.std.proofs.lemmas.List.Elements.{All-nil, All-push, All-head, All-tai
 use Rattle.pb_door.specs.PortTold.{PortTold, new_port, new_ports, numbers_below, ports_below, share_of}
 use Rattle.turn_book.specs.Standing.{Opened}
 use Rattle.order_desk.specs.Tables.{State}
+use Rattle.serve_run.specs.Work.{links_of}
 use Rattle.serve_run.specs.Workers.{IsFresh, IsUnused, Passed}
 
 -- what is left of a pass when some of its calls were cut off
@@ -63,6 +64,15 @@ pub numbers_ports : (links workers n : ℕ) → map (λ p. p.number) (ports_belo
 numbers_ports links workers zero = refl
 numbers_ports links workers (suc n) =
     map-append (λ (p : PortTold). p.number) (ports_below links workers n) (new_port n (share_of links workers n) ∷ []) ∙ ap (λ (l : List ℕ). l ++ n ∷ []) (numbers_ports links workers n)
+
+pub shares_ports : (links workers n : ℕ) → map links_of (ports_below links workers n) ≡ map (share_of links workers) (numbers_below n)
+shares_ports links workers zero = refl
+shares_ports links workers (suc n) =
+    let one : share_of links workers n + 0 ≡ share_of links workers n = omega arith in
+    map-append links_of (ports_below links workers n) (new_port n (share_of links workers n) ∷ [])
+    ∙ (ap (λ (l : List ℕ). l ++ (share_of links workers n + 0) ∷ []) (shares_ports links workers n)
+    ∙ (ap (λ (k : ℕ). map (share_of links workers) (numbers_below n) ++ k ∷ []) one
+    ∙ sym (map-append (share_of links workers) (numbers_below n) (n ∷ []))))
 
 pub All-mapped : {X Y : Type 0} (P : Y → Type 0) (f : X → Y) (xs : List X) → All P (map f xs) → All (λ x. P (f x)) xs
 All-mapped P f [] h = All-nil (λ x. P (f x))

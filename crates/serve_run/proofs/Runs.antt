@@ -1,16 +1,15 @@
 -- Runs of ports, as the history grows and as passes are joined.
 use Rattle.std.proofs.Common.{◌≡◌, ◌⊎◌, ◌∙◌, ℕ, ◌+◌, ◌*◌, true, false, ◌||◌, List, [], ◌∷◌, ◌++◌, length, Option, Some, refl, sym, ap, subst, inl, inr, append_assoc, append-nil, length-append, arith}
-use Rattle.std.specs.Prelude.{map}
 use Rattle.std.specs.List.{list_any}
 use Rattle.std.proofs.lemmas.Bool.{or_left, or_right}
 use Rattle.std.proofs.lemmas.List.Folds.{list_any-append}
 use Rattle.pb_door.specs.DoorTold.{has_failed}
 use Rattle.pb_door.specs.PortTold.{PortTold}
-use Rattle.turn_book.proofs.Places.{at_places_longer, rises_wider}
+use Rattle.turn_book.proofs.Places.{rises_wider}
 use Rattle.turn_book.specs.History.{StartsWith}
 use Rattle.turn_book.specs.Standing.{Opened}
 use Rattle.order_desk.specs.Tables.{State}
-use Rattle.answering.specs.Seat.{made_of}
+use Rattle.answering.proofs.Seats.{steps_longer}
 use Rattle.session.specs.declared.end.SessionEnd.{SessionEnd}
 use Rattle.serve_run.specs.declared.work_end.WorkEnd.{WorkEnd}
 use Rattle.serve_run.specs.declared.work_end.WorkEnd.TheVariants.{Over, Fault, Memory}
@@ -27,7 +26,7 @@ run_longer book share history later port places faults r = record {
   ends = r.ends;
   hand = r.hand;
   serves = r.serves;
-  made = r.made ∙ ap (λ (l : Log). map made_of l) (sym (at_places_longer 0 history later places r.rises));
+  made = r.made ∙ sym (steps_longer book.start history later places r.rises);
   rises = rises_wider 0 0 (length history) (length (history ++ later)) places (omega arith) (omega (arith, length-append history later)) r.rises;
   notes = r.notes;
   none_out = r.none_out;

@@ -3,6 +3,7 @@ use Rattle.std.proofs.Common.{◌≡◌, ◌∙◌, ℕ, zero, suc, ◌<◌, tru
 use Rattle.std.specs.Prelude.{Bool, All, map, slice_index_or}
 use Rattle.std.proofs.lemmas.List.Elements.{All-nil, All-cons, All-head, All-tail, All-map}
 use Rattle.pb_door.specs.PortTold.{PortTold}
+use Rattle.serve_run.specs.Work.{links_of}
 use Rattle.serve_run.specs.Workers.{IsSameWorker, IsUnfailing, WorkerTold}
 use Rattle.serve_run.proofs.Fresh.{All-mapped}
 
@@ -36,6 +37,30 @@ kept_numbers before after old new long same old_is new_is =
     ∙ (numbers_of_ports after
     ∙ (same_numbers before after long same
     ∙ (sym (numbers_of_ports before) ∙ ap (λ (ps : List PortTold). map (λ p. p.number) ps) old_is)))
+
+-- and the links that they have given and may still give
+abbrev share_at : WorkerTold → ℕ
+share_at w = links_of w.port
+
+same_shares : (before after : List WorkerTold) → length after ≡ length before → AtEach before after → map share_at after ≡ map share_at before
+same_shares [] [] long same = refl
+same_shares [] (v ∷ after) long same = absurd (omega arith)
+same_shares (w ∷ before) [] long same = absurd (omega arith)
+same_shares (w ∷ before) (v ∷ after) long same =
+    let first = same 0 w (omega arith) in
+    ap₂ (λ (n : ℕ) (ns : List ℕ). n ∷ ns) first.share (same_shares before after (omega arith) (same_rest w v before after same))
+
+shares_of_ports : (workers : List WorkerTold) → map links_of (map (λ w. w.port) workers) ≡ map share_at workers
+shares_of_ports [] = refl
+shares_of_ports (w ∷ workers) = ap (λ (ns : List ℕ). links_of w.port ∷ ns) (shares_of_ports workers)
+
+pub kept_shares : (before after : List WorkerTold) (old new : List PortTold) → length after ≡ length before → AtEach before after
+    → map (λ w. w.port) before ≡ old → new ≡ map (λ w. w.port) after → map links_of new ≡ map links_of old
+kept_shares before after old new long same old_is new_is =
+    ap (λ (ps : List PortTold). map links_of ps) new_is
+    ∙ (shares_of_ports after
+    ∙ (same_shares before after long same
+    ∙ (sym (shares_of_ports before) ∙ ap (λ (ps : List PortTold). map links_of ps) old_is)))
 
 abbrev IsSure : WorkerTold → Type 0
 IsSure w = w.faultless ≡ true

@@ -1,11 +1,12 @@
 -- Work that goes on behind a link that was served, and work that stops.
-use Rattle.std.proofs.Common.{◌≡◌, ◌∙◌, ℕ, ◌≤◌, ◌<◌, false, List, [], ◌∷◌, ◌++◌, refl, sym, ap, subst, inl, inr, append_assoc, append-nil, arith}
+use Rattle.std.proofs.Common.{◌≡◌, ◌∙◌, ℕ, ◌≤◌, ◌<◌, false, List, [], ◌∷◌, ◌++◌, refl, sym, ap, subst, inl, inr, append_assoc, append-nil, length-append, arith}
 use Rattle.std.specs.Prelude.{Bool}
 use Rattle.pb_outside.specs.Faults.{Rose}
 use Rattle.pb_door.specs.LinkTold.{LinkTold}
 use Rattle.pb_door.specs.PortTold.{PortTold, ends, gives}
 use Rattle.answering.specs.Hand.{Hand}
-use Rattle.session.specs.Session.{IsSession, told}
+use Rattle.session.specs.Dealing.{HasDealt}
+use Rattle.session.specs.Session.{told}
 use Rattle.session.specs.declared.end.SessionEnd.{SessionEnd}
 use Rattle.serve_run.specs.Work.{EndsWork, KeepsEnd, Notes, Works, WorksOn}
 use Rattle.serve_run.specs.declared.work_end.WorkEnd.{WorkEnd}
@@ -37,9 +38,9 @@ cause_on Memory p q last same is = tt
 
 -- a link was given, served and handed back
 pub goes_on : (end : SessionEnd) (h mid : Hand) (link link' : LinkTold) (p : PortTold) (log log' : List SessionEnd) → 0 < p.left
-    → IsSession end h (told link.input link.output) (told link'.input link'.output) mid → KeepsEnd end log log'
+    → HasDealt end h (told link.input link.output) (told link'.input link'.output) mid → KeepsEnd end log log'
     → WorksOn h p log mid (ends link' (gives link p)) log'
-goes_on end h mid link link' p log log' some_left session keeps = λ last_end last more new w.
+goes_on end h mid link link' p log log' some_left dealt keeps = λ last_end last more new w.
     let k = kept_on end w.ends log log' more w.kept keeps w.logged w.notes in
     record {
       ends = end ∷ w.ends;
@@ -47,11 +48,12 @@ goes_on end h mid link link' p log log' some_left session keeps = λ last_end la
       ended = link' ∷ w.ended;
       gave = w.gave ∙ append_assoc p.given (link ∷ []) w.given;
       took = w.took ∙ append_assoc p.ended (link' ∷ []) w.ended;
-      serves = (mid, session, w.serves);
+      serves = (mid, dealt, w.serves);
       kept = k.kept;
       logged = k.logged;
       notes = k.notes;
       left = (let l = w.left in omega arith);
+      share = (let s = w.share in omega (arith, length-append p.given (link ∷ [])));
       number = w.number;
       none_out = w.none_out;
       never_falls = w.never_falls;
@@ -73,6 +75,7 @@ stops end h p over faults log none_out never_falls cause = record {
   logged = sym (append-nil log);
   notes = refl;
   left = omega arith;
+  share = refl;
   number = refl;
   none_out = none_out;
   never_falls = never_falls;

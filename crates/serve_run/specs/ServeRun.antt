@@ -10,7 +10,7 @@ use Rattle.std.specs.Prelude.{◌≡◌, ◌⊎◌, ℕ, ◌<◌, true, false, L
 use Rattle.pb_outside.specs.Faults.{Rose}
 use Rattle.pb_outside.specs.declared.error.OutError.TheVariants.{Failed, Memory as NoMemory}
 use Rattle.pb_door.specs.DoorTold.{DoorTold, counts, lends, takes_back}
-use Rattle.pb_door.specs.PortTold.{PortTold, new_ports, numbers_below}
+use Rattle.pb_door.specs.PortTold.{PortTold, new_ports, numbers_below, share_of}
 use Rattle.turn_book.specs.History.{AreAllBelow, end_of}
 use Rattle.turn_book.specs.Places.{Rises, at_places}
 use Rattle.turn_book.specs.Standing.{Opened}
@@ -20,9 +20,9 @@ use Rattle.order_desk.specs.declared.event.Event.{Event}
 use Rattle.order_desk.specs.History.{IsLegal}
 use Rattle.order_desk.specs.Tables.{State}
 use Rattle.answering.specs.Hand.{Hand}
-use Rattle.answering.specs.Seat.{made_of}
+use Rattle.answering.specs.Seat.{steps_of}
 use Rattle.session.specs.declared.end.SessionEnd.{SessionEnd}
-use Rattle.serve_run.specs.Work.{Notes, ServesLinks}
+use Rattle.serve_run.specs.Work.{Notes, ServesLinks, links_of}
 use Rattle.serve_run.specs.declared.work_end.WorkEnd.{WorkEnd}
 use Rattle.serve_run.specs.declared.work_end.WorkEnd.TheVariants.{Over, Fault, Memory}
 use Rattle.serve_run.specs.declared.end.ServeEnd.{ServeEnd}
@@ -35,13 +35,14 @@ Log = List (Entry State Event Answer)
 abbrev pub hand_at : Opened State → ℕ → Hand
 hand_at book share = record { book = Some book; state = book.start; left = share; made = [] }
 
--- its links were served one after the other by one holder, whose steps are those at rising places of the history; of the
--- sessions in which a link failed, these ends were kept
+-- its links were served one after the other by one holder, whose steps are those at rising places of the history. So each
+-- begins at the state to which all entries before it lead, and what the holder has seen by then is the state after its step
+-- before, which is that of a front of these entries. Of the sessions in which a link failed, these ends were kept
 pub record IsPortRun (book : Opened State) (share : ℕ) (history : Log) (port : PortTold) (places : List ℕ) (faults : List SessionEnd) : Type 0 where
   pub ends : List SessionEnd
   pub hand : Hand
   pub serves : ServesLinks ends (hand_at book share) port.given port.ended hand
-  pub made : hand.made ≡ map made_of (at_places history places)
+  pub made : hand.made ≡ at_places (steps_of book.start history) places
   pub rises : Rises 0 (length history) places
   pub notes : Notes ends faults
   pub none_out : port.out ≡ false
@@ -78,11 +79,13 @@ AreEnded end (port ∷ ports) = IsEnded end port × AreEnded end ports
 
 -- ---- the whole run
 
--- the workers ended: all ports came back, and the desk is the one after all their steps
+-- the workers ended: all ports came back, each has given and may still give its share of the links, and the desk is the one
+-- after all their steps
 pub record IsWorked (end : WorkEnd) (old new : State) (share links workers : ℕ) (faults : List (List SessionEnd)) (before after : DoorTold) : Type 0 where
   pub served : IsServed old new share after.back faults
   pub ended : AreEnded end after.back
   pub numbers : map (λ p. p.number) after.back ≡ numbers_below workers
+  pub shares : map links_of after.back ≡ map (share_of links workers) (numbers_below workers)
   pub told : after ≡ takes_back after.back (lends workers before)
   pub cause : end ≡ Fault → Rose before.faults after.faults
 

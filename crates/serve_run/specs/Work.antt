@@ -1,14 +1,16 @@
 -- What a worker does with the links of its port.
 --     ServesLinks ends h given ended new             links that were served one after the other
+--     links_of port                                  how many links it has given and may still give
 --     Notes ends kept                                what is kept of how their sessions ended
 --     Works end h before after log log' new          a worker that ended so
 --     WorksOn h before log h' after log'             inner: whatever work follows makes a whole with what went before
-use Rattle.std.specs.Prelude.{◌≡◌, ◌⊎◌, ◌+◌, ◌≤◌, Bool, true, false, List, [], ◌∷◌, ◌++◌, length}
+use Rattle.std.specs.Prelude.{◌≡◌, ◌⊎◌, ℕ, ◌+◌, ◌≤◌, Bool, true, false, List, [], ◌∷◌, ◌++◌, length}
 use Rattle.pb_outside.specs.Faults.{Rose}
 use Rattle.pb_door.specs.LinkTold.{LinkTold}
 use Rattle.pb_door.specs.PortTold.{PortTold}
 use Rattle.answering.specs.Hand.{Hand}
-use Rattle.session.specs.Session.{IsSession, told}
+use Rattle.session.specs.Dealing.{HasDealt}
+use Rattle.session.specs.Session.{told}
 use Rattle.session.specs.declared.end.SessionEnd.{SessionEnd}
 use Rattle.session.specs.declared.end.SessionEnd.TheVariants.{Done, Broken, ReadFault, WriteFault, Memory}
 use Rattle.serve_run.specs.declared.work_end.WorkEnd.{WorkEnd}
@@ -20,7 +22,7 @@ abbrev pub ServesLinks : List SessionEnd → Hand → List LinkTold → List Lin
 ServesLinks [] h [] [] new = new ≡ h
 ServesLinks (end ∷ ends) h (before ∷ given) (after ∷ ended) new =
     (mid : Hand)
-    × IsSession end h (told before.input before.output) (told after.input after.output) mid
+    × HasDealt end h (told before.input before.output) (told after.input after.output) mid
     × ServesLinks ends mid given ended new
 ServesLinks ends h given ended new = ⊥
 
@@ -43,6 +45,10 @@ EndsWork Over before after = after.over ≡ true
 EndsWork Fault before after = Rose before.faults after.faults
 EndsWork NoMemory before after = Unit {0}
 
+-- how many links a port has given and may still give
+abbrev pub links_of : PortTold → ℕ
+links_of p = p.left + length p.given
+
 -- given, ended: the links that the port gave meanwhile, and the same when they were handed back
 pub record Works (end : WorkEnd) (h : Hand) (before after : PortTold) (log log' : List SessionEnd) (new : Hand) : Type 0 where
   pub ends : List SessionEnd
@@ -55,6 +61,7 @@ pub record Works (end : WorkEnd) (h : Hand) (before after : PortTold) (log log' 
   pub logged : log' ≡ log ++ kept
   pub notes : Notes ends kept
   pub left : after.left + length given ≡ before.left
+  pub share : links_of after ≡ links_of before
   pub number : after.number ≡ before.number
   pub none_out : after.out ≡ false
   pub never_falls : before.faults ≤ after.faults

@@ -13,6 +13,7 @@ use Rattle.serve_run.specs.declared.work_end.WorkEnd.TheVariants.{Over, Fault, M
 use Rattle.serve_run.specs.declared.end.ServeEnd.{ServeEnd}
 use Rattle.serve_run.specs.declared.end.ServeEnd.TheVariants.{Closed, NoWorkers, Worked}
 use Rattle.serve_run.specs.ServeRun.{ArePortRuns, AreEnded, IsEnded, IsPortRun, IsServed, all_of}
+use Rattle.serve_run.specs.Work.{links_of}
 
 abbrev pub Passed : Type 0
 Passed = Standing State Event Answer
@@ -67,6 +68,7 @@ pub record IsDone (book : Opened State) (share : ℕ) (w : WorkerTold) : Type 0 
 -- it has the same port, which has not failed if it had said that no call fails
 pub record IsSameWorker (before w : WorkerTold) : Type 0 where
   pub number : w.port.number ≡ before.port.number
+  pub share : links_of w.port ≡ links_of before.port
   pub unfailing : before.faultless ≡ true → IsUnfailing w.end
 
 -- the end that tells least of the ports
@@ -94,6 +96,7 @@ pub record IsPortsWorked (end : WorkEnd) (old new : State) (share : ℕ) (ports 
   pub served : IsServed old new share ports' faults
   pub ended : AreEnded end ports'
   pub numbers : map (λ p. p.number) ports' ≡ map (λ p. p.number) ports
+  pub shares : map links_of ports' ≡ map links_of ports
   pub cause : end ≡ Fault → list_any has_failed ports' ≡ true
 
 abbrev pub IsPortsRun : ServeEnd → State → State → ℕ → List PortTold → List PortTold → List (List SessionEnd) → Type 0

@@ -1,6 +1,8 @@
 //! The links of one port, served one after the other.
 ghost use Rattle.std.specs.Prelude.{◌≡◌, ◌≢◌, ◌⊎◌, [], ◌∷◌, ◌++◌, false, true, OnOk, IfErr};
 ghost use Rattle.answering.specs.LaterHand.{IsLaterHand};
+ghost use Rattle.session.specs.Dealing.{HasDealt};
+ghost use Rattle.session.specs.Session.{told};
 ghost use Rattle.serve_run.specs.Work.{KeepsEnd, Works, WorksOn};
 
 use crate::work_end::WorkEnd;
@@ -8,8 +10,8 @@ use answering::{Gate, Turns};
 use http_api::Routes;
 use pb_base::Memory;
 use pb_door::DoorPort;
-use pb_outside::OutError;
-use session::{SessionEnd, session_by};
+use pb_outside::{Link, OutError};
+use session::{SessionEnd, session, session_by};
 use std::alloc::Global;
 
 /// Serves the links of a port one after the other, and hands each back, until the port gives no more or fails. Where a
@@ -31,15 +33,15 @@ pub fn work<Q: DoorPort, T: Turns, G: Gate>(
     ensures unfailing { Q.faultless port.old ≡ true → result ≢ WorkEnd.Fault }
 {
     match Routes::new(alloc) {
-        Ok(routes) => serve_links(alloc, &routes, port, turns, gate, faults),
-        Err(Memory) => WorkEnd::Memory,
+        Ok(routes) => serve_links(alloc, Some(&routes), port, turns, gate, faults),
+        Err(Memory) => serve_links(alloc, None, port, turns, gate, faults),
     }
 }
 
-// The same, where the paths are known.
+// The same, by paths that were read before, if there was memory for them.
 fn serve_links<Q: DoorPort, T: Turns, G: Gate>(
     alloc: Global,
-    routes: &Routes,
+    routes: Option<&Routes>,
     port: &mut Q,
     turns: &mut T,
     gate: &G,
@@ -65,7 +67,7 @@ fn serve_links<Q: DoorPort, T: Turns, G: Gate>(
 // Serves the next link and hands it back, or says why there is none.
 fn serve_next<Q: DoorPort, T: Turns, G: Gate>(
     alloc: Global,
-    routes: &Routes,
+    routes: Option<&Routes>,
     port: &mut Q,
     turns: &mut T,
     gate: &G,
@@ -87,7 +89,7 @@ fn serve_next<Q: DoorPort, T: Turns, G: Gate>(
 {
     match port.next() {
         Ok(Some(mut link)) => {
-            let end = session_by(alloc, routes, &mut link, turns, gate);
+            let end = serve_link(alloc, routes, &mut link, turns, gate);
             port.done(link);
             keep(faults, end);
             Ok(())
@@ -95,6 +97,26 @@ fn serve_next<Q: DoorPort, T: Turns, G: Gate>(
         Ok(None) => Err(WorkEnd::Over),
         Err(OutError::Failed) => Err(WorkEnd::Fault),
         Err(OutError::Memory) => Err(WorkEnd::Memory),
+    }
+}
+
+// Serves one link. Where there was no memory for the paths its session reads them, and want of memory ends that session alone.
+fn serve_link<L: Link, T: Turns, G: Gate>(
+    alloc: Global,
+    routes: Option<&Routes>,
+    link: &mut L,
+    turns: &mut T,
+    gate: &G,
+) -> SessionEnd
+    ensures dealt { let before = told (L.input link.old) (L.output link.old) in
+        let after = told (L.input link.new) (L.output link.new) in
+        HasDealt result (T.hand turns.old) before after (T.hand turns.new) }
+    ensures steps { IsLaterHand (T.hand turns.old) (T.hand turns.new) }
+    ensures same_names { L.names link.new ≡ L.names link.old }
+{
+    match routes {
+        Some(routes) => session_by(alloc, routes, link, turns, gate),
+        None => session(alloc, link, turns, gate),
     }
 }
 

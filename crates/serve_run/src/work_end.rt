@@ -7,6 +7,6 @@ pub enum WorkEnd {
     Over,
     /// The port failed while it was asked for the next link.
     Fault,
-    /// There was no memory for the paths of calls, or for the next link.
+    /// There was no memory for the next link.
     Memory,
 }

@@ -12,15 +12,15 @@ pub returns-in-Ok-Some-clause-goes_on : goal.returns-in-Ok-Some-clause-goes_on
 returns-in-Ok-Some-clause-goes_on g c =
     let p = g.Q.DoorPort.told c.args.port.now in
     let h = g.T.Turns.hand c.args.turns.now in
-    let mid = g.T.Turns.hand c.session_by-end.new.turns in
+    let mid = g.T.Turns.hand c.serve_link-end.new.turns in
     let log = c.args.faults.now.items in
     let log' = c.keep.new.faults.items in
     let link = link_told (g.Q.L.Ends.input c.in-Ok-Some.link) (g.Q.L.Ends.output c.in-Ok-Some.link) in
-    let link' = link_told (g.Q.L.Ends.input c.session_by-end.new.link) (g.Q.L.Ends.output c.session_by-end.new.link) in
+    let link' = link_told (g.Q.L.Ends.input c.serve_link-end.new.link) (g.Q.L.Ends.output c.serve_link-end.new.link) in
     let found = rw c.in-Ok-Some.field-0-is at c.in-Ok-Some.ensures.found in
     let left = rw c.in-Ok-Some.field-0-is at c.in-Ok-Some.ensures.left in
     let is = c.done.ensures.ended ∙ ap (λ (q : PortTold). ends link' q) found in
-    subst (λ (q : PortTold). WorksOn h p log mid q log') (sym is) (goes_on c.session_by-end.result h mid link link' p log log' left c.session_by-end.ensures.dealt.session c.keep.ensures)
+    subst (λ (q : PortTold). WorksOn h p log mid q log') (sym is) (goes_on c.serve_link-end.result h mid link link' p log log' left c.serve_link-end.ensures.dealt c.keep.ensures)
 
 pub returns-in-Ok-None-clause-ended : goal.returns-in-Ok-None-clause-ended
 returns-in-Ok-None-clause-ended g c =

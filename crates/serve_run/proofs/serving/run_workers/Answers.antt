@@ -2,7 +2,7 @@ use Rattle.std.proofs.Common.{refl, sym, arith}
 use Rattle.std.specs.Prelude.{map}
 use Rattle.answering.proofs.Seats.{legal_turns}
 use Rattle.serve_run.proofs.Joinings.{served}
-use Rattle.serve_run.proofs.SameWorkers.{all_unfailing, kept_numbers}
+use Rattle.serve_run.proofs.SameWorkers.{all_unfailing, kept_numbers, kept_shares}
 use Rattle.serve_run.proofs.Seatings.{as_many}
 use Rattle.serve_run.proofs.serving.run_workers.Goals as goal
 
@@ -28,6 +28,9 @@ returns-clause-runs g c =
       ended = joined.ended;
       numbers =
           kept_numbers c.seat_workers-pass.result.1.items c.worked-workers.result.items ports ports' c.worked-workers.ensures.len c.worked-workers.ensures.same
+          c.seat_workers-pass.ensures.ports c.join_workers-pass.ensures.ports;
+      shares =
+          kept_shares c.seat_workers-pass.result.1.items c.worked-workers.result.items ports ports' c.worked-workers.ensures.len c.worked-workers.ensures.same
           c.seat_workers-pass.ensures.ports c.join_workers-pass.ensures.ports;
       cause = joined.cause;
     }
