@@ -1,7 +1,8 @@
 //! What the statements make of a database.
 
-use crate::row::draft;
-use keeper_sql::{begin, load, migrate, put_draft, put_withdrawn};
+use crate::row::{draft, order};
+use keeper::OrderRow;
+use keeper_sql::{begin, load, migrate, put_draft, put_order, put_withdrawn};
 use sqlite::{Alter, Connection, Error};
 use std::alloc::Global;
 use std::process::Abort;
@@ -83,6 +84,92 @@ fn what_is_no_row_is_refused_or_shown(rt: HostRuntime) -> Result<(), Fail> {
     let alloc = rt.alloc();
     let mut conn = Connection::open_in_memory(alloc)?;
     let done = refuses_what_is_no_row(&rt, alloc, &mut conn);
+    drop(conn);
+    Ok(done?)
+}
+
+// An order of this caller under this number.
+fn put_order_of<S: Alter>(
+    alloc: Global,
+    conn: &mut Connection<S>,
+    caller: u8,
+    number: u64,
+) -> Result<(), Error> {
+    let mut row = order(alloc, caller, b'a')?;
+    row.number = number;
+    put_order(conn, &row)
+}
+
+// Whether the next order is of this caller and number.
+fn is_of(row: &OrderRow, caller: u8, number: u64) -> bool {
+    row.caller.as_slice() == [b'H', caller].as_slice() && row.number == number
+}
+
+// Their numbers alone would give another sequence, and so would the callers alone.
+fn sorts_orders<S: Alter>(
+    rt: &impl Abort,
+    alloc: Global,
+    conn: &mut Connection<S>,
+) -> Result<(), Error> {
+    begin(conn)?;
+    put_order_of(alloc, conn, b'1', 2)?;
+    put_order_of(alloc, conn, b'2', 1)?;
+    put_order_of(alloc, conn, b'1', 1)?;
+    let rows = load(alloc, conn)?;
+    let are_sorted = matches!(rows.orders.as_slice(), [first, second, third]
+        if is_of(first, b'1', 1) && is_of(second, b'1', 2) && is_of(third, b'2', 1));
+    assert!(rt; are_sorted);
+    Ok(())
+}
+
+#[test]
+fn orders_come_by_their_callers_and_then_by_their_numbers(rt: HostRuntime) -> Result<(), Fail> {
+    let alloc = rt.alloc();
+    let mut conn = Connection::open_in_memory(alloc)?;
+    let done = sorts_orders(&rt, alloc, &mut conn);
+    drop(conn);
+    Ok(done?)
+}
+
+// Whether a load that may take so many steps gives all nine numbers, where it gives any.
+fn is_whole<S: Alter>(
+    rt: &impl Abort,
+    alloc: Global,
+    conn: &mut Connection<S>,
+    steps: u64,
+) -> bool {
+    conn.set_step_limit(Some(steps));
+    match load(alloc, conn) {
+        Ok(rows) => {
+            assert_eq!(rt; rows.withdrawn.len(), 9, "{steps}");
+            true
+        }
+        Err(_) => false,
+    }
+}
+
+fn tells_a_read_that_ends_early<S: Alter>(
+    rt: &impl Abort,
+    alloc: Global,
+    conn: &mut Connection<S>,
+) -> Result<(), Error> {
+    begin(conn)?;
+    for number in 1..10 {
+        put_withdrawn(conn, number)?;
+    }
+    for steps in 0..40 {
+        let _is_whole = is_whole(rt, alloc, conn, steps);
+    }
+    assert!(rt; !is_whole(rt, alloc, conn, 1));
+    assert!(rt; is_whole(rt, alloc, conn, 1000));
+    Ok(())
+}
+
+#[test]
+fn a_read_that_fails_in_a_table_is_no_end_of_it(rt: HostRuntime) -> Result<(), Fail> {
+    let alloc = rt.alloc();
+    let mut conn = Connection::open_in_memory(alloc)?;
+    let done = tells_a_read_that_ends_early(&rt, alloc, &mut conn);
     drop(conn);
     Ok(done?)
 }
