@@ -11,7 +11,7 @@ unread   one who sends requests as long as the connection takes them, and reads 
 silent   one who says nothing, one who stops inside a head, and one whose body never comes; and then go.
 gone     one who resets his connection again and again, inside a request, or with a response that he doesn't read.
 closing  one who is refused and keeps on sending, and one who keeps his side open.
-all      as many silent clients as there are workers, and none of them goes: after the longest wait all others are answered.
+all      forty silent clients at once, and none of them goes: each holds a worker no longer than a read waits.
 long     one who sends his request a byte a second, for longer than a message may take: his connection is ended.
 many     200 connections at once, each with an order; and 100 that are open at once, which speak one after the other.
 large    one who has a large book checked and released.
@@ -289,28 +289,32 @@ def try_closing(program, given):
 
 
 def try_all(program, given):
+    count = 40
+
     def trial(hall):
-        begun = time.time()
-        silent = [hall.service.connect() for _ in range(WORKERS)]
-        time.sleep(1)
-        callers = [hall.service.connect() for _ in range(20)]
-        for caller in callers:
-            caller.sendall(request("GET", "/drafts/T/owner", "BOB", b"", "Connection: close\r\n"))
-            caller.settimeout(0.2)
-        for caller in callers:
-            try:
-                must("nobody is answered", caller.recv(1) is None)
-            except TimeoutError:
-                caller.settimeout(PATIENCE)
-        for caller in callers:
-            must("a caller", hear(caller).endswith(b"owner ANNA revision 1\n"))
-            caller.close()
-        took = time.time() - begun
-        must("they wait no longer than a read may", took < LONGEST_WAIT + 5, took)
-        for link in silent:
-            link.close()
+        begun, took = time.time(), {}
+
+        def be_silent(place):
+            with hall.service.connect() as link:
+                link.settimeout((count // WORKERS + 2) * LONGEST_WAIT)
+                must("the end of a silent link", link.recv(1) == b"")
+                took[place] = time.time() - begun
+
+        def call():
+            time.sleep(5)
+            with hall.service.connect() as link:
+                link.settimeout((count // WORKERS + 2) * LONGEST_WAIT)
+                link.sendall(request("GET", "/drafts/T/owner", "BOB", b"", "Connection: close\r\n"))
+                must("a caller", hear(link).endswith(b"owner ANNA revision 1\n"))
+            return time.time() - begun
+
+        *_, waited = at_once([*(lambda place=place: be_silent(place) for place in range(count)), call])
+        ends = sorted(took.values())
+        held = [end - before for before, end in zip([0] * WORKERS + ends, ends)]
+        must("no worker is held longer than a read may wait", max(held) < LONGEST_WAIT + 3, held)
+        must("they wait no longer than all silent ones together", waited < count // WORKERS * (LONGEST_WAIT + 2), waited)
         hall.still_serves()
-        return f"{WORKERS} silent clients kept 20 others waiting, who were all answered after {took:.1f} s, though none of the silent went"
+        return f"{count} silent clients, each of whom held one of {WORKERS} workers for {max(held):.1f} s at most; who came behind them all was answered after {waited:.0f} s"
 
     return over(program, trial)
 

@@ -14,20 +14,16 @@ early    bodies of 2 MB that are refused by 413 before they are read: each clien
 wrk      wrk, if it is there: reads over four connections, all answered 200.
 kill     services that are killed at random moments, with four clients each that place orders, over both kinds of store: each
          order that was answered 201 is there afterwards, and of each client at most one more, which was sent and not answered.
-proxy    haproxy by examples/service, if it is there: eight clients place orders through it, while the service behind it ends
-         with its links or is killed, and is started anew. Each order is kept once.
 waiting  sixteen workers, one of which waits for a disk that takes 20 milliseconds more for each sync: they take no processor
          time to speak of while they wait for their turn.
 
-It isn't part of the gate. It needs the built program, python3, curl, and cc for `waiting`; wrk and haproxy where they are there. A
+It isn't part of the gate. It needs the built program, python3, curl, and cc for `waiting`; wrk where it is there. A
 service ends by itself when its links have been, and this ends by itself too: what doesn't come in two minutes is told as broken.
 The status is 1 where something doesn't hold."""
 
 import argparse
-import base64
 import collections
 import contextlib
-import http.client
 import os
 import random
 import re
@@ -40,7 +36,7 @@ import threading
 import time
 
 from desk_stream import PROGRAM, TOP, request, work_place
-from service import ACCEPTED, CODES, PATIENCE, Gone, Service, at_once, free_port, kept_orders, must, try_subjects
+from service import ACCEPTED, CODES, PATIENCE, Gone, Service, at_once, kept_orders, must, try_subjects
 
 KINDS = ("db", "journal")
 
@@ -323,100 +319,6 @@ def kill(program, store, first, draw, port):
         return answered, sent, service.port
 
 
-# Behind the proxy, while the service ends and is started anew.
-
-PROXY = "haproxy"
-SECRET = "Basic " + base64.b64encode(b"KIEL1:another-secret").decode()
-
-
-@contextlib.contextmanager
-def proxy_before(service_port, folder):
-    """The port of the proxy of examples/service in front of this port."""
-    port = free_port()
-    with open(os.path.join(TOP, "examples", "service", "haproxy.cfg")) as file:
-        text = file.read().replace("127.0.0.1:8081", f"127.0.0.1:{service_port}").replace(":8080", f":{port}")
-    path = os.path.join(folder, "haproxy.cfg")
-    with open(path, "w") as file:
-        file.write(text)
-    os.symlink(os.path.join(TOP, "examples", "service", "page"), os.path.join(folder, "page"))
-    proxy = subprocess.Popen([PROXY, "-db", "-q", "-f", path], stdin=subprocess.DEVNULL, stderr=subprocess.DEVNULL)
-    try:
-        until = time.time() + PATIENCE
-        while not listens(port):
-            must("the proxy listens", proxy.poll() is None and time.time() < until)
-            time.sleep(0.01)
-        yield port
-    finally:
-        proxy.kill()
-        proxy.wait()
-
-
-def listens(port):
-    with contextlib.suppress(OSError), socket.create_connection(("127.0.0.1", port), timeout=PATIENCE):
-        return True
-    return False
-
-
-def try_proxy(program, given):
-    if shutil.which(PROXY) is None:
-        return "there is no haproxy: nothing was tried"
-    clients, each, links = 8, 50, 60
-    draw, done = random.Random(given.seed), threading.Event()
-    with tempfile.TemporaryDirectory(dir=work_place()) as folder:
-        store, service_port = os.path.join(folder, "desk.db"), free_port()
-        with Service(program, store, 4, 3, service_port) as service:
-            with service.client() as client:
-                client.release()
-            service.use_up()
-        ends, again = collections.Counter(), collections.Counter()
-
-        def keep_up():
-            """Starts the service anew whenever it has ended, and kills it now and then."""
-            while not done.is_set():
-                with Service(program, store, 4, links, service_port) as service:
-                    until = time.time() + (draw.random() if draw.random() < 0.3 else PATIENCE)
-                    while service.process.poll() is None and time.time() < until and not done.is_set():
-                        time.sleep(0.005)
-                    ends["by its links" if service.process.poll() == 0 else "by a kill"] += 1
-                    must("a service behind the proxy", service.process.poll() in (0, None), service.process.poll())
-
-        def order(place):
-            """Places orders through the proxy, and sends each again that isn't answered."""
-            for number in range(place * each + 1, (place + 1) * each + 1):
-                until = time.time() + PATIENCE
-                while (status := through(port, number)) not in (200, 201):
-                    must("an answer", status in (502, 503, 504) and time.time() < until, number, status)
-                    again[status] += 1
-
-        with proxy_before(service_port, folder) as port:
-
-            def all_orders():
-                try:
-                    at_once([lambda place=place: order(place) for place in range(clients)])
-                finally:
-                    done.set()
-
-            at_once([keep_up, all_orders])
-        kept = kept_orders(store)
-    must("each order is kept once", set(kept) == {("KIEL1", number) for number in range(1, clients * each + 1)}, len(kept))
-    told = ", ".join(f"{count} {end}" for end, count in sorted(ends.items()))
-    sent_again = sum(again.values())
-    return f"{len(kept)} orders through the proxy, while the service ended ({told}); {sent_again} were sent again by their clients"
-
-
-def through(port, number):
-    """The status of an order that is placed through the proxy; None where there is no answer."""
-    link = http.client.HTTPConnection("127.0.0.1", port, timeout=PATIENCE)
-    fields = {"Host": f"localhost:{port}", "Authorization": SECRET, "X-Caller": "ANNA"}
-    try:
-        link.request("PUT", f"/orders/{number}", CODES, fields)
-        return link.getresponse().status
-    except (OSError, http.client.HTTPException):
-        return None
-    finally:
-        link.close()
-
-
 # Waiting for the turn.
 
 WORKERS = 16
@@ -478,8 +380,7 @@ def try_waiting(program, given):
 
 def main():
     subjects = {
-        "page": try_page, "orders": try_orders, "early": try_early, "wrk": try_wrk, "kill": try_kill,
-        "proxy": try_proxy, "waiting": try_waiting,
+        "page": try_page, "orders": try_orders, "early": try_early, "wrk": try_wrk, "kill": try_kill, "waiting": try_waiting,
     }
     reader = argparse.ArgumentParser(
         usage="tests/serve-clients.py [--seed N] [--kills N] [--orders N] [--place FOLDER] [PROGRAM [SUBJECT..]]"
