@@ -49,6 +49,8 @@ WOULD = {
     "a_start_from_another_store": "a desk would take up the rows of another store than the one that the words name",
     "passes_that_are_split_with_a_step_too_many": "workers would be promised more steps than the run has",
     "the_end_of_the_last_worker_alone_is_told": "a port that failed would go unsaid where a later one ended well",
+    "a_session_that_goes_on_after_a_failed_write": "a call would have its effect after a response that could not be written, and nobody would be told of it",
+    "a_failed_accept_told_as_the_end": "a service that can take no more connections would end as if all had been served",
     "another_port": "a service would listen at another port than the words name, and its callers would find nobody",
     "a_finding_of_another_slice": "a rule that breaks cars would be told with the days of another slice",
     "a_pair_that_is_asked_is_skipped": "two rules that keep each other from firing would go unsaid",
