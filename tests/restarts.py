@@ -6,11 +6,10 @@ callers go on through the proxy.
 
 PROGRAM is crates/partsbook/out/partsbook without the word, and KIND one of `db` and `journal`, both without a word.
 
-This does what the unit has systemd do: the words of its ExecStart, with a port of its own, and before them ExecStartPre. The service
-ends in turn by its last link, by a kill, and by the unit's ExecStop if it has one, and is started again at once. Six dealers place orders
-meanwhile, two read books and kept orders, two engineers check drafts and put them, and one asks /up. Counted is what they get:
-each order has to be accepted and to be in the store once, each read to be whole, and nobody may get a 5xx but an engineer whose
-check was on its way, and who asks /up.
+This does what the unit has systemd do: the words of its ExecStart, with a port of its own. The service ends in turn by its last
+link and by a kill, and is started again at once. Six dealers place orders meanwhile, two read books and kept orders, two engineers
+check a draft, and one asks /up. Counted is what they get: each order has to be accepted and to be in the store once, each read to
+be whole, and nobody may get a 5xx but an engineer whose check was on its way, and who asks /up.
 
 It isn't part of the gate. It needs the built program, python3 and haproxy. The status is 1 where something doesn't hold."""
 
@@ -36,15 +35,15 @@ from service import ACCEPTED, PATIENCE, Service, free_port, kept_orders, must, t
 SERVICE = os.path.join(TOP, "examples", "service")
 SECRETS = {"KIEL1": "another-secret", "ANNA": "a-secret"}
 DEALERS, READERS, ENGINEERS = 6, 2, 2
+WAYS = "last link", "kill"
 # The links of a run that is to end by its last one.
 FEW_LINKS = 150
 
 
-def unit_settings():
-    """What the unit says, by the names of its settings."""
+def unit_words():
+    """The words that the unit starts."""
     with open(os.path.join(SERVICE, "partsbook.service")) as file:
-        pairs = [line.rstrip("\n").split("=", 1) for line in file if "=" in line and line[0] not in "#["]
-    return {name: value for name, value in pairs if name.startswith(("Exec", "Environment", "Restart"))}
+        return next(shlex.split(line.partition("=")[2]) for line in file if line.startswith("ExecStart="))
 
 
 @contextlib.contextmanager
@@ -76,24 +75,16 @@ def listens(port):
 
 
 class Unit:
-    """The service as the unit starts, stops and restarts it."""
+    """The service as the unit starts it, again and again."""
 
     def __init__(self, program, folder, kind, draw):
-        self.settings, self.program, self.folder, self.draw = unit_settings(), program, folder, draw
-        _, self.word, store, _, self.workers, self.links = shlex.split(self.settings["ExecStart"])
-        self.name, self.store = store, f"{os.path.splitext(store)[0]}.{kind}"
+        self.program, self.folder, self.draw = program, folder, draw
+        _, _, store, _, self.workers, self.links = unit_words()
+        self.store = f"{os.path.splitext(store)[0]}.{kind}"
         self.port = free_port()
-        self.ways = ["last link", "kill", *(["stop"] if "ExecStop" in self.settings else [])]
         self.ends, self.gaps, self.ended_at = collections.Counter(), [], None
 
-    def run(self, setting, process=""):
-        """A command of the unit, with the store of this trial in place of the unit's."""
-        words = self.settings.get(setting, "true").replace(self.name, os.path.basename(self.store))
-        settings = {**os.environ, "MAINPID": str(process)}
-        return subprocess.Popen(shlex.split(words), cwd=self.folder, env=settings)
-
     def start(self, links):
-        must("ExecStartPre", self.run("ExecStartPre").wait(PATIENCE) == 0)
         service = Service(self.program, os.path.join(self.folder, self.store), self.workers, links, self.port)
         service.wait()
         if self.ended_at:
@@ -103,7 +94,7 @@ class Unit:
     def live(self, restarts, done, callers, raised):
         """So many runs, each of which ends in another way, and one more, which goes on until the callers have gone."""
         for place in range(restarts):
-            way = self.ways[place % len(self.ways)]
+            way = WAYS[place % len(WAYS)]
             with self.start(FEW_LINKS if way == "last link" else self.links) as service:
                 until = time.time() + (PATIENCE if way == "last link" else self.draw.random())
                 while service.process.poll() is None and time.time() < until and not raised:
@@ -112,9 +103,7 @@ class Unit:
                     raise raised[0]
                 if way == "kill":
                     service.kill()
-                stop = self.run("ExecStop", service.process.pid) if way == "stop" else None
                 end = None if way == "kill" else service.ended()
-                must("ExecStop waits for the end", stop is None or stop.wait(PATIENCE) == 0)
                 self.ended_at = time.time()
                 self.ends[way] += 1
                 must("it ends with 0 and its counts", way == "kill" or end[0] == 0 and end[1].startswith("drafts 1 books 1 "), way, end)
@@ -175,7 +164,7 @@ def read(port, done):
 
 
 def check(port, done):
-    """Checks the draft, which may be cut off by the end of the service, and now and then puts it."""
+    """Checks the draft, which may be cut off by the end of the service, and asks for its owner."""
     caller, said = Caller(port, "ANNA"), collections.Counter()
     while not done.is_set():
         try:
