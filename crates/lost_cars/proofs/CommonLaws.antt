@@ -1,0 +1,182 @@
+-- The formula of common cars says which cars of the own book are cars of the other, and what an answer to it says.
+use Rattle.std.proofs.Common.{◌≡◌, ℕ, suc, ◌+◌, ◌≤◌, ◌^◌, arith, Bool, true, false, not, ◌&&◌, ◌||◌, ◌==◌, List, [], ◌∷◌, ◌++◌, Option, Some, None, length, map, refl, sym, ap, subst, ◌∙◌}
+use Rattle.std.specs.Prelude.{Result, Ok, Err, IfOk}
+use Rattle.std.specs.List.{slice_get, slice_index_or, list_any, AllByRecursion, AllZip, IsDistinct}
+use Rattle.std.specs.Option.{option_map_or, is_none}
+use Rattle.std.proofs.lemmas.Bool.{and_parts, and_from, not-true, true≢false}
+use Rattle.std.proofs.lemmas.List.{length-append, length-map}
+use Rattle.pb_base.specs.NamedSet.{named}
+use Rattle.pb_base.specs.Names.{same_name, place_in}
+use Rattle.pb_base.specs.Node.{size}
+use Rattle.pb_base.specs.Rule.{Rule, codes_below, either, holds, never}
+use Rattle.book_model.specs.Contents.{Contents}
+use Rattle.book_model.specs.Good.{is_good, is_closed, is_constructible, fires, breaks}
+use Rattle.rules_met.specs.Met.{IsAnswer, RuleIsSmall}
+use Rattle.rules_met.specs.declared.answer.RuleAnswer.{RuleAnswer}
+use Rattle.rules_met.specs.declared.answer.RuleAnswer.TheVariants.{Met, NotMet, Left}
+use Rattle.book_compare.specs.Picked.{picked}
+use Rattle.book_compare.proofs.NumberLaws.{not_there, not_named}
+use Rattle.lost_cars.specs.Asks.{IsPut, ArePut}
+use Rattle.lost_cars.specs.CommonCar.{any_rule_from, none_rule, TellsCommon, IsCommonAnswer}
+use Rattle.lost_cars.specs.Losses.{IsCar, is_missed, is_lost, questions}
+use Rattle.lost_cars.specs.declared.asks.Ask.{Ask}
+use Rattle.lost_cars.specs.declared.question.Question.{Question}
+use Rattle.lost_cars.specs.declared.question.Question.TheVariants.{Fires, Breaks, Lacks}
+use Rattle.lost_cars.proofs.AskLaws.{none_at}
+use Rattle.lost_cars.proofs.KeepLaws.{KeepsIt, kept_car}
+use Rattle.lost_cars.proofs.NotedLaws.{car_of_set, named_own}
+
+-- ---- the formula
+
+any_holds : (f : Rule) (rs : List Rule) (x : List Bool) → holds (any_rule_from f rs) x ≡ (holds f x || list_any (λ r. holds r x) rs)
+any_holds f [] x = sym (or_false (holds f x))
+  where
+    or_false : (t : Bool) → (t || false) ≡ t
+    or_false true = refl
+    or_false false = refl
+any_holds f (r ∷ rs) x = any_holds (either f r) rs x ∙ or_or (holds f x) (holds r x) (list_any (λ r. holds r x) rs)
+  where
+    or_or : (s t u : Bool) → ((s || t) || u) ≡ (s || (t || u))
+    or_or true t u = refl
+    or_or false t u = refl
+
+none_holds : (rs : List Rule) (x : List Bool) → holds (none_rule rs) x ≡ not (list_any (λ r. holds r x) rs)
+none_holds rs x = ap not (any_holds never rs x)
+
+any_below : (n : ℕ) (f : Rule) (rs : List Rule) → codes_below n f ≡ true → AllByRecursion (RuleIsSmall n) rs → codes_below n (any_rule_from f rs) ≡ true
+any_below n f [] below small = below
+any_below n f (r ∷ rs) below small = any_below n (either f r) rs (and_from (codes_below n f) (codes_below n r) below small.0.in_range) small.1
+
+pub none_fits : (n : ℕ) (f : Rule) (rs : List Rule) → f ≡ none_rule rs → AllByRecursion (RuleIsSmall n) rs → codes_below n f ≡ true
+none_fits n f rs is small = ap (codes_below n) is ∙ any_below n never rs refl small
+
+-- one formula more
+pub any_more : (f : Rule) (rs : List Rule) (r : Rule) → any_rule_from f (rs ++ r ∷ []) ≡ either (any_rule_from f rs) r
+any_more f [] r = refl
+any_more f (s ∷ rs) r = any_more (either f s) rs r
+
+-- ---- what it says of a car
+
+or_parts : (s t : Bool) → (s || t) ≡ false → (s ≡ false) × (t ≡ false)
+or_parts true t h = absurd (true≢false h)
+or_parts false t h = (refl, h)
+
+module _ (own other : Contents) (day : ℕ) (names : List (List ℕ)) (car : IsCar own day names) where
+  abbrev x : List Bool
+  x = named own.codes names
+
+  abbrev any_true : List Ask → Bool
+  any_true asks = list_any (λ (r : Rule). holds r x) (map (λ (a : Ask). a.rule) asks)
+
+  none_lost : (all : List Question) (asks : List Ask) → ArePut own other day all asks → any_true asks ≡ false → AllByRecursion (KeepsIt own other day names) all
+  none_lost [] asks put none = tt
+  none_lost (q ∷ all) asks put none = by put.0 put.1 put.2 put.3 (λ h. none_lost all put.1 put.4 h)
+    where
+      by : (first rest : List Ask) → asks ≡ first ++ rest → IsPut own other day q first → (any_true rest ≡ false → AllByRecursion (KeepsIt own other day names) all)
+          → AllByRecursion (KeepsIt own other day names) (q ∷ all)
+      by [] rest is here later = (here names car, later (sym (ap any_true is) ∙ none))
+      by (a ∷ []) rest is here later =
+          let parts = or_parts (holds a.rule x) (any_true rest) (sym (ap any_true is) ∙ none) in
+          (sym (here.1.says names car.named_there) ∙ parts.0, later parts.1)
+      by (a ∷ b ∷ more) rest is here later = absurd here
+
+  none_true : (all : List Question) (asks : List Ask) → ArePut own other day all asks → ((q : Question) → is_lost own other day q names ≡ false) → any_true asks ≡ false
+  none_true [] asks put kept = ap any_true put
+  none_true (q ∷ all) asks put kept = by put.0 put.1 put.2 put.3 (none_true all put.1 put.4 kept)
+    where
+      by : (first rest : List Ask) → asks ≡ first ++ rest → IsPut own other day q first → any_true rest ≡ false → any_true asks ≡ false
+      by [] rest is here later = ap any_true is ∙ later
+      by (a ∷ []) rest is here later =
+          ap any_true is ∙ ap (λ t. t || any_true rest) (here.1.says names car.named_there ∙ kept q) ∙ later
+      by (a ∷ b ∷ more) rest is here later = absurd here
+
+-- a car of the other book isn't lost
+module _ (own other : Contents) (day : ℕ) (names : List (List ℕ)) (kept : IsCar other day names) where
+  abbrev y : List Bool
+  y = named other.codes names
+
+  whole : ((is_closed other day y && is_constructible other day y) ≡ true) × ((length y == length other.codes) ≡ true)
+  whole = and_parts (is_closed other day y && is_constructible other day y) (length y == length other.codes) kept.good
+
+  none_fires : list_any (fires day y) other.supplements ≡ false
+  none_fires = not-true (list_any (fires day y) other.supplements) (and_parts (is_closed other day y) (is_constructible other day y) whole.0).0
+
+  none_breaks : list_any (breaks day y) other.constructs ≡ false
+  none_breaks = not-true (list_any (breaks day y) other.constructs) (and_parts (is_closed other day y) (is_constructible other day y) whole.0).1
+
+  pub not_lost : (q : Question) → is_lost own other day q names ≡ false
+  not_lost (Fires place) = by (slice_get other.supplements place) refl
+    where
+      by : (o : Option _) → slice_get other.supplements place ≡ o → is_lost own other day (Fires place) names ≡ false
+      by None is = ap (λ o. option_map_or (fires day y) o false) is
+      by (Some s) is = ap (λ o. option_map_or (fires day y) o false) is ∙ none_at (fires day y) other.supplements place s is none_fires
+  not_lost (Breaks place) = by (slice_get other.constructs place) refl
+    where
+      by : (o : Option _) → slice_get other.constructs place ≡ o → is_lost own other day (Breaks place) names ≡ false
+      by None is = ap (λ o. option_map_or (breaks day y) o false) is
+      by (Some c) is = ap (λ o. option_map_or (breaks day y) o false) is ∙ none_at (breaks day y) other.constructs place c is none_breaks
+  not_lost (Lacks place) = by (slice_get own.codes place) refl
+    where
+      has_code : (name : List ℕ) → is_missed other names name ≡ false
+      has_code name = found (place_in other.codes name) refl
+        where
+          found : (o : Option ℕ) → place_in other.codes name ≡ o → is_missed other names name ≡ false
+          found None is =
+              ap (λ o. is_none o && list_any (same_name name) names) is ∙ not_named other.codes names name kept.named_there (not_there other.codes name is)
+          found (Some k) is = ap (λ o. is_none o && list_any (same_name name) names) is
+
+      by : (o : Option _) → slice_get own.codes place ≡ o → is_lost own other day (Lacks place) names ≡ false
+      by None is = ap (λ o. option_map_or (is_missed other names) o false) is
+      by (Some name) is = ap (λ o. option_map_or (is_missed other names) o false) is ∙ has_code name
+
+pub tells_common : (own other : Contents) (day : ℕ) (asks : List Ask) (f : Rule) → ArePut own other day (questions own other) asks → f ≡ none_rule (map (λ (a : Ask). a.rule) asks)
+    → TellsCommon own other day f
+tells_common own other day asks f put is = λ names car.
+    let rules : List Rule = map (λ (a : Ask). a.rule) asks in
+    let says : holds f (named own.codes names) ≡ not (list_any (λ (r : Rule). holds r (named own.codes names)) rules) =
+    ap (λ g. holds g (named own.codes names)) is ∙ none_holds rules (named own.codes names) in (
+      λ h. kept_car own other day names car
+          (none_lost own other day names car (questions own other) asks put (not-true (list_any (λ (r : Rule). holds r (named own.codes names)) rules) (sym says ∙ h))),
+      λ kept. says ∙ ap not (none_true own other day names car (questions own other) asks put (not_lost own other day names kept)),
+    )
+
+-- the same of what is given back
+pub rule_tells : {E : Type 0} (own other : Contents) (day : ℕ) (asks : List Ask) (f : Rule) (made : Result Rule E) → ArePut own other day (questions own other) asks
+    → f ≡ none_rule (map (λ (a : Ask). a.rule) asks) → IfOk made (λ g. g ≡ f) → IfOk made (TellsCommon own other day)
+rule_tells own other day asks f (Ok g) put is same = tells_common own other day asks g put (same ∙ is)
+rule_tells own other day asks f (Err why) put is same = tt
+
+pub rule_fits : {E : Type 0} (n : ℕ) (f : Rule) (rs : List Rule) (made : Result Rule E) → f ≡ none_rule rs → AllByRecursion (RuleIsSmall n) rs → IfOk made (λ g. g ≡ f)
+    → IfOk made (λ g. size g ≤ 2 ^ 30) → IfOk made (RuleIsSmall n)
+rule_fits n f rs (Ok g) is small same few = record { in_range = none_fits n g rs (same ∙ is) small; small = few }
+rule_fits n f rs (Err why) is small same few = tt
+
+pub common_answered : (own other : Contents) (day budget : ℕ) (f : Rule) (answer : RuleAnswer) → IsDistinct same_name own.codes → TellsCommon own other day f → IsAnswer own day budget f answer
+    → IsCommonAnswer own other day budget answer
+common_answered own other day budget f (Met x) apart tells met =
+    let parts = and_parts (is_good own day x) (holds f x) met.1 in
+    let names : List (List ℕ) = picked own.codes x in
+    let car : IsCar own day names = car_of_set own day x apart parts.0 in
+    (names, record { own_car = car; other_car = (tells names car).0 (ap (holds f) (named_own own x met.0 apart) ∙ parts.1) })
+common_answered own other day budget f NotMet apart tells none = λ names common.
+    let x : List Bool = named own.codes names in
+    true≢false (sym (and_from (is_good own day x) (holds f x) common.own_car.good ((tells names common.own_car).1 common.other_car))
+    ∙ none x (length-map own.codes (λ c. list_any (same_name c) names)))
+common_answered own other day budget f Left apart tells left = record { rule = f; tells = tells; left = left }
+
+-- the answer to one rule
+pub one_count : (b : Contents) (day budget : ℕ) (f : Rule) (answers : List RuleAnswer) → AllZip (IsAnswer b day budget) (f ∷ []) answers → length answers ≡ 1
+one_count b day budget f [] h = absurd h
+one_count b day budget f (a ∷ []) h = refl
+one_count b day budget f (a ∷ c ∷ more) h = absurd h.1
+
+pub one_answer : (b : Contents) (day budget : ℕ) (f : Rule) (answers : List RuleAnswer) → AllZip (IsAnswer b day budget) (f ∷ []) answers
+    → IsAnswer b day budget f (slice_index_or answers 0 NotMet)
+one_answer b day budget f [] h = absurd h
+one_answer b day budget f (a ∷ []) h = h.0
+one_answer b day budget f (a ∷ c ∷ more) h = absurd h.1
+
+pub only_one : (answers rest : List RuleAnswer) (last : RuleAnswer) → length answers ≡ 1 → answers ≡ rest ++ last ∷ [] → last ≡ slice_index_or answers 0 NotMet
+only_one answers [] last count is = sym (ap (λ (as_ : List RuleAnswer). slice_index_or as_ 0 NotMet) is)
+only_one answers (a ∷ rest) last count is =
+    let more : length answers ≡ suc (length rest + 1) = ap length is ∙ ap suc (length-append rest (last ∷ [])) in absurd (omega (arith, count, more))

@@ -1,0 +1,7 @@
+use Rattle.lost_cars.specs.declared.question.Question.TheVariants.{Fires}
+use Rattle.lost_cars.proofs.AskLaws.{put_more}
+use Rattle.lost_cars.proofs.questions.put_firing.Goals as goal
+
+pub loop-place-preserved : goal.loop-place-preserved
+loop-place-preserved c =
+    put_more (λ p. Fires p) c.args.questions.now.items c.loop-place.questions.items c.push.new.self.items c.loop-place.place c.loop-place.invariant c.in_ok-push.ensures.items
