@@ -1,0 +1,5 @@
+mod DayLaws
+mod RunLaws
+mod PartsAlike
+mod DifferLaws
+mod TextLaws
