@@ -1,0 +1,4 @@
+mod RankLaws
+mod AlikeLaws
+mod CompletionLaws
+mod OrderLaws
