@@ -6,7 +6,7 @@ use Rattle.book_model.specs.Contents.{Contents}
 use Rattle.book_text.specs.BookText.{book_of}
 use Rattle.book_text.specs.declared.fault.BookFault.{BookFault}
 use Rattle.command_words.specs.declared.task.BookCommand.{BookCommand}
-use Rattle.command_words.specs.declared.task.BookCommand.TheVariants.{Order, Check, Prove, Verify, Supplements, Compare, Free, Why, Ask, Days, Require}
+use Rattle.command_words.specs.declared.task.BookCommand.TheVariants.{Order, Check, Prove, Verify, Supplements, Compare, Free, Why, Ask, Days, Require, Changes}
 use Rattle.parts_usage.specs.Fault.{order_fault}
 use Rattle.parts_usage.specs.declared.fault.OrderFault.{OrderFault}
 use Rattle.pb_base.specs.Rule.{Rule}
@@ -73,3 +73,4 @@ tells_orders (Supplements budget) input files files' reply h = nothing_told (boo
 tells_orders (Compare day file budget) input files files' reply h = nothing_told (book_of input)
 tells_orders (Days ordered) input files files' reply h = nothing_told (book_of input)
 tells_orders (Require file budget) input files files' reply h = nothing_told (book_of input)
+tells_orders (Changes file budget) input files files' reply h = nothing_told (book_of input)

@@ -1,19 +1,18 @@
 -- The book of a file, and the statuses of what is told in its place.
-use Rattle.std.proofs.Common.{◌≡◌, ◌∙◌, ◌⊎◌, ℕ, List, Bool, true, false, cond, inl, inr, refl, sym, ap, subst, leb}
-use Rattle.std.specs.Prelude.{Option, None, Some, Result, Ok, Err, IfOk, IfSome, IsSomeAnd, length}
+use Rattle.std.proofs.Common.{◌≡◌, ◌∙◌, ℕ, List, Bool, cond, inl, inr, refl, sym, ap, subst}
+use Rattle.std.specs.Prelude.{Option, None, Some, Result, Ok, Err, IfOk, IfSome, IsSomeAnd}
 use Rattle.pb_base.specs.declared.answer.Memory.{Memory}
 use Rattle.pb_base.specs.declared.limits.TheConstants.{DEFAULT_BUDGET, MOST_TEXT_BYTES}
 use Rattle.book_model.specs.Contents.{Contents}
 use Rattle.book_text.specs.BookText.{book_of}
-use Rattle.pb_outside.specs.Faults.{Rose}
 use Rattle.pb_outside.specs.Files.{NamedBytes, FilesTold, content_of, ReadsFile, FailsToRead, within_room}
 use Rattle.release_check.specs.NotReleased.{IsRefusal}
 use Rattle.release_check.specs.declared.not_released.NotReleased.{NotReleased}
-use Rattle.book_commands.specs.BookFile.{RepliesToContent, IsBookOf, HasBook, RepliesToFile, unread, kept_back, no_memory, IsBookFile, IsKeptBackStatus, IsBookText, IsValidBook}
+use Rattle.book_commands.specs.BookFile.{RepliesToContent, IsBookOf, HasBook, unread, kept_back, no_memory, IsBookFile, IsKeptBackStatus, IsBookText, IsValidBook}
 use Rattle.book_commands.specs.Checks.{kept_back_reply}
 use Rattle.book_commands.specs.CompareReply.{IsKeptBack, IsReleased}
 use Rattle.book_commands.specs.Ends.{IsCheckStatus, EndsCheck}
-use Rattle.book_commands.specs.RunReply.{RunReply, due_of, read_fault_reply}
+use Rattle.book_commands.specs.RunReply.{RunReply, read_fault_reply}
 use Rattle.book_commands.specs.declared.book_file.BookFile.{BookFile}
 use Rattle.book_commands.specs.declared.book_file.BookFile.TheVariants.{Released, KeptBack}
 use Rattle.book_commands.specs.declared.object.Object.TheVariants.{Files}

@@ -1,5 +1,5 @@
 -- The statuses of the replies to `days`.
-use Rattle.std.proofs.Common.{◌≡◌, inl, inr, ℕ, true, false, List, Option, None, Some, Result, Ok, Err, refl, sym, ap, subst, ◌∙◌}
+use Rattle.std.proofs.Common.{◌≡◌, inl, inr, ℕ, true, false, List, Option, None, Some, Result, Ok, Err, refl, sym, ap, subst}
 use Rattle.std.specs.Prelude.{IsOk, IfOk}
 use Rattle.book_model.specs.Contents.{Contents}
 use Rattle.book_text.specs.declared.fault.BookFault.{BookFault}

@@ -4,10 +4,10 @@ use Rattle.std.specs.Prelude.{IsTrue}
 use Rattle.book_text.specs.BookText.{book_of}
 use Rattle.pb_outside.specs.Files.{FilesTold}
 use Rattle.command_words.specs.declared.task.BookCommand.{BookCommand}
-use Rattle.command_words.specs.declared.task.BookCommand.TheVariants.{Order, Check, Prove, Verify, Supplements, Compare, Free, Why, Ask, Days, Require}
+use Rattle.command_words.specs.declared.task.BookCommand.TheVariants.{Order, Check, Prove, Verify, Supplements, Compare, Free, Why, Ask, Days, Require, Changes}
 use Rattle.book_commands.specs.Ask.{ask_promise}
 use Rattle.book_commands.specs.Checks.{check_promise, proof_promise}
-use Rattle.book_commands.specs.CompareReply.{compare_promise}
+use Rattle.book_commands.specs.CompareReply.{compare_promise, changes_promise}
 use Rattle.book_commands.specs.Ends.{IsDecided, IsOrderStatus}
 use Rattle.book_commands.specs.Days.{days_promise}
 use Rattle.book_commands.specs.Free.{free_promise}
@@ -18,6 +18,7 @@ use Rattle.book_commands.specs.Require.{require_promise}
 use Rattle.book_commands.specs.Supplements.{supplements_promise}
 use Rattle.book_commands.specs.Verify.{verify_promise}
 use Rattle.book_commands.specs.Why.{why_promise}
+use Rattle.book_commands.specs.declared.comparing.Span.TheVariants.{OnDay, AllDays}
 use Rattle.book_commands.proofs.AskLaws.{ask-kind, ask-answered}
 use Rattle.book_commands.proofs.Blocked.{check-blocked, proof-blocked}
 use Rattle.book_commands.proofs.Decided.{check_decided, proof_decided}
@@ -27,7 +28,7 @@ use Rattle.book_commands.proofs.Lawful.{IsLawful}
 use Rattle.book_commands.proofs.Releasable.{check-releasable, proof-releasable, verified-releasable}
 use Rattle.book_commands.proofs.RequireLaws.{require-kind, require-told, has_stated}
 use Rattle.book_commands.proofs.Statuses.{same-kind, order-kind, verify-kind, check-kind, proof-kind, supplements-kind, texts-kind}
-use Rattle.book_commands.proofs.Statuses.{order-status, verify-status, check-answered, proof-answered, supplements-answered, compare-answered}
+use Rattle.book_commands.proofs.Statuses.{order-status, verify-status, check-answered, proof-answered, supplements-answered, compare-answered, changes-told}
 use Rattle.book_commands.proofs.Valid.{has_book, has_certificate}
 use Rattle.book_commands.proofs.WhyLaws.{why-kind, why-answered}
 
@@ -102,9 +103,21 @@ compare_lawful : (day : ℕ) (file : List ℕ) (budget : ℕ) → IsLawful (comp
 compare_lawful day file budget = record {
   same_files = unread;
   file_rose = λ input files files' h. h.rose;
-  no_file_fault = λ input files files' v sure h. has_book day files.files file v.second (h.possible sure);
-  statuses = λ input files files' reply h. texts-kind input h.content day budget reply h.answer;
+  no_file_fault = λ input files files' v sure h. has_book (OnDay day) files.files file v.second (h.possible sure);
+  statuses = λ input files files' reply h. texts-kind input h.content (OnDay day) budget reply h.answer;
   answered = λ input files files' reply v h. compare-answered input file day budget files files' reply v h;
+  releasable = λ input files files' reply asks h done. not_asked asks;
+  unreleasable = λ input files files' reply asks h refused. not_asked asks;
+  decided = λ input files files' reply ample h left. ample;
+}
+
+changes_lawful : (file : List ℕ) (budget : ℕ) → IsLawful (changes_promise file budget)
+changes_lawful file budget = record {
+  same_files = unread;
+  file_rose = λ input files files' h. h.rose;
+  no_file_fault = λ input files files' v sure h. has_book AllDays files.files file v.second (h.possible sure);
+  statuses = λ input files files' reply h. texts-kind input h.content AllDays budget reply h.answer;
+  answered = λ input files files' reply v h. changes-told input file budget files files' reply v h;
   releasable = λ input files files' reply asks h done. not_asked asks;
   unreleasable = λ input files files' reply asks h refused. not_asked asks;
   decided = λ input files files' reply ample h left. ample;
@@ -183,3 +196,4 @@ lawful (Why day ordered budget) = why_lawful day ordered budget
 lawful (Ask day rule budget) = ask_lawful day rule budget
 lawful (Days ordered) = days_lawful ordered
 lawful (Require file budget) = require_lawful file budget
+lawful (Changes file budget) = changes_lawful file budget

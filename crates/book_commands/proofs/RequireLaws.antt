@@ -15,10 +15,9 @@ use Rattle.pb_outside.specs.Files.{NamedBytes, FilesTold, content_of, ReadsFile,
 use Rattle.requirements.specs.Requirements.{requirements_of}
 use Rattle.requirements.specs.declared.fault.RequirementFault.{RequirementFault}
 use Rattle.requirements.specs.declared.requirement.Requirement.{Requirement}
-use Rattle.book_commands.specs.Ends.{IsCheckStatus, IsDecided}
-use Rattle.book_commands.specs.Require.{AreAskable, EndsRequire, IsCheckReply, IsLimitReply, IsRequireReply, IsValidRequire, RepliesOnBook, RepliesToRead, RepliesToRequire, RepliesToTexts, require_reply, require_status}
+use Rattle.book_commands.specs.Ends.{IsCheckStatus}
+use Rattle.book_commands.specs.Require.{AreAskable, EndsRequire, IsCheckReply, IsValidRequire, RepliesOnBook, RepliesToRead, RepliesToRequire, RepliesToTexts, require_reply, require_status}
 use Rattle.book_commands.specs.RunReply.{RunReply, limit_fault_reply}
-use Rattle.book_commands.specs.declared.run_status.RunStatus.{RunStatus}
 use Rattle.book_commands.specs.declared.run_status.RunStatus.TheVariants as statuses
 use Rattle.book_commands.proofs.Statuses.{same-kind}
 

@@ -3,7 +3,8 @@ use Rattle.std.proofs.Common.{◌≡◌, ◌∙◌, ℕ, ◌+◌, Bool, true, fa
 use Rattle.std.specs.Prelude.{◌⊎◌, ◌||◌, Option, None, Some, Result, Ok, Err, IsOk, IfOk, IsSomeAnd, if◌then◌else◌}
 use Rattle.std.specs.List.{list_any}
 use Rattle.pb_base.specs.declared.limits.TheConstants.{MOST_CERT_BYTES, MOST_TEXT_BYTES}
-use Rattle.pb_base.specs.Results.{unless}
+use Rattle.pb_base.specs.Results.{and_then, unless}
+use Rattle.book_changes.specs.ChangesText.{is_changed, is_undecided as is_left_in}
 use Rattle.book_compare.specs.CompareText.{is_finding as is_difference, is_undecided as is_left_open}
 use Rattle.book_compare.specs.Comparison.{outside}
 use Rattle.book_compare.specs.declared.note.CompareNote.{CompareNote}
@@ -11,12 +12,13 @@ use Rattle.book_compare.specs.declared.note.Outside.{Outside}
 use Rattle.book_compare.specs.declared.note.Outside.TheVariants.{First, Second}
 use Rattle.book_model.specs.Activity.{is_within}
 use Rattle.book_model.specs.Contents.{Contents}
+use Rattle.book_model.specs.Slices.{slices_of}
 use Rattle.book_model.specs.declared.record.Slice.{Slice}
 use Rattle.book_model.specs.declared.slicing.LimitFault.{LimitFault}
 use Rattle.book_text.specs.BookText.{book_of}
 use Rattle.book_text.specs.declared.fault.BookFault.{BookFault}
 use Rattle.derivation.specs.Certificate.{cert_answer}
-use Rattle.derivation.specs.Limits.{slices_within}
+use Rattle.derivation.specs.Limits.{first_over, slices_within}
 use Rattle.derivation.specs.declared.fault.CertFault.{CertFault}
 use Rattle.derivation.specs.declared.fault.Certified.{Certified}
 use Rattle.findings.specs.Notes.{is_blocking, is_fault, is_left, verdict_of}
@@ -42,7 +44,11 @@ use Rattle.book_commands.specs.Checks.{IsReported, IsProvedBy, IsProved, Replies
 use Rattle.book_commands.specs.Sample.{RepliesToSample}
 use Rattle.command_words.specs.Size.{Size}
 use Rattle.book_commands.specs.Supplements.{IsSupplementReply, RepliesToSupplements}
-use Rattle.book_commands.specs.CompareReply.{IsReleased, IsComparisonReply, RepliesByDay, RepliesToSecond, RepliesToTexts, RepliesToCompare, IsBookOn, HasBookOn, IsValidCompare}
+use Rattle.book_commands.specs.ChangesReply.{RepliesToChanges}
+use Rattle.book_commands.specs.CompareReply.{HasBookOn, HasDays, IsBookOn, IsComparisonReply, IsReleased, IsValidCompare, RepliesByDay, RepliesOver, RepliesToCompare, RepliesToSecond, RepliesToTexts}
+use Rattle.book_commands.specs.Require.{EndsRequire}
+use Rattle.book_commands.specs.declared.comparing.Span.{Span}
+use Rattle.book_commands.specs.declared.comparing.Span.TheVariants.{OnDay, AllDays}
 use Rattle.book_commands.specs.declared.log.Note.TheVariants.{Supplement, Compare as CompareLogged}
 use Rattle.book_commands.specs.Verify.{IsCertificate, HasCertificate, RepliesToVerify}
 use Rattle.book_commands.specs.declared.run_status.RunStatus.{RunStatus}
@@ -124,17 +130,26 @@ outside-kind None one other day budget reply h =
     same-kind IsCheckStatus _ reply h.answer (elim (supplement-cases (list_any is_difference h.notes) (list_any is_left_open h.notes)) [ inl done ↦ inl done | inr left ↦ inr (inl left.0) ])
 outside-kind (Some which) one other day budget reply h = same-kind IsCheckStatus _ reply h (inr (inr refl))
 
-second-kind : (one : Contents) (second : Option (List ℕ)) (day budget : ℕ) (reply : RunReply) → RepliesToSecond one second day budget reply → IsCheckStatus reply.status
-second-kind one None day budget reply h = same-kind IsCheckStatus _ reply h (inr (inr refl))
-second-kind one (Some text) day budget reply h = elim h [
+changes-kind : (one other : Contents) (budget : ℕ) (reply : RunReply) → RepliesToChanges one other budget reply → IsCheckStatus reply.status
+changes-kind one other budget reply (inl h) =
+    same-kind IsCheckStatus _ reply h.answer (elim (supplement-cases (list_any is_changed h.runs) (list_any is_left_in h.runs)) [ inl done ↦ inl done | inr left ↦ inr (inl left.0) ])
+changes-kind one other budget reply (inr limit) = same-kind IsCheckStatus _ reply limit.answer (inr (inr refl))
+
+over-kind : (span : Span) (one other : Contents) (budget : ℕ) (reply : RunReply) → RepliesOver span one other budget reply → IsCheckStatus reply.status
+over-kind (OnDay day) one other budget reply h = outside-kind (outside one other day) one other day budget reply h
+over-kind AllDays one other budget reply h = changes-kind one other budget reply h
+
+second-kind : (one : Contents) (second : Option (List ℕ)) (span : Span) (budget : ℕ) (reply : RunReply) → RepliesToSecond one second span budget reply → IsCheckStatus reply.status
+second-kind one None span budget reply h = same-kind IsCheckStatus _ reply h (inr (inr refl))
+second-kind one (Some text) span budget reply h = elim h [
   | inl kept ↦ proof-kind (book_of text) budget reply kept.answer
-  | inr compares ↦ outside-kind (outside one compares.book day) one compares.book day budget reply compares.answer
+  | inr compares ↦ over-kind span one compares.book budget reply compares.answer
 ]
 
-pub texts-kind : (first : List ℕ) (second : Option (List ℕ)) (day budget : ℕ) (reply : RunReply) → RepliesToTexts first second day budget reply → IsCheckStatus reply.status
-texts-kind first second day budget reply h = elim h [
+pub texts-kind : (first : List ℕ) (second : Option (List ℕ)) (span : Span) (budget : ℕ) (reply : RunReply) → RepliesToTexts first second span budget reply → IsCheckStatus reply.status
+texts-kind first second span budget reply h = elim h [
   | inl kept ↦ proof-kind (book_of first) budget reply kept.answer
-  | inr from ↦ second-kind from.book second day budget reply from.answer
+  | inr from ↦ second-kind from.book second span budget reply from.answer
 ]
 
 pub sample-kind : (size : Size) (reply : RunReply) → RepliesToSample size reply → IsSampleStatus reply.status
@@ -253,48 +268,91 @@ comparison-answered one other day budget reply is =
       | inr left ↦ inr (record { ends = left.0; spent = open-logged is.notes ∙ left.1 })
     ])
 
--- a day of the term of the book that a text reads as
-on-day : (text : List ℕ) (b : Contents) (day : ℕ) → IsBookOn day text → IsReleased text b → is_within b.first b.last day ≡ true
-on-day text b day on is = subst (λ (book : Result Contents BookFault). IfOk book (λ c. is_within c.first c.last day ≡ true)) is.reads on.term
+-- what the valid text says of the book that it reads as
+on-days : (text : List ℕ) (b : Contents) (span : Span) → IsBookOn span text → IsReleased text b → HasDays span b
+on-days text b span on is = subst (λ (book : Result Contents BookFault). IfOk book (HasDays span)) is.reads on.term
+
+in-limits : (text : List ℕ) (b : Contents) (span : Span) → IsBookOn span text → IsReleased text b → IsOk (slices_within b)
+in-limits text b span on is = subst (λ (book : Result Contents BookFault). IfOk book (λ c. IsOk (slices_within c))) is.reads on.checkable.limits
 
 within-both : (one other : Contents) (day : ℕ) → is_within one.first one.last day ≡ true → is_within other.first other.last day ≡ true → outside one other day ≡ None
 within-both one other day first second =
     ap (λ (t : Bool). if t then (if is_within other.first other.last day then None else Some Second) else Some First) first
     ∙ ap (λ (t : Bool). if t then None else Some Second) second
 
-second-answered : (one : Contents) (text : List ℕ) (day budget : ℕ) (reply : RunReply) → is_within one.first one.last day ≡ true → IsBookOn day text
-    → RepliesToSecond one (Some text) day budget reply → EndsChecked reply
-second-answered one text day budget reply first on h = elim h [
-  | inl kept ↦ proof-answered (book_of text) budget reply on.checkable.no_fault on.checkable.limits kept.answer
+-- a book that keeps the limits of a check has slices
+limit-kept : (b : Contents) (found : Result (List Slice) LimitFault) (fault : LimitFault) → IsOk (and_then found (λ slices. unless (first_over 0 b slices) (Ok slices))) → found ≡ Err fault → ⊥
+limit-kept b (Ok slices) fault ok is = absurd (cc)
+limit-kept b (Err other) fault ok is = let clash : false ≡ true = ok in absurd (cc)
+
+never-limited : (b : Contents) (fault : LimitFault) → IsOk (slices_within b) → slices_of b ≡ Err fault → ⊥
+never-limited b fault ok is = limit-kept b (slices_of b) fault ok is
+
+changes-answered : (one other : Contents) (budget : ℕ) (reply : RunReply) → IsOk (slices_within one) → IsOk (slices_within other) → RepliesToChanges one other budget reply → EndsRequire reply.status reply.notes
+changes-answered one other budget reply first second (inl h) =
+    subst (λ (r : RunReply). EndsRequire r.status r.notes) (sym h.answer)
+    (elim (supplement-cases (list_any is_changed h.runs) (list_any is_left_in h.runs)) [ inl done ↦ inl done | inr left ↦ inr left.0 ])
+changes-answered one other budget reply first second (inr limit) = elim limit.exceeds [
+  | inl own ↦ absurd (never-limited one limit.fault first own)
+  | inr own ↦ absurd (never-limited other limit.fault second own)
+]
+
+-- how a valid command ends: what was learnt is in the log where one day is compared
+abbrev EndsOver : Span → RunReply → Type 0
+EndsOver (OnDay day) reply = EndsChecked reply
+EndsOver AllDays reply = EndsRequire reply.status reply.notes
+
+checked-over : (span : Span) (reply : RunReply) → EndsChecked reply → EndsOver span reply
+checked-over (OnDay day) reply h = h
+checked-over AllDays reply (inl done) = inl done
+checked-over AllDays reply (inr left) = inr left.ends
+
+over-answered : (span : Span) (one other : Contents) (budget : ℕ) (reply : RunReply) → HasDays span one → HasDays span other → IsOk (slices_within one) → IsOk (slices_within other)
+    → RepliesOver span one other budget reply → EndsOver span reply
+over-answered (OnDay day) one other budget reply first second few few_others h =
+    comparison-answered one other day budget reply (subst (λ (o : Option Outside). RepliesByDay o one other day budget reply) (within-both one other day first second) h)
+over-answered AllDays one other budget reply first second few few_others h = changes-answered one other budget reply few few_others h
+
+second-answered : (one : Contents) (text : List ℕ) (span : Span) (budget : ℕ) (reply : RunReply) → HasDays span one → IsOk (slices_within one) → IsBookOn span text
+    → RepliesToSecond one (Some text) span budget reply → EndsOver span reply
+second-answered one text span budget reply first few on h = elim h [
+  | inl kept ↦ checked-over span reply (proof-answered (book_of text) budget reply on.checkable.no_fault on.checkable.limits kept.answer)
   | inr compares ↦
-      comparison-answered one compares.book day budget reply
-      (subst (λ (o : Option Outside). RepliesByDay o one compares.book day budget reply) (within-both one compares.book day first (on-day text compares.book day on compares.released)) compares.answer)
+      over-answered span one compares.book budget reply first (on-days text compares.book span on compares.released) few (in-limits text compares.book span on compares.released) compares.answer
 ]
 
 -- the content of the file is a text of a book
-content-answered : (one : Contents) (content : Option (List ℕ)) (day budget : ℕ) (reply : RunReply) → is_within one.first one.last day ≡ true → IsSomeAnd content (IsBookOn day)
-    → RepliesToSecond one content day budget reply → EndsChecked reply
-content-answered one None day budget reply first on h = absurd on
-content-answered one (Some text) day budget reply first on h = second-answered one text day budget reply first on h
+content-answered : (one : Contents) (content : Option (List ℕ)) (span : Span) (budget : ℕ) (reply : RunReply) → HasDays span one → IsOk (slices_within one) → IsSomeAnd content (IsBookOn span)
+    → RepliesToSecond one content span budget reply → EndsOver span reply
+content-answered one None span budget reply first few on h = absurd on
+content-answered one (Some text) span budget reply first few on h = second-answered one text span budget reply first few on h
 
-found-text : (day : ℕ) (found content : Option (List ℕ)) → IsSomeAnd found (IsBookOn day) → IsSomeAnd found (λ text. content ≡ within_room MOST_TEXT_BYTES text) → IsSomeAnd content (IsBookOn day)
-found-text day None content on read = absurd on
-found-text day (Some text) content on read =
+found-text : (span : Span) (found content : Option (List ℕ)) → IsSomeAnd found (IsBookOn span) → IsSomeAnd found (λ text. content ≡ within_room MOST_TEXT_BYTES text) → IsSomeAnd content (IsBookOn span)
+found-text span None content on read = absurd on
+found-text span (Some text) content on read =
     let whole : within_room MOST_TEXT_BYTES text ≡ Some text = ap (λ (fits : Bool). if fits then Some text else None) on.limit in
-    subst (λ (c : Option (List ℕ)). IsSomeAnd c (IsBookOn day)) (sym (read ∙ whole)) on
+    subst (λ (c : Option (List ℕ)). IsSomeAnd c (IsBookOn span)) (sym (read ∙ whole)) on
 
-file-text : (day : ℕ) (files : Option (List NamedBytes)) (file : List ℕ) (content : Option (List ℕ)) → HasBookOn day files file → ReadsFile file MOST_TEXT_BYTES files content → IsSomeAnd content (IsBookOn day)
-file-text day None file content on read = absurd on
-file-text day (Some all) file content on read = found-text day (content_of all file) content on read
+file-text : (span : Span) (files : Option (List NamedBytes)) (file : List ℕ) (content : Option (List ℕ)) → HasBookOn span files file → ReadsFile file MOST_TEXT_BYTES files content → IsSomeAnd content (IsBookOn span)
+file-text span None file content on read = absurd on
+file-text span (Some all) file content on read = found-text span (content_of all file) content on read
 
-pub compare-answered : (input file : List ℕ) (day budget : ℕ) (files files' : FilesTold) (reply : RunReply) → IsValidCompare input files.files file day
-    → RepliesToCompare input day file budget files files' reply → EndsChecked reply
-compare-answered input file day budget files files' reply valid h = elim h.answer [
-  | inl kept ↦ proof-answered (book_of input) budget reply valid.first.checkable.no_fault valid.first.checkable.limits kept.answer
+texts-answered : (input file : List ℕ) (span : Span) (budget : ℕ) (files files' : FilesTold) (reply : RunReply) → IsValidCompare input files.files file span
+    → RepliesToCompare input span file budget files files' reply → EndsOver span reply
+texts-answered input file span budget files files' reply valid h = elim h.answer [
+  | inl kept ↦ checked-over span reply (proof-answered (book_of input) budget reply valid.first.checkable.no_fault valid.first.checkable.limits kept.answer)
   | inr from ↦
-      content-answered from.book h.content day budget reply (on-day input from.book day valid.first from.released)
-      (file-text day files.files file h.content valid.second h.read) from.answer
+      content-answered from.book h.content span budget reply (on-days input from.book span valid.first from.released) (in-limits input from.book span valid.first from.released)
+      (file-text span files.files file h.content valid.second h.read) from.answer
 ]
+
+pub compare-answered : (input file : List ℕ) (day budget : ℕ) (files files' : FilesTold) (reply : RunReply) → IsValidCompare input files.files file (OnDay day)
+    → RepliesToCompare input (OnDay day) file budget files files' reply → EndsChecked reply
+compare-answered input file day budget files files' reply valid h = texts-answered input file (OnDay day) budget files files' reply valid h
+
+pub changes-told : (input file : List ℕ) (budget : ℕ) (files files' : FilesTold) (reply : RunReply) → IsValidCompare input files.files file AllDays
+    → RepliesToCompare input AllDays file budget files files' reply → EndsRequire reply.status reply.notes
+changes-told input file budget files files' reply valid h = texts-answered input file AllDays budget files files' reply valid h
 
 left_by_verdict : (fault left : Bool) → (if fault then Blocked else (if left then Undecided else Releasable)) ≡ Undecided → left ≡ true
 left_by_verdict true left e = cc

@@ -8,6 +8,7 @@ use Rattle.pb_outside.specs.Files.{NamedBytes, content_of}
 use Rattle.book_commands.specs.Inputs.{input_limit}
 use Rattle.book_commands.specs.Verify.{IsCertificate, HasCertificate}
 use Rattle.book_commands.specs.CompareReply.{IsBookOn, HasBookOn}
+use Rattle.book_commands.specs.declared.comparing.Span.{Span}
 
 -- the input that was read is the one that was given
 pub same_input : (left left' : Option (List ℕ)) (input read : List ℕ) → IsSomeAnd left (λ all. input ≡ take input_limit all)
@@ -31,10 +32,10 @@ has_certificate (Ok b) files file ok has none = has_named files b file has none
 has_certificate (Err fault) files file ok has none = let clash : false ≡ true = ok in cc
 
 -- a file with a book is there
-has_text : (day : ℕ) (found : Option (List ℕ)) → IsSomeAnd found (IsBookOn day) → found ≡ None → ⊥
-has_text day None has none = has
-has_text day (Some text) has none = cc
+has_text : (span : Span) (found : Option (List ℕ)) → IsSomeAnd found (IsBookOn span) → found ≡ None → ⊥
+has_text span None has none = has
+has_text span (Some text) has none = cc
 
-pub has_book : (day : ℕ) (files : Option (List NamedBytes)) (file : List ℕ) → HasBookOn day files file → IfSome files (λ all. content_of all file ≡ None) → ⊥
-has_book day None file has none = has
-has_book day (Some all) file has none = has_text day (content_of all file) has none
+pub has_book : (span : Span) (files : Option (List NamedBytes)) (file : List ℕ) → HasBookOn span files file → IfSome files (λ all. content_of all file ≡ None) → ⊥
+has_book span None file has none = has
+has_book span (Some all) file has none = has_text span (content_of all file) has none

@@ -2,7 +2,7 @@
 --     HasBook file files files' b          the file was read, and its text is this book, which can be released
 --     RepliesToFile file files files' reply    what is told where that isn't so
 --     IsValidBook files file               the file is told, there and has the text of a book that keeps the limits of a check
-use Rattle.std.specs.Prelude.{◌≡◌, ◌⊎◌, ℕ, List, Option, None, Some, Result, IfOk, IsSomeAnd, IsTrue, length, nat_le}
+use Rattle.std.specs.Prelude.{◌≡◌, ◌⊎◌, ℕ, List, Option, None, Some, IfOk, IsSomeAnd, IsTrue, length, nat_le}
 use Rattle.pb_base.specs.declared.limits.TheConstants.{DEFAULT_BUDGET, MOST_TEXT_BYTES}
 use Rattle.book_model.specs.Contents.{Contents}
 use Rattle.book_text.specs.BookText.{book_of}

@@ -1,7 +1,8 @@
--- What the comparison of two books is answered, and what is promised of `compare`.
+-- What the comparison of two books is answered, and what is promised of `compare` and of `changes`.
+--     RepliesOver span one other budget reply    of two released books, on one day or on all days of both terms
 --     IsKeptBack text budget reply       the text's book is not released, and the reply is that of a proof, which gives no certificate
 --     comparison_reply notes             the notes on all positions, which stand in the log
---     RepliesToTexts first second day budget reply
+--     RepliesToTexts first second span budget reply
 --                                        the books of both texts are released, the first one first, and then compared
 use Rattle.std.specs.Prelude.{◌≡◌, ◌⊎◌, ℕ, true, false, List, [], Option, None, Some, Ok, IfOk, IsSomeAnd, IsTrue, codes, length, map, nat_le, if◌then◌else◌}
 use Rattle.std.specs.List.{list_any}
@@ -19,10 +20,14 @@ use Rattle.book_text.specs.declared.fault.BookFault.{BookFault}
 use Rattle.book_text.specs.declared.fault.BookKind.TheVariants.{TooLarge}
 use Rattle.desk_words.specs.Lines.{line}
 use Rattle.pb_outside.specs.Files.{NamedBytes, FilesTold, content_of, ReadsFile, FailsToRead}
+use Rattle.book_commands.specs.ChangesReply.{RepliesToChanges}
 use Rattle.book_commands.specs.Checks.{RepliesToProof, IsCheckable}
 use Rattle.book_commands.specs.Ends.{EndsCheck, IsCheckStatus}
 use Rattle.book_commands.specs.Promise.{Promise, ReadsFiles, never_ample}
+use Rattle.book_commands.specs.Require.{EndsRequire}
 use Rattle.book_commands.specs.RunReply.{RunReply, book_fault_reply}
+use Rattle.book_commands.specs.declared.comparing.Span.{Span}
+use Rattle.book_commands.specs.declared.comparing.Span.TheVariants.{OnDay, AllDays}
 use Rattle.book_commands.specs.declared.log.Note.TheVariants.{Compare}
 use Rattle.book_commands.specs.declared.run_status.RunStatus.{RunStatus}
 use Rattle.book_commands.specs.declared.run_status.RunStatus.TheVariants as statuses
@@ -65,55 +70,77 @@ abbrev pub RepliesByDay : Option Outside → Contents → Contents → ℕ → �
 RepliesByDay None one other day budget reply = IsComparisonReply one other day budget reply
 RepliesByDay (Some which) one other day budget reply = reply ≡ outside_reply which
 
+abbrev pub RepliesOver : Span → Contents → Contents → ℕ → RunReply → Type 0
+RepliesOver (OnDay day) one other budget reply = RepliesByDay (outside one other day) one other day budget reply
+RepliesOver AllDays one other budget reply = RepliesToChanges one other budget reply
+
 -- the second text's book can be released too
-pub record Compares (one : Contents) (text : List ℕ) (day budget : ℕ) (reply : RunReply) : Type 0 where
+pub record Compares (one : Contents) (text : List ℕ) (span : Span) (budget : ℕ) (reply : RunReply) : Type 0 where
   pub book : Contents
   pub released : IsReleased text book
-  pub answer : RepliesByDay (outside one book day) one book day budget reply
+  pub answer : RepliesOver span one book budget reply
 
 -- of a second text that is too long there is nothing
-abbrev pub RepliesToSecond : Contents → Option (List ℕ) → ℕ → ℕ → RunReply → Type 0
-RepliesToSecond one None day budget reply = reply ≡ book_fault_reply text_too_large
-RepliesToSecond one (Some text) day budget reply = IsKeptBack text budget reply ⊎ Compares one text day budget reply
+abbrev pub RepliesToSecond : Contents → Option (List ℕ) → Span → ℕ → RunReply → Type 0
+RepliesToSecond one None span budget reply = reply ≡ book_fault_reply text_too_large
+RepliesToSecond one (Some text) span budget reply = IsKeptBack text budget reply ⊎ Compares one text span budget reply
 
 -- the first text's book can be released
-pub record ComparesFrom (first : List ℕ) (second : Option (List ℕ)) (day budget : ℕ) (reply : RunReply) : Type 0 where
+pub record ComparesFrom (first : List ℕ) (second : Option (List ℕ)) (span : Span) (budget : ℕ) (reply : RunReply) : Type 0 where
   pub book : Contents
   pub released : IsReleased first book
-  pub answer : RepliesToSecond book second day budget reply
+  pub answer : RepliesToSecond book second span budget reply
 
-abbrev pub RepliesToTexts : List ℕ → Option (List ℕ) → ℕ → ℕ → RunReply → Type 0
-RepliesToTexts first second day budget reply = IsKeptBack first budget reply ⊎ ComparesFrom first second day budget reply
+abbrev pub RepliesToTexts : List ℕ → Option (List ℕ) → Span → ℕ → RunReply → Type 0
+RepliesToTexts first second span budget reply = IsKeptBack first budget reply ⊎ ComparesFrom first second span budget reply
 
 -- the second text is the content of the file
-pub record RepliesToCompare (first : List ℕ) (day : ℕ) (file : List ℕ) (budget : ℕ) (files files' : FilesTold) (reply : RunReply) : Type 0 where
+pub record RepliesToCompare (first : List ℕ) (span : Span) (file : List ℕ) (budget : ℕ) (files files' : FilesTold) (reply : RunReply) : Type 0 where
   pub content : Option (List ℕ)
   pub read : ReadsFile file MOST_TEXT_BYTES files.files content
-  pub answer : RepliesToTexts first content day budget reply
+  pub answer : RepliesToTexts first content span budget reply
   pub count : files'.faults.count ≡ files.faults.count
 
+-- the book has the day in its term
+abbrev pub HasDays : Span → Contents → Type 0
+HasDays (OnDay day) b = is_within b.first b.last day ≡ true
+HasDays AllDays b = Unit {0}
+
 -- the text is that of a book that keeps the limits of a check, and has the day in its term
-pub record IsBookOn (day : ℕ) (text : List ℕ) : Type 0 where
+pub record IsBookOn (span : Span) (text : List ℕ) : Type 0 where
   pub limit : IsTrue (nat_le (length text) MOST_TEXT_BYTES)
   pub checkable : IsCheckable (book_of text)
-  pub term : IfOk (book_of text) (λ b. is_within b.first b.last day ≡ true)
+  pub term : IfOk (book_of text) (HasDays span)
 
-abbrev pub HasBookOn : ℕ → Option (List NamedBytes) → List ℕ → Type 0
-HasBookOn day files file = IsSomeAnd files (λ all. IsSomeAnd (content_of all file) (IsBookOn day))
+abbrev pub HasBookOn : Span → Option (List NamedBytes) → List ℕ → Type 0
+HasBookOn span files file = IsSomeAnd files (λ all. IsSomeAnd (content_of all file) (IsBookOn span))
 
 -- so is the input, and the file is told, there and has such a text
-pub record IsValidCompare (input : List ℕ) (files : Option (List NamedBytes)) (file : List ℕ) (day : ℕ) : Type 0 where
-  pub first : IsBookOn day input
-  pub second : HasBookOn day files file
+pub record IsValidCompare (input : List ℕ) (files : Option (List NamedBytes)) (file : List ℕ) (span : Span) : Type 0 where
+  pub first : IsBookOn span input
+  pub second : HasBookOn span files file
 
 abbrev pub compare_promise : ℕ → List ℕ → ℕ → Promise
 compare_promise day file budget = record {
-  replies = λ input. RepliesToCompare input day file budget;
+  replies = λ input. RepliesToCompare input (OnDay day) file budget;
   fails_at_file = λ input. FailsToRead file;
   keeps_files = ReadsFiles;
-  is_valid = λ input files. IsValidCompare input files file day;
+  is_valid = λ input files. IsValidCompare input files file (OnDay day);
   is_status = IsCheckStatus;
   is_answer = EndsCheck;
+  tells_release = false;
+  tells_refusal = false;
+  is_ample = never_ample;
+}
+
+abbrev pub changes_promise : List ℕ → ℕ → Promise
+changes_promise file budget = record {
+  replies = λ input. RepliesToCompare input AllDays file budget;
+  fails_at_file = λ input. FailsToRead file;
+  keeps_files = ReadsFiles;
+  is_valid = λ input files. IsValidCompare input files file AllDays;
+  is_status = IsCheckStatus;
+  is_answer = EndsRequire;
   tells_release = false;
   tells_refusal = false;
   is_ample = never_ample;

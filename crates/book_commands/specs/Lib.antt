@@ -13,6 +13,7 @@ pub mod Ask
 pub mod Require
 pub mod Why
 pub mod Days
+pub mod ChangesReply
 pub mod CompareReply
 pub mod BookFile
 pub mod Promises

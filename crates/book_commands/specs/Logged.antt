@@ -1,5 +1,6 @@
 -- A report in the log: its findings and the questions that were left, each with the place of its slice.
 use Rattle.std.specs.Prelude.{ℕ, suc, ◌+◌, ◌-◌, Bool, true, false, List, [], ◌∷◌}
+use Rattle.book_changes.specs.ChangesText.{is_undecided as is_left_in}
 use Rattle.book_compare.specs.CompareText.{is_undecided as is_left_open}
 use Rattle.findings.specs.Notes.{is_blocking}
 use Rattle.findings.specs.declared.report.Note.{Note as Told}
@@ -7,7 +8,7 @@ use Rattle.findings.specs.declared.report.Note.TheVariants.{Days, Finding as Fin
 use Rattle.kept_requirements.specs.Notes.{is_undecided as is_left}
 use Rattle.supplement_findings.specs.Notes.{is_undecided}
 use Rattle.book_commands.specs.declared.log.Note.{Note}
-use Rattle.book_commands.specs.declared.log.Note.TheVariants.{Text, Order, Rule, Limit, Refused, Unfit, Finding, Spent, Cert, Supplement, Compare, Requirement, Stated, Left, BadRow, Count}
+use Rattle.book_commands.specs.declared.log.Note.TheVariants.{Text, Order, Rule, Limit, Refused, Unfit, Finding, Spent, Cert, Supplement, Compare, Change, Requirement, Stated, Left, BadRow, Count}
 
 -- the same of notes before which so many slices were told; a note is of the last of them
 abbrev pub logged_behind : ℕ → List Told → List Note
@@ -39,6 +40,7 @@ is_spent (Spent slice question learnt) = is_blocking question
 is_spent (Cert fault) = false
 is_spent (Supplement note) = is_undecided note
 is_spent (Compare note) = is_left_open note
+is_spent (Change run) = is_left_in run
 is_spent (Requirement note) = is_left note
 is_spent (Stated fault) = false
 is_spent (Left learnt) = true

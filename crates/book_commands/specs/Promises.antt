@@ -1,9 +1,9 @@
 -- The promise of each command that reads a book.
 use Rattle.command_words.specs.declared.task.BookCommand.{BookCommand}
-use Rattle.command_words.specs.declared.task.BookCommand.TheVariants.{Order, Check, Prove, Verify, Supplements, Compare, Free, Why, Ask, Days, Require}
+use Rattle.command_words.specs.declared.task.BookCommand.TheVariants.{Order, Check, Prove, Verify, Supplements, Compare, Free, Why, Ask, Days, Require, Changes}
 use Rattle.book_commands.specs.Ask.{ask_promise}
 use Rattle.book_commands.specs.Checks.{check_promise, proof_promise}
-use Rattle.book_commands.specs.CompareReply.{compare_promise}
+use Rattle.book_commands.specs.CompareReply.{compare_promise, changes_promise}
 use Rattle.book_commands.specs.Days.{days_promise}
 use Rattle.book_commands.specs.Free.{free_promise}
 use Rattle.book_commands.specs.Order.{order_promise}
@@ -25,3 +25,4 @@ promise_of (Why day ordered budget) = why_promise day ordered budget
 promise_of (Ask day rule budget) = ask_promise day rule budget
 promise_of (Days ordered) = days_promise ordered
 promise_of (Require file budget) = require_promise file budget
+promise_of (Changes file budget) = changes_promise file budget

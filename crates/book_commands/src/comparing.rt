@@ -1,14 +1,16 @@
-//! Compares the books of two texts.
+//! Compares the books of two texts, on a day or on all days.
 ghost use Rattle.std.specs.Prelude.{◌≡◌, ◌++◌, Some, Err, IfOk, OnOk, map};
 ghost use Rattle.std.specs.Option.{option_map};
 ghost use Rattle.pb_base.specs.Answers.{IfRefused};
 ghost use Rattle.pb_outside.specs.Files.{FailsToRead};
 ghost use Rattle.book_compare.specs.Comparison.{outside};
 ghost use Rattle.release_check.specs.NotReleased.{IsRefusal};
-ghost use Rattle.book_commands.specs.CompareReply.{comparison_status, comparison_reply, outside_reply, outside_text, IsReleased, RepliesByDay, RepliesToSecond, RepliesToTexts, RepliesToCompare};
+ghost use Rattle.book_commands.specs.CompareReply.{comparison_status, comparison_reply, outside_reply, outside_text, IsReleased, RepliesByDay, RepliesOver, RepliesToSecond, RepliesToTexts, RepliesToCompare};
 ghost use Rattle.book_commands.specs.Promise.{ReadsFiles};
+ghost use Rattle.book_commands.specs.declared.comparing.Span.TheVariants.{OnDay, AllDays};
 ghost use Rattle.book_commands.specs.declared.log.Note.TheVariants.{Compare};
 
+use crate::changing::changed_reply;
 use crate::check::kept_back_reply;
 use crate::judge::book_fault_reply;
 use crate::log::Note;
@@ -24,6 +26,15 @@ use release::Released;
 use release_check::{NotReleased, try_release};
 use std::alloc::Global;
 
+/// The days on which two books are compared.
+#[derive(Clone, Copy)]
+pub enum Span {
+    /// One day.
+    OnDay(Day),
+    /// All days of both terms.
+    AllDays,
+}
+
 /// What changes from the book of the text to the book in the file, on a day. Both texts are read before either is looked at.
 pub fn compare_reply<F: Files>(
     alloc: Global,
@@ -33,14 +44,48 @@ pub fn compare_reply<F: Files>(
     budget: &Budget,
     files: &mut F,
 ) -> Result<RunReply, OutError>
-    ensures reply { IfOk result (RepliesToCompare text.now day file.now budget.now
+    ensures reply { IfOk result (RepliesToCompare text.now (OnDay day) file.now budget.now
+        (F.told files.old) (F.told files.new)) }
+    ensures cause { let fails = FailsToRead file.now (F.told files.old) (F.told files.new) in
+        result ≡ Err OutError.Failed → fails }
+    ensures kept { ReadsFiles (F.told files.old) (F.told files.new) }
+{
+    reply_over(alloc, text, Span::OnDay(day), file, budget, files)
+}
+
+/// The same on all days of both terms.
+pub fn changes_reply<F: Files>(
+    alloc: Global,
+    text: &[u8],
+    file: &FileName,
+    budget: &Budget,
+    files: &mut F,
+) -> Result<RunReply, OutError>
+    ensures reply { IfOk result (RepliesToCompare text.now AllDays file.now budget.now
+        (F.told files.old) (F.told files.new)) }
+    ensures cause { let fails = FailsToRead file.now (F.told files.old) (F.told files.new) in
+        result ≡ Err OutError.Failed → fails }
+    ensures kept { ReadsFiles (F.told files.old) (F.told files.new) }
+{
+    reply_over(alloc, text, Span::AllDays, file, budget, files)
+}
+
+fn reply_over<F: Files>(
+    alloc: Global,
+    text: &[u8],
+    span: Span,
+    file: &FileName,
+    budget: &Budget,
+    files: &mut F,
+) -> Result<RunReply, OutError>
+    ensures reply { IfOk result (RepliesToCompare text.now span file.now budget.now
         (F.told files.old) (F.told files.new)) }
     ensures cause { let fails = FailsToRead file.now (F.told files.old) (F.told files.new) in
         result ≡ Err OutError.Failed → fails }
     ensures kept { ReadsFiles (F.told files.old) (F.told files.new) }
 {
     match files.read(alloc, file.as_str(), MOST_TEXT_BYTES) {
-        Ok(content) => Ok(texts_reply(alloc, text, content, day, budget)?),
+        Ok(content) => Ok(texts_reply(alloc, text, content, span, budget)?),
         Err(error) => Err(error),
     }
 }
@@ -49,14 +94,14 @@ fn texts_reply(
     alloc: Global,
     text: &[u8],
     content: Option<Vec<u8>>,
-    day: Day,
+    span: Span,
     budget: &Budget,
 ) -> Result<RunReply, Memory>
     ensures { let second = option_map (λ bytes. bytes.items) content in
-        IfOk result (RepliesToTexts text.now second day budget.now) }
+        IfOk result (RepliesToTexts text.now second span budget.now) }
 {
     match released(alloc, text, budget) {
-        Ok(book) => second_reply(alloc, &book, content, day, budget),
+        Ok(book) => second_reply(alloc, &book, content, span, budget),
         Err(Fail::Refused(why)) => kept_back_reply(alloc, why),
         Err(Fail::Memory) => Err(Memory),
     }
@@ -66,14 +111,14 @@ fn second_reply(
     alloc: Global,
     first: &Released,
     content: Option<Vec<u8>>,
-    day: Day,
+    span: Span,
     budget: &Budget,
 ) -> Result<RunReply, Memory>
     ensures { let second = option_map (λ bytes. bytes.items) content in
-        IfOk result (RepliesToSecond first.now.book second day budget.now) }
+        IfOk result (RepliesToSecond first.now.book second span budget.now) }
 {
     match content {
-        Some(text) => released_reply(alloc, first, &text, day, budget),
+        Some(text) => released_reply(alloc, first, &text, span, budget),
         None => book_fault_reply(
             alloc,
             BookFault {
@@ -88,15 +133,30 @@ fn released_reply(
     alloc: Global,
     first: &Released,
     text: &[u8],
-    day: Day,
+    span: Span,
     budget: &Budget,
 ) -> Result<RunReply, Memory>
-    ensures { IfOk result (RepliesToSecond first.now.book (Some text.now) day budget.now) }
+    ensures { IfOk result (RepliesToSecond first.now.book (Some text.now) span budget.now) }
 {
     match released(alloc, text, budget) {
-        Ok(second) => compared_reply(alloc, first, &second, day, budget),
+        Ok(second) => released_over(alloc, first, &second, span, budget),
         Err(Fail::Refused(why)) => kept_back_reply(alloc, why),
         Err(Fail::Memory) => Err(Memory),
+    }
+}
+
+fn released_over(
+    alloc: Global,
+    first: &Released,
+    second: &Released,
+    span: Span,
+    budget: &Budget,
+) -> Result<RunReply, Memory>
+    ensures { IfOk result (RepliesOver span first.now.book second.now.book budget.now) }
+{
+    match span {
+        Span::OnDay(day) => compared_reply(alloc, first, second, day, budget),
+        Span::AllDays => changed_reply(alloc, first, second, budget),
     }
 }
 

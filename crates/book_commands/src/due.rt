@@ -9,7 +9,7 @@ ghost use Rattle.book_commands.specs.Due.{Due};
 use crate::ask::ask_reply;
 use crate::certify::verify_reply;
 use crate::check::{check_reply, proof_reply};
-use crate::comparing::compare_reply;
+use crate::comparing::{changes_reply, compare_reply};
 use crate::days::days_reply;
 use crate::free::free_reply;
 use crate::judge::order_reply;
@@ -91,5 +91,6 @@ fn command_reply<F: Files>(
         }
         BookCommand::Days { codes } => Ok(days_reply(alloc, input, codes)?),
         BookCommand::Require { file, budget } => require_reply(alloc, input, file, budget, files),
+        BookCommand::Changes { file, budget } => changes_reply(alloc, input, file, budget, files),
     }
 }

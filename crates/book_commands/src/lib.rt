@@ -5,6 +5,7 @@ mod ask;
 mod book_file;
 mod cert_text;
 mod certify;
+mod changing;
 mod check;
 mod comparing;
 mod days;
@@ -25,6 +26,7 @@ mod tell;
 mod why;
 
 pub use book_file::{BookFile, read_book_file};
+pub use comparing::Span;
 pub use due::due_reply;
 pub use log::{Note, RunLog};
 pub use object::Object;

@@ -2,6 +2,7 @@
 ghost use Rattle.std.specs.Prelude.{◌≡◌, ◌++◌, [], ◌∷◌, OnOk, OnErr};
 
 use crate::object::Object;
+use book_changes::RunNotes;
 use book_compare::CompareNote;
 use book_model::LimitFault;
 use book_text::BookFault;
@@ -54,6 +55,8 @@ pub enum Note {
     Supplement(SupplementNote),
     /// A note of a comparison of two books.
     Compare(CompareNote),
+    /// What changes from a book to another on a run of days.
+    Change(RunNotes),
     /// A note on a requirement.
     Requirement(RequirementNote),
     /// The text of requirements has this fault.

@@ -141,6 +141,10 @@ is_require : IsNamed (codes "require")
 unfolding clap_on_literals
 is_require = record { stops = refl; passes = refl; form = refl }
 
+is_changes : IsNamed (codes "changes")
+unfolding clap_on_literals
+is_changes = record { stops = refl; passes = refl; form = refl }
+
 -- a word that is no command word
 record IsOther (name : List ℕ) : Type 0 where
   order : bytes_eq (codes "order") name ≡ false
@@ -158,6 +162,7 @@ record IsOther (name : List ℕ) : Type 0 where
   days : bytes_eq (codes "days") name ≡ false
   impact : bytes_eq (codes "impact") name ≡ false
   require : bytes_eq (codes "require") name ≡ false
+  changes : bytes_eq (codes "changes") name ≡ false
 
 turned : (a b : List ℕ) → bytes_eq a b ≡ false → bytes_eq b a ≡ false
 turned a b e = go (bytes_eq b a) refl
@@ -170,7 +175,7 @@ turned a b e = go (bytes_eq b a) refl
 
 asks_nothing : (name : List ℕ) → IsOther name → (budget : Option (List ℕ)) (operands : Words) → asked name budget operands ≡ None
 asks_nothing name o budget operands =
-    rw (turned (codes "order") name o.order) (rw (turned (codes "check") name o.check) (rw (turned (codes "prove") name o.prove) (rw (turned (codes "verify") name o.verify) (rw (turned (codes "desk") name o.desk) (rw (turned (codes "serve") name o.serve) (rw (turned (codes "sample") name o.sample) (rw (turned (codes "supplements") name o.supplements) (rw (turned (codes "compare") name o.compare) (rw (turned (codes "rejudge") name o.rejudge) (rw (turned (codes "free") name o.free) (rw (turned (codes "why") name o.why) (rw (turned (codes "days") name o.days) (rw (turned (codes "impact") name o.impact) (rw (turned (codes "require") name o.require) (refl)))))))))))))))
+    rw (turned (codes "order") name o.order) (rw (turned (codes "check") name o.check) (rw (turned (codes "prove") name o.prove) (rw (turned (codes "verify") name o.verify) (rw (turned (codes "desk") name o.desk) (rw (turned (codes "serve") name o.serve) (rw (turned (codes "sample") name o.sample) (rw (turned (codes "supplements") name o.supplements) (rw (turned (codes "compare") name o.compare) (rw (turned (codes "rejudge") name o.rejudge) (rw (turned (codes "free") name o.free) (rw (turned (codes "why") name o.why) (rw (turned (codes "days") name o.days) (rw (turned (codes "impact") name o.impact) (rw (turned (codes "require") name o.require) (rw (turned (codes "changes") name o.changes) (refl))))))))))))))))
 
 parses_none : (name : List ℕ) → IsOther name → (found : Option (Option (List ℕ) × Words)) → option_and_then (λ p. asked name p.0 p.1) found ≡ None
 parses_none name o None = refl
@@ -181,7 +186,7 @@ stray : (name : List ℕ) → IsOther name → is_plain name ≡ true
 unfolding clap_on_literals
 stray name o plain =
     let p = plain_word_of name plain in
-    rw o.order (rw o.check (rw o.prove (rw o.verify (rw o.desk (rw o.serve (rw o.sample (rw o.supplements (rw o.compare (rw o.rejudge (rw o.free (rw o.why (rw o.days (rw o.impact (rw o.require (rw p.no_end (rw p.no_long (rw p.no_short refl)))))))))))))))))
+    rw o.order (rw o.check (rw o.prove (rw o.verify (rw o.desk (rw o.serve (rw o.sample (rw o.supplements (rw o.compare (rw o.rejudge (rw o.free (rw o.why (rw o.days (rw o.impact (rw o.require (rw o.changes (rw p.no_end (rw p.no_long (rw p.no_short refl))))))))))))))))))
 
 stray_walk : (name : List ℕ) (words : Words) → IsOther name → is_plain name ≡ true
     → walk_fault whole.top names (walk_from nothing_held) (name ∷ words) ≡ kind.UnknownArgument ∷ kind.InvalidSubcommand ∷ []
@@ -240,7 +245,10 @@ parses name words plain tame =
                                 | inl is ↦ parses_named name (codes "impact") words is is_impact tame
                                 | inr impact ↦ elim (is_word (codes "require") name) [
                                   | inl is ↦ parses_named name (codes "require") words is is_require tame
-                                  | inr require ↦ other name words (record { order = order; check = check; prove = prove; verify = verify; desk = desk; serve = serve; sample = sample; supplements = supplements; compare = compare; rejudge = rejudge; free = free; why = why; days = days; impact = impact; require = require }) plain
+                                  | inr require ↦ elim (is_word (codes "changes") name) [
+                                    | inl is ↦ parses_named name (codes "changes") words is is_changes tame
+                                    | inr changes ↦ other name words (record { order = order; check = check; prove = prove; verify = verify; desk = desk; serve = serve; sample = sample; supplements = supplements; compare = compare; rejudge = rejudge; free = free; why = why; days = days; impact = impact; require = require; changes = changes }) plain
+                                  ]
                                 ]
                               ]
                             ]

@@ -14,6 +14,7 @@
 --     days CODE..                   what an order of these codes comes to on every day of the book's term
 --     impact STORE FILE WORKERS     the orders that this store keeps, judged again by the book that this file is
 --     require FILE [--budget N]     whether the cars of the book keep the requirements in this file
+--     changes FILE [--budget N]     what changes on all days from the book to the one in this file
 --     ask DAY RULE [--budget N]     whether a car of this day meets the rule, and what is to blame if none does
 -- A budget is the most clauses that may be learnt for one question. `ask` has words of its own (AskWords).
 use Rattle.std.specs.Prelude.{◌≡◌, ◌++◌, ◌==◌, ◌&&◌, ℕ, ◌%◌, List, [], ◌∷◌, Option, None, Some, codes, length, nat_le, if◌then◌else◌}
@@ -29,7 +30,7 @@ use Rattle.command_words.specs.Rejudging.{Rejudging}
 use Rattle.command_words.specs.Impact.{Impact as ImpactWords}
 use Rattle.command_words.specs.declared.task.Task.{Task}
 use Rattle.command_words.specs.declared.task.Task.TheVariants.{Book, Desk, Serve, Rejudge, Impact, Sample}
-use Rattle.command_words.specs.declared.task.BookCommand.TheVariants.{Order, Check, Prove, Verify, Supplements, Compare, Free, Why, Ask, Days, Require}
+use Rattle.command_words.specs.declared.task.BookCommand.TheVariants.{Order, Check, Prove, Verify, Supplements, Compare, Free, Why, Ask, Days, Require, Changes}
 use Rattle.pb_base.specs.declared.limits.TheConstants.{MOST_BUDGET, DEFAULT_BUDGET, MOST_TEXT_BYTES}
 
 -- the number of 1 to 10 digits, where it lies in the range
@@ -139,11 +140,16 @@ abbrev pub require_of : Option (List ℕ) → Words → Option Task
 require_of budget (file ∷ []) = option_map (λ n. Book (Require file n)) (budget_of budget)
 require_of budget operands = None
 
+abbrev pub changes_of : Option (List ℕ) → Words → Option Task
+changes_of budget (file ∷ []) = option_map (λ n. Book (Changes file n)) (budget_of budget)
+changes_of budget operands = None
+
 -- the command words but `ask`
 abbrev pub command_words : Words
 command_words =
     codes "order" ∷ codes "check" ∷ codes "prove" ∷ codes "verify" ∷ codes "desk" ∷ codes "serve" ∷ codes "sample" ∷ codes "supplements"
-    ∷ codes "compare" ∷ codes "rejudge" ∷ codes "free" ∷ codes "why" ∷ codes "days" ∷ codes "impact" ∷ codes "require" ∷ []
+    ∷ codes "compare" ∷ codes "rejudge" ∷ codes "free" ∷ codes "why" ∷ codes "days" ∷ codes "impact" ∷ codes "require"
+    ∷ codes "changes" ∷ []
 
 -- what a command word asks with a budget and operands
 abbrev pub asked : List ℕ → Option (List ℕ) → Words → Option Task
@@ -163,7 +169,8 @@ asked name budget operands =
     else (if same_name name (codes "days") then days_of budget operands
     else (if same_name name (codes "impact") then impact_of budget operands
     else (if same_name name (codes "require") then require_of budget operands
-    else None))))))))))))))
+    else (if same_name name (codes "changes") then changes_of budget operands
+    else None)))))))))))))))
 
 -- the words begin with a command word, and have its parts
 pub record AsksByForm (words : Words) (task : Task) : Type 0 where

@@ -3,7 +3,7 @@ ghost use Rattle.std.specs.Prelude.{◌≡◌, ◌%◌, ◌≤◌, IfOk, IfSome,
 ghost use Rattle.pb_base.specs.declared.limits.TheConstants.{MOST_BUDGET};
 ghost use Rattle.command_words.specs.Prepared.{lent, lent_option};
 ghost use Rattle.command_words.specs.Meaning.{number_in, codes_of, order_of, budget_of, budget_alone, check_of, prove_of, supplements_of};
-ghost use Rattle.command_words.specs.Meaning.{only_one, verify_of, desk_of, compare_of, rejudge_of, free_of, why_of, days_of, impact_of, require_of};
+ghost use Rattle.command_words.specs.Meaning.{only_one, verify_of, desk_of, compare_of, rejudge_of, free_of, why_of, days_of, impact_of, require_of, changes_of};
 ghost use Rattle.command_words.specs.Meaning.{door_of, serve_of, codes_number, sample_of, asked, command_words};
 
 use crate::budget::Budget;
@@ -18,7 +18,7 @@ use pb_base::{CodeList, CodeName, Memory, number_within, short_number};
 use std::alloc::Global;
 
 /// The command words but `ask`.
-pub fn command_words<'a>() -> [&'a str; 15]
+pub fn command_words<'a>() -> [&'a str; 16]
     ensures { lent result ≡ command_words }
 {
     [
@@ -37,6 +37,7 @@ pub fn command_words<'a>() -> [&'a str; 15]
         "days",
         "impact",
         "require",
+        "changes",
     ]
 }
 
@@ -79,6 +80,8 @@ pub fn asked(
         impact_of(alloc, budget, operands)
     } else if name == "require" {
         require_of(alloc, budget, operands)
+    } else if name == "changes" {
+        changes_of(alloc, budget, operands)
     } else {
         Ok(None)
     }
@@ -282,6 +285,23 @@ fn require_of(
     };
     let file = FileName::of(alloc, file)?;
     Ok(Some(Task::Book(BookCommand::Require { file, budget })))
+}
+
+fn changes_of(
+    alloc: Global,
+    budget: Option<&str>,
+    operands: &[&str],
+) -> Result<Option<Task>, Memory>
+    ensures { IfOk result (λ task. task ≡ changes_of (lent_option budget.entry) (lent operands.now)) }
+{
+    let [file] = operands else {
+        return Ok(None);
+    };
+    let Some(budget) = budget_of(budget) else {
+        return Ok(None);
+    };
+    let file = FileName::of(alloc, file)?;
+    Ok(Some(Task::Book(BookCommand::Changes { file, budget })))
 }
 
 fn rejudge_of(

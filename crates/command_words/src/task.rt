@@ -83,4 +83,9 @@ pub enum BookCommand {
         file: FileName,
         budget: Budget,
     },
+    /// What changes on all days from the book to the one in this file, with this budget for each question.
+    Changes {
+        file: FileName,
+        budget: Budget,
+    },
 }

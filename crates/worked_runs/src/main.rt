@@ -3,6 +3,7 @@
 
 mod bench;
 mod case;
+mod change_line;
 mod compare_line;
 mod door;
 mod escape;

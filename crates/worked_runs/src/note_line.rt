@@ -1,5 +1,6 @@
 //! The notes of a run, a line each.
 
+use crate::change_line::put_change;
 use crate::compare_line::put_compare;
 use crate::requirement_line::put_requirement;
 use crate::supplement_line::put_supplement;
@@ -47,6 +48,7 @@ pub fn put_note(text: &mut Text, note: &Note) -> Result<(), Memory> {
         Note::Cert(fault) => put_numbers(text, "certificate", &[fault.line]),
         Note::Supplement(told) => put_supplement(text, told),
         Note::Compare(told) => put_compare(text, told),
+        Note::Change(run) => put_change(text, run),
         Note::Requirement(told) => put_requirement(text, told),
         Note::Stated(fault) => put_numbers(
             text,

@@ -70,3 +70,15 @@ returns-in-Require-clause-cause g c = rw c.in-Require.is c.require_reply.ensures
 pub returns-in-Require-clause-kept : goal.returns-in-Require-clause-kept
 unfolding promise_of
 returns-in-Require-clause-kept g c = rw c.in-Require.is c.require_reply.ensures.kept
+
+pub returns-in-Changes-clause-reply : goal.returns-in-Changes-clause-reply
+unfolding promise_of
+returns-in-Changes-clause-reply g c = rw c.in-Changes.is c.changes_reply.ensures.reply
+
+pub returns-in-Changes-clause-cause : goal.returns-in-Changes-clause-cause
+unfolding promise_of
+returns-in-Changes-clause-cause g c = rw c.in-Changes.is c.changes_reply.ensures.cause
+
+pub returns-in-Changes-clause-kept : goal.returns-in-Changes-clause-kept
+unfolding promise_of
+returns-in-Changes-clause-kept g c = rw c.in-Changes.is c.changes_reply.ensures.kept

@@ -1,4 +1,3 @@
-use Rattle.std.proofs.Common.{refl}
 use Rattle.std.specs.Prelude.{Ok, Err}
 use Rattle.requirements.specs.Requirements.{requirements_of}
 use Rattle.book_commands.proofs.RequireLaws.{by_stated}
