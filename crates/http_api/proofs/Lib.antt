@@ -11,3 +11,4 @@ pub mod Pieces
 pub mod HeadFirst
 pub mod MemoryText
 pub mod Deniable
+mod Methods

@@ -18,6 +18,8 @@ use Rattle.http_api.specs.declared.opening.Opening.{Opening}
 use Rattle.http_api.specs.declared.status.Status.{Status}
 use Rattle.http_api.specs.Path.{path_of}
 use Rattle.http_api.specs.Route.{Leads}
+use Rattle.http_wire.specs.declared.refusal.Refusal.{Refusal}
+use Rattle.http_wire.specs.declared.refusal.Refusal.TheVariants.{Malformed, LongBody, LongHead, Coded}
 use Rattle.http_api.specs.Status.{code_of, phrase_of, status_of, denied_status, bad_status}
 use Rattle.http_api.specs.ReplyText.{text_of}
 
@@ -101,14 +103,11 @@ CanDeny WrongMethod target = (route : Route) × Leads (path_of target) route
 CanDeny BadCaller target = Unit {0}
 CanDeny BadBody target = Unit {0}
 
--- the statuses of what is no message
-abbrev pub IsBad : ℕ → Type 0
-IsBad number = (number ≡ 400) ⊎ (number ≡ 413) ⊎ (number ≡ 431) ⊎ (number ≡ 501)
+abbrev pub bad_line : Refusal → List ℕ
+bad_line Malformed = line (codes "bad request")
+bad_line LongBody = line (codes "body too large")
+bad_line LongHead = line (codes "head too large")
+bad_line Coded = line (codes "transfer encoding")
 
-abbrev pub bad_line : ℕ → List ℕ
-bad_line number =
-    if number == 413 then line (codes "body too large")
-    else (if number == 431 then line (codes "head too large") else (if number == 501 then line (codes "transfer encoding") else line (codes "bad request")))
-
-abbrev pub bad_response : ℕ → List ℕ
-bad_response number = plain_response (bad_status number) Untold (bad_line number) true false
+abbrev pub bad_response : Refusal → List ℕ
+bad_response refusal = plain_response (bad_status refusal) Untold (bad_line refusal) true false

@@ -2,6 +2,8 @@
 use Rattle.std.specs.Prelude.{ℕ, Bool, ◌==◌, List, codes, if◌then◌else◌}
 use Rattle.desk_words.specs.declared.reply.Reply.{Reply}
 use Rattle.desk_words.specs.declared.reply.Reply.TheVariants.{Kept, Given, Raw, Cert, OwnerIs, Report, BookIs, Placed, OrderIs, Withdrawn, NotOwner, NoSuch, Gone as GoneReply, Changed, NumberUsed, TextRefused, Found, Undecided, Limit, Refused, OrderFault, StoreFault, Full, Memory}
+use Rattle.http_wire.specs.declared.refusal.Refusal.{Refusal}
+use Rattle.http_wire.specs.declared.refusal.Refusal.TheVariants.{Malformed, LongBody, LongHead, Coded}
 use Rattle.http_api.specs.declared.denied.Denied.{Denied}
 use Rattle.http_api.specs.declared.denied.Denied.TheVariants.{NoPath, WrongMethod, BadCaller, BadBody}
 use Rattle.http_api.specs.declared.status.Status.{Status}
@@ -78,7 +80,8 @@ denied_status BadCaller = BadRequest
 denied_status BadBody = BadRequest
 
 -- what stands in a stream and is no message
-abbrev pub bad_status : ℕ → Status
-bad_status number =
-    if number == 413 then ContentTooLarge
-    else (if number == 431 then HeadTooLarge else (if number == 501 then NotImplemented else BadRequest))
+abbrev pub bad_status : Refusal → Status
+bad_status Malformed = BadRequest
+bad_status LongBody = ContentTooLarge
+bad_status LongHead = HeadTooLarge
+bad_status Coded = NotImplemented

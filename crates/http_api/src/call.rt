@@ -49,7 +49,7 @@ impl Routes {
 fn call_at(alloc: Global, route: Route, message: &Message) -> Result<Call, Fail<Denied>>
     ensures { Answers result (call_at route message.now) }
 {
-    let verb = Verb::of(message.head.method.as_slice());
+    let verb = Verb::of(alloc, message.head.method.as_slice());
     let Some(request) = request_of(route, verb) else {
         return Err(Fail::Refused(Denied::WrongMethod));
     };

@@ -4,7 +4,9 @@ ghost use Rattle.http_api.specs.Request.{method_of, request_of};
 
 use crate::route::{BookPage, DraftPage, ListPage, Route};
 use desk_words::What;
+use http::Method;
 use pb_base::Id;
+use std::alloc::Global;
 
 /// A method that some path has, or any other.
 #[derive(Clone, Copy)]
@@ -34,8 +36,17 @@ pub enum Request {
 }
 
 impl Verb {
-    /// The method of these bytes.
-    pub fn of(method: &[u8]) -> Verb
+    /// The method of these bytes. Want of memory changes nothing: only a method that no path has takes any.
+    pub fn of(alloc: Global, method: &[u8]) -> Verb
+        ensures { result ≡ method_of method.now }
+    {
+        match Method::from_bytes(alloc, method) {
+            Ok(method) => Verb::named(method.as_str().as_bytes()),
+            Err(_) => Verb::Other,
+        }
+    }
+
+    fn named(method: &[u8]) -> Verb
         ensures { result ≡ method_of method.now }
     {
         if method == b"GET".as_slice() {

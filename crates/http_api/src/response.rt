@@ -1,6 +1,6 @@
 //! Responses, byte for byte.
 ghost use Rattle.std.specs.Prelude.{◌≡◌, ◌++◌, IfOk, false, true};
-ghost use Rattle.http_api.specs.Response.{CanDeny, IsBad, IsDeniedResponse, bad_line, bad_response, denied_line, denied_response, is_raw, plain_response, response, response_of};
+ghost use Rattle.http_api.specs.Response.{CanDeny, IsDeniedResponse, bad_line, bad_response, denied_line, denied_response, is_raw, plain_response, response, response_of};
 ghost use Rattle.desk_words.specs.declared.reply.Reply.TheVariants.{Memory as WantOfMemory};
 
 use crate::denied::Denied;
@@ -10,6 +10,7 @@ use crate::reply_text::{put_line, rest_of};
 use crate::routes::Routes;
 use crate::status::Status;
 use desk_words::Reply;
+use http_wire::Refusal;
 use pb_base::{Body, Memory, Text};
 use std::alloc::Global;
 
@@ -123,28 +124,27 @@ fn denied_line(denied: Denied) -> &'static [u8]
     }
 }
 
-/// The response to what stands in a stream and is no message: 400, 413, 431 or 501. The connection closes after it.
-pub fn bad_response(alloc: Global, status: u16) -> Result<Body, Memory>
-    requires { IsBad status }
-    ensures { IfOk result (λ body. body ≡ bad_response status) }
+/// The response to what stands in a stream and is no message. The connection closes after it.
+pub fn bad_response(alloc: Global, refusal: Refusal) -> Result<Body, Memory>
+    ensures { IfOk result (λ body. body ≡ bad_response refusal) }
 {
     let opening = Opening {
-        status: Status::of_bad(status),
+        status: Status::of_refusal(refusal),
         raw: false,
         methods: Methods::Untold,
         close: true,
     };
-    response(alloc, opening, bad_line(status), b"", false)
+    response(alloc, opening, bad_line(refusal), b"", false)
 }
 
-fn bad_line(status: u16) -> &'static [u8]
-    ensures { result.now ≡ bad_line status }
+fn bad_line(refusal: Refusal) -> &'static [u8]
+    ensures { result.now ≡ bad_line refusal }
 {
-    match status {
-        413 => b"body too large\n",
-        431 => b"head too large\n",
-        501 => b"transfer encoding\n",
-        _ => b"bad request\n",
+    match refusal {
+        Refusal::Malformed => b"bad request\n",
+        Refusal::LongBody => b"body too large\n",
+        Refusal::LongHead => b"head too large\n",
+        Refusal::Coded => b"transfer encoding\n",
     }
 }
 

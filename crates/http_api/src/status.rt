@@ -5,6 +5,7 @@ ghost use Rattle.http_api.specs.Status.{code_of, phrase_of, status_of, bad_statu
 use crate::denied::Denied;
 use desk_words::Reply;
 use http::StatusCode;
+use http_wire::Refusal;
 
 /// What a response begins with. Each has a number and a phrase.
 #[derive(Clone, Copy)]
@@ -123,15 +124,15 @@ impl Status {
         }
     }
 
-    /// The status of this number among those of what is no message.
-    pub fn of_bad(number: u16) -> Status
-        ensures { result ≡ bad_status number }
+    /// The status of what is no message.
+    pub fn of_refusal(refusal: Refusal) -> Status
+        ensures { result ≡ bad_status refusal }
     {
-        match number {
-            413 => Status::ContentTooLarge,
-            431 => Status::HeadTooLarge,
-            501 => Status::NotImplemented,
-            _ => Status::BadRequest,
+        match refusal {
+            Refusal::Malformed => Status::BadRequest,
+            Refusal::LongBody => Status::ContentTooLarge,
+            Refusal::LongHead => Status::HeadTooLarge,
+            Refusal::Coded => Status::NotImplemented,
         }
     }
 }

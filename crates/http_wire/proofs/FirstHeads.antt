@@ -9,6 +9,7 @@ use Rattle.httparse.specs.declared.spans.HeaderSpan.{HeaderSpan}
 use Rattle.httparse.specs.declared.spans.RequestSpans.{RequestSpans}
 use Rattle.http_wire.specs.declared.head.HeadStep.{HeadStep}
 use Rattle.http_wire.specs.declared.head.HeadStep.TheVariants.{Bad}
+use Rattle.http_wire.specs.declared.refusal.Refusal.TheVariants.{Malformed, LongHead}
 use Rattle.http_wire.specs.declared.front.Front.{Front}
 use Rattle.http_wire.specs.Front.{skipped_bytes, block_length}
 use Rattle.http_wire.specs.FirstHeads.{ReadsHeld}
@@ -30,7 +31,7 @@ fields_fit s spans found h is =
     omega (arith, all, given, named, length-take found.headers spans)
 
 few_lines : (block : List ℕ) (step : HeadStep) → field_lines block ≤ 64 → ReadsLines block step → ReadsBlock block step
-few_lines block step few reads = subst (λ (many : Bool). MatchBool many (step ≡ Bad 431) (ReadsLines block step)) (sym (le-ltb 64 (field_lines block) few)) reads
+few_lines block step few reads = subst (λ (many : Bool). MatchBool many (step ≡ Bad LongHead) (ReadsLines block step)) (sym (le-ltb 64 (field_lines block) few)) reads
 
 pub first_block : (s : List ℕ) (spans : List HeaderSpan) (found : RequestSpans) (h : RequestHead) (step : HeadStep) → skipped_bytes s ≡ 0 → length spans ≤ 64
     → IsRequestAt s spans found h → step ≡ judge (parts_of h) → (block_length s ≡ Some found.len) × ReadsBlock (take found.len s) step
@@ -74,8 +75,8 @@ same_before step was (Some all) held (Some rest) held' None same reads = absurd 
 same_before step was (Some all) held (Some rest) held' (Some rest') same reads = subst (λ (s : List ℕ). ReadsHead step s (held' ++ rest')) same reads
 
 -- what is no head with few fields is none
-pub no_head : (block : List ℕ) → field_lines block ≤ 64 → ((h : RequestHead) → ReadsRequest block h [] → length h.fields ≤ 64 → ⊥) → ReadsBlock block (Bad 400)
-no_head block few none = few_lines block (Bad 400) few (inr ((λ h reads. none h reads (let within = few_fields block h reads in omega arith)), refl))
+pub no_head : (block : List ℕ) → field_lines block ≤ 64 → ((h : RequestHead) → ReadsRequest block h [] → length h.fields ≤ 64 → ⊥) → ReadsBlock block (Bad Malformed)
+no_head block few none = few_lines block (Bad Malformed) few (inr ((λ h reads. none h reads (let within = few_fields block h reads in omega arith)), refl))
 
 -- a head of another length is none of just the block
 pub other_length : (block : List ℕ) (spans : List HeaderSpan) (found : RequestSpans) (h : RequestHead) → IsRequestAt block spans found h → found.len ≢ length block → ReadsRequest block h [] → ⊥

@@ -9,6 +9,7 @@ use Rattle.std.proofs.Math.Seq.{take-append-add}
 use Rattle.http_wire.specs.Front.{is_line_feed, is_line_byte, skipped_bytes, empty_line, empty_line_behind, block_length, front_of, front}
 use Rattle.http_wire.specs.Search.{IsSearched, IsFront}
 use Rattle.http_wire.specs.declared.front.Front.TheVariants.{End, Bad, Block}
+use Rattle.http_wire.specs.declared.refusal.Refusal.TheVariants.{Malformed, LongHead}
 
 pub skipped_within : (s : List ℕ) → skipped_bytes s ≤ length s
 skipped_within [] = omega arith
@@ -100,23 +101,23 @@ found_front held skipped n small is_skipped ends more =
     found is_long w some ends = rw (some, ends) refl
 
 -- or once there are as many bytes as a head may have
-pub full_front : (held : List ℕ) (skipped : ℕ) → length held ≡ 16384 → skipped ≡ skipped_bytes held → block_length (drop skipped held) ≡ None → IsFront held (Bad 431)
+pub full_front : (held : List ℕ) (skipped : ℕ) → length held ≡ 16384 → skipped ≡ skipped_bytes held → block_length (drop skipped held) ≡ None → IsFront held (Bad LongHead)
 full_front held skipped full is_skipped no_end more =
     let window : take 16384 (held ++ more) ≡ held = take_at held more 16384 full in
     let is_long : leb 16384 (length (held ++ more)) ≡ true = le-leb 16384 _ (omega (arith, length-append held more)) in
     let none : block_length (drop (skipped_bytes held) held) ≡ None = ap (λ (k : ℕ). block_length (drop k held)) (sym is_skipped) ∙ no_end in
     rw (window, is_long) (refused held none)
   where
-    refused : (w : List ℕ) → block_length (drop (skipped_bytes w) w) ≡ None → front_of true w ≡ Bad 431
-    refused w none = rw none (elim (eqb (skipped_bytes w) (length w)) as (λ (b : Bool). cond b (Bad 431) (Bad 431) ≡ Bad 431) [ true ↦ refl | false ↦ refl ])
+    refused : (w : List ℕ) → block_length (drop (skipped_bytes w) w) ≡ None → front_of true w ≡ Bad LongHead
+    refused w none = rw none (elim (eqb (skipped_bytes w) (length w)) as (λ (b : Bool). cond b (Bad LongHead) (Bad LongHead) ≡ Bad LongHead) [ true ↦ refl | false ↦ refl ])
 
 -- and at the end of the stream
-pub end_front : (held : List ℕ) (skipped : ℕ) → length held < 16384 → skipped ≡ skipped_bytes held → block_length (drop skipped held) ≡ None → front held ≡ cond (eqb skipped (length held)) End (Bad 400)
+pub end_front : (held : List ℕ) (skipped : ℕ) → length held < 16384 → skipped ≡ skipped_bytes held → block_length (drop skipped held) ≡ None → front held ≡ cond (eqb skipped (length held)) End (Bad Malformed)
 end_front held skipped short is_skipped no_end =
     let window : take 16384 held ≡ held = take_all 16384 held (omega arith) in
     let is_short : leb 16384 (length held) ≡ false = lt-leb 16384 _ short in
     let none : block_length (drop (skipped_bytes held) held) ≡ None = ap (λ (k : ℕ). block_length (drop k held)) (sym is_skipped) ∙ no_end in
-    rw (window, is_short) (rw none (ap (λ (k : ℕ). cond (eqb k (length held)) End (Bad 400)) (sym is_skipped)))
+    rw (window, is_short) (rw none (ap (λ (k : ℕ). cond (eqb k (length held)) End (Bad Malformed)) (sym is_skipped)))
 
 -- all that is held was searched
 pub all_searched : (skipped seen : ℕ) (held : List ℕ) → seen ≡ length held → IsSearched skipped seen held → (skipped ≡ skipped_bytes held) × (block_length (drop skipped held) ≡ None)

@@ -8,6 +8,7 @@ use Rattle.http_wire.specs.declared.front.Front.TheVariants.{End as NoMore, Bad 
 use Rattle.http_wire.specs.declared.head.Head.{Head as Kept}
 use Rattle.http_wire.specs.declared.head.HeadStep.{HeadStep}
 use Rattle.http_wire.specs.declared.head.HeadStep.TheVariants.{Head, End, Bad}
+use Rattle.http_wire.specs.declared.refusal.Refusal.TheVariants.{LongHead}
 use Rattle.http_wire.specs.declared.message.Message.{Message}
 use Rattle.http_wire.specs.Front.{front}
 use Rattle.http_wire.specs.Parts.{parts_of}
@@ -24,7 +25,7 @@ lines_once block a b (inr (none, is_a)) (inr (never, is_b)) = is_a ∙ sym is_b
 
 block_once : (block : List ℕ) (a b : HeadStep) → ReadsBlock block a → ReadsBlock block b → a ≡ b
 block_once block a b reads other = by_test (nat_lt 64 (field_lines block)) reads other where
-  by_test : (many : Bool) → MatchBool many (a ≡ Bad 431) (ReadsLines block a) → MatchBool many (b ≡ Bad 431) (ReadsLines block b) → a ≡ b
+  by_test : (many : Bool) → MatchBool many (a ≡ Bad LongHead) (ReadsLines block a) → MatchBool many (b ≡ Bad LongHead) (ReadsLines block b) → a ≡ b
   by_test true reads other = reads ∙ sym other
   by_test false reads other = lines_once block a b reads other
 

@@ -4,6 +4,7 @@ use Rattle.std.specs.Prelude.{Some, None, Ok, Err, codes}
 use Rattle.httparse.specs.Grammar.{trim_ows}
 use Rattle.http_wire.specs.declared.front.Front.TheVariants.{End, Bad, Block}
 use Rattle.http_wire.specs.declared.head.HeadStep.TheVariants.{Head, Bad as Refused}
+use Rattle.http_wire.specs.declared.refusal.Refusal.TheVariants.{Malformed, LongBody, Coded}
 use Rattle.http_wire.specs.Front.{block_length, front}
 use Rattle.http_wire.specs.Fields.{Field, values_of, body_length, says_close, is_continue, one_caller}
 use Rattle.http_wire.specs.Parts.{HeadParts}
@@ -25,7 +26,7 @@ nothing = refl
 line_ends_alone : front (crlf ++ crlf) ≡ End
 line_ends_alone = refl
 
-cut_short : front (codes "GET /a") ≡ Bad 400
+cut_short : front (codes "GET /a") ≡ Bad Malformed
 cut_short = refl
 
 -- an empty line is LF or CR LF, behind any LF
@@ -55,16 +56,16 @@ no_body = refl
 five_bytes : body_length (codes "005" ∷ []) ≡ Ok 5
 five_bytes = refl
 
-too_many_bytes : body_length (codes "1048577" ∷ []) ≡ Err 413
+too_many_bytes : body_length (codes "1048577" ∷ []) ≡ Err LongBody
 too_many_bytes = refl
 
-a_sign : body_length (codes "+5" ∷ []) ≡ Err 400
+a_sign : body_length (codes "+5" ∷ []) ≡ Err Malformed
 a_sign = refl
 
-no_digits : body_length ([] ∷ []) ≡ Err 400
+no_digits : body_length ([] ∷ []) ≡ Err Malformed
 no_digits = refl
 
-two_lengths : body_length (codes "5" ∷ codes "5" ∷ []) ≡ Err 400
+two_lengths : body_length (codes "5" ∷ codes "5" ∷ []) ≡ Err Malformed
 two_lengths = refl
 
 -- words and names
@@ -92,16 +93,16 @@ two_callers = refl
 abbrev parts_with : ℕ → List Field → HeadParts
 parts_with minor fields = record { method = codes "PUT"; target = codes "/a"; minor = minor; fields = fields }
 
-without_host : judge (parts_with 1 []) ≡ Refused 400
+without_host : judge (parts_with 1 []) ≡ Refused Malformed
 without_host = refl
 
 before_hosts : judge (parts_with 0 []) ≡ Head (kept_of (parts_with 0 []) 0)
 before_hosts = refl
 
-with_two_hosts : judge (parts_with 1 some_fields) ≡ Refused 400
+with_two_hosts : judge (parts_with 1 some_fields) ≡ Refused Malformed
 with_two_hosts = refl
 
-in_chunks : judge (parts_with 0 ((codes "Transfer-Encoding", codes "chunked") ∷ [])) ≡ Refused 501
+in_chunks : judge (parts_with 0 ((codes "Transfer-Encoding", codes "chunked") ∷ [])) ≡ Refused Coded
 in_chunks = refl
 
 with_a_body : judge (parts_with 0 ((codes "Content-Length", codes "7") ∷ [])) ≡ Head record { method = codes "PUT"; target = codes "/a"; version = 0; close = true; length = 7; expects = false; caller = None }

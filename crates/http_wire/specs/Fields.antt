@@ -11,6 +11,8 @@ use Rattle.httparse.specs.Grammar.{trim_ows}
 use Rattle.pb_base.specs.Digits.{is_digit, value_of}
 use Rattle.pb_base.specs.Names.{is_name}
 use Rattle.pb_base.specs.declared.limits.TheConstants.{MOST_TEXT_BYTES}
+use Rattle.http_wire.specs.declared.refusal.Refusal.{Refusal}
+use Rattle.http_wire.specs.declared.refusal.Refusal.TheVariants.{Malformed, LongBody}
 
 abbrev pub Field : Type 0
 Field = List ℕ × List ℕ
@@ -30,17 +32,17 @@ abbrev pub is_digits : List ℕ → Bool
 is_digits value = nat_lt 0 (length value) && list_all is_digit value
 
 -- the number that the value writes, unless it is none, or too large for a body
-abbrev pub length_by : List ℕ → Result ℕ ℕ
+abbrev pub length_by : List ℕ → Result ℕ Refusal
 length_by value =
     if is_digits value
-    then (if nat_lt MOST_TEXT_BYTES (value_of value) then Err 413 else Ok (value_of value))
-    else Err 400
+    then (if nat_lt MOST_TEXT_BYTES (value_of value) then Err LongBody else Ok (value_of value))
+    else Err Malformed
 
--- the length of the body, or the status by which it is refused; without a field the body is empty
-abbrev pub body_length : List (List ℕ) → Result ℕ ℕ
+-- the length of the body, or why it is refused; without a field the body is empty
+abbrev pub body_length : List (List ℕ) → Result ℕ Refusal
 body_length [] = Ok 0
 body_length (value ∷ []) = length_by value
-body_length (value ∷ more) = Err 400
+body_length (value ∷ more) = Err Malformed
 
 -- one of the words between the commas is `close`
 abbrev pub says_close : List ℕ → Bool

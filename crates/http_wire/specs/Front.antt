@@ -8,6 +8,7 @@ use Rattle.std.specs.Option.{option_or, option_map}
 use Rattle.http_wire.specs.declared.limits.TheConstants.{MOST_HEAD_BYTES}
 use Rattle.http_wire.specs.declared.front.Front.{Front}
 use Rattle.http_wire.specs.declared.front.Front.TheVariants.{End, Bad, Block}
+use Rattle.http_wire.specs.declared.refusal.Refusal.TheVariants.{Malformed, LongHead}
 
 -- LF
 abbrev pub is_line_feed : ℕ → Bool
@@ -35,13 +36,13 @@ block_length (b ∷ s) = option_map suc (option_or (empty_line_behind b s) (bloc
 -- a head that was found, or none: the stream is too long for one, or ends before
 abbrev pub block_front : Bool → ℕ → Option ℕ → Front
 block_front is_long skipped (Some n) = Block skipped n
-block_front is_long skipped None = Bad (if is_long then 431 else 400)
+block_front is_long skipped None = Bad (if is_long then LongHead else Malformed)
 
 -- the front of the first bytes of a stream, as many as a head may have, where it is so long
 abbrev pub front_of : Bool → List ℕ → Front
 front_of is_long s =
     if skipped_bytes s == length s
-    then (if is_long then Bad 431 else End)
+    then (if is_long then Bad LongHead else End)
     else block_front is_long (skipped_bytes s) (block_length (drop (skipped_bytes s) s))
 
 abbrev pub front : List ℕ → Front

@@ -11,5 +11,5 @@ HasFront found s s' = (front s ≡ found) × (s' ≡ s)
 -- a head that was found is held whole
 abbrev pub IsHeld : List ℕ → Front → Type 0
 IsHeld held End = ⊤
-IsHeld held (Bad status) = ⊤
+IsHeld held (Bad refusal) = ⊤
 IsHeld held (Block skipped n) = skipped + n ≤ length held

@@ -11,6 +11,7 @@ use Rattle.http_wire.specs.declared.head.Head.{Head as Kept}
 use Rattle.http_wire.specs.declared.head.HeadStep.{HeadStep}
 use Rattle.http_wire.specs.declared.head.HeadStep.TheVariants.{Head, End, Bad}
 use Rattle.http_wire.specs.declared.message.Message.{Message as Whole}
+use Rattle.http_wire.specs.declared.refusal.Refusal.{Refusal}
 use Rattle.http_wire.specs.declared.message.BodyStep.{BodyStep}
 use Rattle.http_wire.specs.declared.message.BodyStep.TheVariants.{Message, Cut}
 
@@ -18,11 +19,11 @@ use Rattle.http_wire.specs.declared.message.BodyStep.TheVariants.{Message, Cut}
 abbrev pub behind : HeadStep → ℕ → List ℕ → List ℕ
 behind (Head head) n s = drop n s
 behind End n s = s
-behind (Bad status) n s = s
+behind (Bad refusal) n s = s
 
 abbrev pub ReadsFront : Front → HeadStep → List ℕ → List ℕ → Type 0
 ReadsFront NoMore step s rest = (step ≡ End) × (rest ≡ [])
-ReadsFront (NoHead status) step s rest = (step ≡ Bad status) × (rest ≡ s)
+ReadsFront (NoHead refusal) step s rest = (step ≡ Bad refusal) × (rest ≡ s)
 ReadsFront (Block skipped n) step s rest = ReadsBlock (take n (drop skipped s)) step × (rest ≡ behind step (skipped + n) s)
 
 abbrev pub ReadsHead : HeadStep → List ℕ → List ℕ → Type 0
@@ -44,13 +45,13 @@ IsWhole head Cut = ⊤
 -- how a stream stops: at its end, at what is refused, inside a body, or behind a message that closes
 pub data Last : Type 0 where
   ended : Last
-  refused : ℕ → Last
+  refused : Refusal → Last
   cut : Kept → Last
   closed : Last
 
 abbrev pub Stops : List ℕ → Last → Type 0
 Stops s ended = ReadsHead End s []
-Stops s (refused status) = ReadsHead (Bad status) s s
+Stops s (refused refusal) = ReadsHead (Bad refusal) s s
 Stops s (cut head) = (rest : List ℕ) × ReadsHead (Head head) s rest × (length rest < head.length)
 Stops s closed = ⊥
 

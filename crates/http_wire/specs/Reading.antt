@@ -1,5 +1,5 @@
 -- What the head of a message comes to.
---     judge parts            the head, or the status by which it is refused
+--     judge parts            the head, or why it is refused
 --     ReadsBlock block step  the same of the bytes of a head
 use Rattle.std.specs.Prelude.{◌≡◌, ◌≤◌, ◌⊎◌, ⊤, ℕ, ◌-◌, Bool, not, ◌&&◌, ◌||◌, ◌==◌, nat_lt, List, [], length, Result, Ok, Err, codes, MatchBool, count_by, if◌then◌else◌}
 use Rattle.std.specs.List.{list_any}
@@ -12,6 +12,8 @@ use Rattle.http_wire.specs.declared.limits.TheConstants.{MOST_FIELD_LINES}
 use Rattle.http_wire.specs.declared.head.Head.{Head as Kept}
 use Rattle.http_wire.specs.declared.head.HeadStep.{HeadStep}
 use Rattle.http_wire.specs.declared.head.HeadStep.TheVariants.{Head, End, Bad}
+use Rattle.http_wire.specs.declared.refusal.Refusal.{Refusal}
+use Rattle.http_wire.specs.declared.refusal.Refusal.TheVariants.{Malformed, LongHead, Coded}
 
 -- HTTP/1.1 asks for just one Host field
 abbrev pub lacks_host : HeadParts → Bool
@@ -39,14 +41,14 @@ kept_of p len = record {
   caller = one_caller (values_of (codes "X-Caller") p.fields);
 }
 
-abbrev pub with_length : HeadParts → Result ℕ ℕ → HeadStep
+abbrev pub with_length : HeadParts → Result ℕ Refusal → HeadStep
 with_length p (Ok len) = Head (kept_of p len)
-with_length p (Err status) = Bad status
+with_length p (Err refusal) = Bad refusal
 
 abbrev pub judge : HeadParts → HeadStep
 judge p =
-    if lacks_host p then Bad 400
-    else (if is_coded p then Bad 501 else with_length p (body_length (values_of (codes "Content-Length") p.fields)))
+    if lacks_host p then Bad Malformed
+    else (if is_coded p then Bad Coded else with_length p (body_length (values_of (codes "Content-Length") p.fields)))
 
 -- the lines between the request line and the empty line
 abbrev pub field_lines : List ℕ → ℕ
@@ -57,13 +59,13 @@ abbrev pub IsNoHead : List ℕ → Type 0
 IsNoHead block = (h : RequestHead) → ¬ (ReadsRequest block h [])
 
 abbrev pub ReadsLines : List ℕ → HeadStep → Type 0
-ReadsLines block step = ((h : RequestHead) × ReadsRequest block h [] × (step ≡ judge (parts_of h))) ⊎ (IsNoHead block × (step ≡ Bad 400))
+ReadsLines block step = ((h : RequestHead) × ReadsRequest block h [] × (step ≡ judge (parts_of h))) ⊎ (IsNoHead block × (step ≡ Bad Malformed))
 
 abbrev pub ReadsBlock : List ℕ → HeadStep → Type 0
-ReadsBlock block step = MatchBool (nat_lt MOST_FIELD_LINES (field_lines block)) (step ≡ Bad 431) (ReadsLines block step)
+ReadsBlock block step = MatchBool (nat_lt MOST_FIELD_LINES (field_lines block)) (step ≡ Bad LongHead) (ReadsLines block step)
 
 -- a body that is read has at most as many bytes as a text may have
 abbrev pub HasSmallBody : HeadStep → Type 0
 HasSmallBody (Head head) = head.length ≤ MOST_TEXT_BYTES
 HasSmallBody End = ⊤
-HasSmallBody (Bad status) = ⊤
+HasSmallBody (Bad refusal) = ⊤

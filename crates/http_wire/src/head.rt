@@ -1,5 +1,6 @@
 //! What is kept of the head of a request.
 
+use crate::refusal::Refusal;
 use pb_base::{Body, Id};
 
 /// What is kept of the head of a request: what it asks for, how its body is read, and who asks.
@@ -28,6 +29,6 @@ pub enum HeadStep {
     Head(Head),
     /// The stream ends here.
     End,
-    /// What stands there is refused with this status: 400, 413, 431 or 501.
-    Bad(u16),
+    /// What stands there is refused.
+    Bad(Refusal),
 }

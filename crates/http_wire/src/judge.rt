@@ -13,25 +13,26 @@ use crate::few::Few;
 use crate::head::{Head, HeadStep};
 use crate::known::KnownFields;
 use crate::parts::Parts;
+use crate::refusal::Refusal;
 use pb_base::limits::MOST_TEXT_BYTES;
 use pb_base::{Id, Memory, Sequence};
 use std::alloc::Global;
 
-/// The head, or the status by which it is refused.
+/// The head, or why it is refused.
 pub fn judge(alloc: Global, parts: &Parts) -> Result<HeadStep, Memory>
     ensures step { IfOk result (λ step. step ≡ judge parts.now) }
     ensures small { IfOk result HasSmallBody }
 {
     let known = parts.fields.known();
     if lacks_host(parts, &known) {
-        return Ok(HeadStep::Bad(400));
+        return Ok(HeadStep::Bad(Refusal::Malformed));
     }
     if is_coded(parts, &known) {
-        return Ok(HeadStep::Bad(501));
+        return Ok(HeadStep::Bad(Refusal::Coded));
     }
     match body_length(known.length) {
         Ok(length) => Ok(HeadStep::Head(kept_of(alloc, parts, &known, length)?)),
-        Err(status) => Ok(HeadStep::Bad(status)),
+        Err(refusal) => Ok(HeadStep::Bad(refusal)),
     }
 }
 
@@ -51,27 +52,27 @@ fn is_coded(parts: &Parts, known: &KnownFields) -> bool
     !matches!(known.coding, Few::None)
 }
 
-// The length of the body, or the status by which the head is refused.
-fn body_length(length: Few) -> Result<u32, u16>
+// The length of the body, or why the head is refused.
+fn body_length(length: Few) -> Result<u32, Refusal>
     ensures length { (values : List (List ℕ)) → IsFew values length.entry → result ≡ body_length values }
     ensures small { IfOk result (λ length. length ≤ MOST_TEXT_BYTES) }
 {
     match length {
         Few::None => Ok(0),
         Few::One(value) => length_by(value),
-        Few::More => Err(400),
+        Few::More => Err(Refusal::Malformed),
     }
 }
 
 // The number of bytes that a value of Content-Length gives.
-fn length_by(value: &[u8]) -> Result<u32, u16>
+fn length_by(value: &[u8]) -> Result<u32, Refusal>
     ensures length { result ≡ length_by value.now }
     ensures small { IfOk result (λ length. length ≤ MOST_TEXT_BYTES) }
 {
     if !is_digits(value) {
-        return Err(400);
+        return Err(Refusal::Malformed);
     }
-    number_up_to(value, MOST_TEXT_BYTES as u32).ok_or(413)
+    number_up_to(value, MOST_TEXT_BYTES as u32).ok_or(Refusal::LongBody)
 }
 
 fn is_digits(value: &[u8]) -> bool

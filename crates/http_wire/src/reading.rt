@@ -12,6 +12,7 @@ use crate::head::HeadStep;
 use crate::judge::judge;
 use crate::limits::MOST_FIELD_LINES;
 use crate::parts::Parts;
+use crate::refusal::Refusal;
 use httparse::Status;
 use httparse::spans::{EMPTY_HEADER_SPAN, HeaderSpan, RequestSpans, parse_request};
 use pb_base::Memory;
@@ -45,18 +46,18 @@ pub fn first_head(alloc: Global, bytes: &[u8]) -> Result<Option<FirstHead>, Memo
     }))
 }
 
-/// The head that the bytes are, or the status by which they are refused.
+/// The head that the bytes are, or why they are refused.
 pub fn read_block(alloc: Global, block: &[u8]) -> Result<HeadStep, Memory>
     ensures step { IfOk result (ReadsBlock block.now) }
     ensures small { IfOk result HasSmallBody }
 {
     if field_lines(block) > MOST_FIELD_LINES {
-        return Ok(HeadStep::Bad(431));
+        return Ok(HeadStep::Bad(Refusal::LongHead));
     }
     let mut spans = [EMPTY_HEADER_SPAN; MOST_FIELD_LINES];
     match front_head(block, &mut spans) {
         Some(head) if head.len == block.len() => judged(alloc, block, &spans, head),
-        _ => Ok(HeadStep::Bad(400)),
+        _ => Ok(HeadStep::Bad(Refusal::Malformed)),
     }
 }
 

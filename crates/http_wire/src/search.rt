@@ -8,6 +8,7 @@ ghost use Rattle.http_wire.specs.declared.limits.TheConstants.{MOST_HEAD_BYTES};
 use crate::block::block_length_from;
 use crate::front::Front;
 use crate::limits::MOST_HEAD_BYTES;
+use crate::refusal::Refusal;
 
 /// How far the bytes that are held were searched for the end of a head. No byte is looked at again when more are there.
 #[derive(Clone, Copy)]
@@ -48,7 +49,7 @@ impl Search {
         };
         match block_length_from(&held[skipped..], behind) {
             Some(length) => Some(Front::Block { skipped, length }),
-            None if held.len() == MOST_HEAD_BYTES => Some(Front::Bad(431)),
+            None if held.len() == MOST_HEAD_BYTES => Some(Front::Bad(Refusal::LongHead)),
             None => None,
         }
     }
@@ -78,7 +79,7 @@ impl Search {
         if self.skipped == held.len() {
             Front::End
         } else {
-            Front::Bad(400)
+            Front::Bad(Refusal::Malformed)
         }
     }
 }

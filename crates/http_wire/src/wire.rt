@@ -133,7 +133,7 @@ impl Wire {
                 self.used = self.bytes.len();
                 Ok(HeadStep::End)
             }
-            Front::Bad(status) => Ok(HeadStep::Bad(status)),
+            Front::Bad(refusal) => Ok(HeadStep::Bad(refusal)),
             Front::Block { skipped, length } => {
                 let block = &self.held()[skipped..skipped + length];
                 let step = read_block(self.alloc, block)?;

@@ -16,6 +16,7 @@ use Rattle.http_wire.specs.declared.head.Head.{Head as Kept}
 use Rattle.http_wire.specs.declared.head.HeadStep.TheVariants.{Head, End, Bad}
 use Rattle.http_wire.specs.declared.message.Message.{Message as Whole}
 use Rattle.http_wire.specs.declared.message.BodyStep.TheVariants.{Message, Cut}
+use Rattle.http_wire.specs.declared.refusal.Refusal.{Refusal}
 use Rattle.answering.specs.Hand.{Hand}
 use Rattle.session.specs.Reading.{Stop, whole, unread, wanting, ReadsMessage, Reads}
 use Rattle.session.specs.Responses.{AnswersMessage, IsLast, interim, closing_memory_response}
@@ -148,15 +149,15 @@ receives_head head held held' input input' output output' step count later small
   output = same;
 }
 
-pub at_refusal : (status : ℕ) (end : SessionEnd) (held held' : List ℕ) (input input' : SourceTold) (output mid output' : SinkTold)
-    → StreamStep (ReadsHead (Bad status)) held input.left held' input'.left → input'.faults.count ≡ input.faults.count → IsLater input.faults input'.faults
-    → mid ≡ output → EndsRefused status end mid output' → EndsUnanswered end (seen held input output) (told input' output')
-at_refusal status end held held' input input' output mid output' step count later same (last, is, ends) =
-    ends_alone Broken (whole (refused status)) last end (seen held input output) (told input' output')
+pub at_refusal : (refusal : Refusal) (end : SessionEnd) (held held' : List ℕ) (input input' : SourceTold) (output mid output' : SinkTold)
+    → StreamStep (ReadsHead (Bad refusal)) held input.left held' input'.left → input'.faults.count ≡ input.faults.count → IsLater input.faults input'.faults
+    → mid ≡ output → EndsRefused refusal end mid output' → EndsUnanswered end (seen held input output) (told input' output')
+at_refusal refusal end held held' input input' output mid output' step count later same (last, is, ends) =
+    ends_alone Broken (whole (refused refusal)) last end (seen held input output) (told input' output')
     (record { stops = tt; stops_writing = λ h x y. tt; is_last = is; written = λ x y taken. taken })
     (record {
-      read = told_first (ReadsHead (Bad status)) (λ s. Reads (whole (refused status)) s []) (stops_refused status) (stream_of held input.left) (stream_of held' input'.left)
-          (reads_on (ReadsHead (Bad status)) held held' input.left input'.left step);
+      read = told_first (ReadsHead (Bad refusal)) (λ s. Reads (whole (refused refusal)) s []) (stops_refused refusal) (stream_of held input.left) (stream_of held' input'.left)
+          (reads_on (ReadsHead (Bad refusal)) held held' input.left input'.left step);
       counted = count;
       later = later;
       read_out = tt;

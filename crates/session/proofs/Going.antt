@@ -69,7 +69,7 @@ stops_later Memory m messages h between text out x y z answers first f = tt
 
 read_out_behind : (R : List ℕ → List ℕ → Type 0) (stop : Stop) (x y z : Option (List ℕ)) → ReadsOn R x y → IsReadOut stop y z → IsReadOut stop x z
 read_out_behind R (whole ended) x y z reads out = told_behind R (λ _. z ≡ Some []) (λ _. z ≡ Some []) (λ s t _ nothing. nothing) x y reads out
-read_out_behind R (whole (refused status)) x y z reads out = tt
+read_out_behind R (whole (refused refusal)) x y z reads out = tt
 read_out_behind R (whole (cut head)) x y z reads out = told_behind R (λ _. z ≡ Some []) (λ _. z ≡ Some []) (λ s t _ nothing. nothing) x y reads out
 read_out_behind R (whole closed) x y z reads out = tt
 read_out_behind R (unread head) x y z reads out = tt

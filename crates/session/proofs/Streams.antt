@@ -11,6 +11,8 @@ use Rattle.http_wire.specs.declared.front.Front.{Front}
 use Rattle.http_wire.specs.declared.front.Front.TheVariants.{End as NoMore, Bad as NoHead, Block}
 use Rattle.http_wire.specs.declared.head.Head.{Head as Kept}
 use Rattle.http_wire.specs.declared.head.HeadStep.TheVariants.{Head, End, Bad}
+use Rattle.http_wire.specs.declared.refusal.Refusal.{Refusal}
+use Rattle.http_wire.specs.declared.refusal.Refusal.TheVariants.{Malformed, LongHead, Coded}
 use Rattle.http_wire.specs.declared.message.Message.{Message as Whole}
 use Rattle.http_wire.specs.declared.message.BodyStep.TheVariants.{Message, Cut}
 use Rattle.session.specs.Reading.{Stop, whole, unread, wanting, ReadsMessage, Reads}
@@ -54,16 +56,16 @@ told_first R Q so (Some s) (Some t) first = so s t first
 not_judged : (p : HeadParts) → judge p ≡ End → ⊥
 not_judged p is = at (lacks_host p) (is_coded p) (body_length (values_of (codes "Content-Length") p.fields)) is
   where
-    at : (hostless coded : Bool) (body : Result ℕ ℕ) → (if hostless then Bad 400 else (if coded then Bad 501 else with_length p body)) ≡ End → ⊥
+    at : (hostless coded : Bool) (body : Result ℕ Refusal) → (if hostless then Bad Malformed else (if coded then Bad Coded else with_length p body)) ≡ End → ⊥
     at true coded body h = cc
     at false true body h = cc
     at false false (Ok len) h = cc
-    at false false (Err status) h = cc
+    at false false (Err refusal) h = cc
 
 no_block_ends : (block : List ℕ) → ReadsBlock block End → ⊥
 no_block_ends block reads = at (nat_lt 64 (field_lines block)) reads
   where
-    at : (many : Bool) → MatchBool many (End ≡ Bad 431) (ReadsLines block End) → ⊥
+    at : (many : Bool) → MatchBool many (End ≡ Bad LongHead) (ReadsLines block End) → ⊥
     at true h = cc
     at false (inl (h, read, is)) = not_judged (parts_of h) (sym is)
     at false (inr (none, is)) = cc
@@ -73,23 +75,23 @@ nothing_behind s rest reads = at (front s) reads
   where
     at : (found : Front) → ReadsFront found End s rest → rest ≡ []
     at NoMore h = h.1
-    at (NoHead status) h = let is : End ≡ Bad status = h.0 in absurd (cc)
+    at (NoHead refusal) h = let is : End ≡ Bad refusal = h.0 in absurd (cc)
     at (Block skipped n) h = absurd (no_block_ends (take n (drop skipped s)) h.0)
 
 pub stops_ended : (s rest : List ℕ) → ReadsHead End s rest → Items s [] ended
 stops_ended s rest reads = subst (λ (r : List ℕ). ReadsHead End s r) (nothing_behind s rest reads) reads
 
 -- what is refused stays
-pub stays_refused : (status : ℕ) (s rest : List ℕ) → ReadsHead (Bad status) s rest → rest ≡ s
-stays_refused status s rest reads = at (front s) reads
+pub stays_refused : (refusal : Refusal) (s rest : List ℕ) → ReadsHead (Bad refusal) s rest → rest ≡ s
+stays_refused refusal s rest reads = at (front s) reads
   where
-    at : (found : Front) → ReadsFront found (Bad status) s rest → rest ≡ s
-    at NoMore h = let is : Bad status ≡ End = h.0 in absurd (cc)
+    at : (found : Front) → ReadsFront found (Bad refusal) s rest → rest ≡ s
+    at NoMore h = let is : Bad refusal ≡ End = h.0 in absurd (cc)
     at (NoHead other) h = h.1
     at (Block skipped n) h = h.1
 
-pub stops_refused : (status : ℕ) (s rest : List ℕ) → ReadsHead (Bad status) s rest → Items s [] (refused status)
-stops_refused status s rest reads = subst (λ (r : List ℕ). ReadsHead (Bad status) s r) (stays_refused status s rest reads) reads
+pub stops_refused : (refusal : Refusal) (s rest : List ℕ) → ReadsHead (Bad refusal) s rest → Items s [] (refused refusal)
+stops_refused refusal s rest reads = subst (λ (r : List ℕ). ReadsHead (Bad refusal) s r) (stays_refused refusal s rest reads) reads
 
 pub stops_cut : (head : Kept) (s t u : List ℕ) → ReadsHead (Head head) s t → ReadsBody head Cut t u → Items s [] (cut head)
 stops_cut head s t u reads short = (t, reads, short.0)

@@ -86,7 +86,7 @@ closing_memory_response = response_of Memory true false
 
 abbrev pub IsLast : Stop → List ℕ → Type 0
 IsLast (whole ended) text = text ≡ []
-IsLast (whole (refused status)) text = (text ≡ bad_response status) ⊎ (text ≡ closing_memory_response)
+IsLast (whole (refused refusal)) text = (text ≡ bad_response refusal) ⊎ (text ≡ closing_memory_response)
 IsLast (whole (cut head)) text = text ≡ interim head
 IsLast (whole closed) text = text ≡ []
 IsLast (unread head) text = text ≡ interim_of head

@@ -40,7 +40,7 @@ pub record IsDue (stop : Stop) (left : Option (List ℕ)) (h : Hand) (out : List
 abbrev pub StopsAt : SessionEnd → Stop → Type 0
 StopsAt Done (whole ended) = Unit {0}
 StopsAt Done (whole closed) = Unit {0}
-StopsAt Broken (whole (refused status)) = Unit {0}
+StopsAt Broken (whole (refused refusal)) = Unit {0}
 StopsAt Broken (whole (cut head)) = Unit {0}
 StopsAt (ReadFault fault) (unread head) = Unit {0}
 StopsAt (WriteFault fault) stop = Unit {0}

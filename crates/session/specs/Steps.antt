@@ -17,6 +17,7 @@ use Rattle.http_wire.specs.declared.fault.ReadFault.{ReadFault as Unread}
 use Rattle.http_wire.specs.declared.head.Head.{Head as Kept}
 use Rattle.http_wire.specs.declared.head.HeadStep.TheVariants.{Head}
 use Rattle.http_wire.specs.declared.message.Message.{Message}
+use Rattle.http_wire.specs.declared.refusal.Refusal.{Refusal}
 use Rattle.answering.specs.Hand.{Hand}
 use Rattle.session.specs.Reading.{whole, ReadsMessage}
 use Rattle.session.specs.Responses.{IsLast, closing_memory_response, interim, memory_response}
@@ -86,9 +87,9 @@ EndsUnread (Refused fault) end before after = (end ≡ ReadFault fault) × (afte
 EndsUnread NoRoom end before after = EndsWith Memory closing_memory_response end before after
 
 -- the refusal of what is no head
-abbrev pub EndsRefused : ℕ → SessionEnd → SinkTold → SinkTold → Type 0
-EndsRefused status end before after =
-    (last : List ℕ) × IsLast (whole (refused status)) last × EndsWith Broken last end before after
+abbrev pub EndsRefused : Refusal → SessionEnd → SinkTold → SinkTold → Type 0
+EndsRefused refusal end before after =
+    (last : List ℕ) × IsLast (whole (refused refusal)) last × EndsWith Broken last end before after
 
 -- the response that was made, or that of want of memory
 abbrev pub text_of : Kept → Result (List ℕ) NoMemory → List ℕ

@@ -1,7 +1,7 @@
 //! Reading the next message of a link.
 ghost use Rattle.std.specs.Prelude.{◌≡◌, IfOk, IfErr, OnOk};
 ghost use Rattle.pb_outside.specs.Sink.{Takes};
-ghost use Rattle.http_api.specs.Response.{IsBad, bad_response};
+ghost use Rattle.http_api.specs.Response.{bad_response};
 ghost use Rattle.session.specs.Responses.{interim};
 ghost use Rattle.session.specs.Session.{WriteFails, told};
 ghost use Rattle.session.specs.Steps.{EndsBehind, EndsRefused, EndsUnanswered, EndsUnread, Receives, ReceivesBehind, ReceivesHead, seen};
@@ -9,8 +9,8 @@ ghost use Rattle.session.specs.Steps.{EndsBehind, EndsRefused, EndsUnanswered, E
 use crate::end::{SessionEnd, WriteFault};
 use crate::write::{end_with, give_up, write};
 use http_api::{bad_response, memory_response};
-use http_wire::{BodyStep, Head, HeadStep, Message, ReadFault, Wire};
-use pb_base::{Body, Fail, Memory};
+use http_wire::{BodyStep, Head, HeadStep, Message, ReadFault, Refusal, Wire};
+use pb_base::{Fail, Memory};
 use pb_outside::Link;
 use std::alloc::Global;
 
@@ -46,7 +46,7 @@ fn next_head<L: Link>(alloc: Global, wire: &mut Wire, link: &mut L) -> Result<He
     match wire.next_head(link) {
         Ok(HeadStep::Head(head)) => Ok(head),
         Ok(HeadStep::End) => Err(SessionEnd::Done),
-        Ok(HeadStep::Bad(status)) => Err(refuse(alloc, link, status)),
+        Ok(HeadStep::Bad(refusal)) => Err(refuse(alloc, link, refusal)),
         Err(fail) => Err(end_unread(link, fail)),
     }
 }
@@ -93,30 +93,13 @@ fn end_unread<L: Link>(link: &mut L, fail: Fail<ReadFault>) -> SessionEnd
 }
 
 // Refuses what is no head. Nothing is read after it.
-fn refuse<L: Link>(alloc: Global, link: &mut L, status: u16) -> SessionEnd
-    ensures ends { EndsRefused status result (L.output link.old) (L.output link.new) }
+fn refuse<L: Link>(alloc: Global, link: &mut L, refusal: Refusal) -> SessionEnd
+    ensures ends { EndsRefused refusal result (L.output link.old) (L.output link.new) }
     ensures other_end { L.input link.new ≡ L.input link.old }
     ensures same_names { L.names link.new ≡ L.names link.old }
 {
-    match refusal(alloc, status) {
+    match bad_response(alloc, refusal) {
         Ok(response) => end_with(link, response.as_slice(), SessionEnd::Broken),
         Err(Memory) => end_with(link, memory_response(true, false), SessionEnd::Broken),
     }
-}
-
-fn refusal(alloc: Global, status: u16) -> Result<Body, Memory>
-    ensures { IfOk result (λ response. response ≡ bad_response status) }
-{
-    bad_response(alloc, known_status(status))
-}
-
-// One of the statuses that the wire has; any other would have the response of 400.
-fn known_status(status: u16) -> u16
-    ensures known { IsBad result }
-    ensures same { bad_response result ≡ bad_response status }
-{
-    if status == 413 || status == 431 || status == 501 {
-        return status;
-    }
-    400
 }

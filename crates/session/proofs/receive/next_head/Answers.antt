@@ -20,7 +20,7 @@ returns-in-Ok-Bad-clause-ended g c =
     let output = g.L.Ends.output c.args.link.now in
     let written = g.L.Ends.output c.refuse.new.link in
     subst (λ (i : SourceTold). EndsUnanswered c.refuse.result (seen c.args.wire.now input output) (told i written)) (sym c.refuse.ensures.other_end)
-    (at_refusal c.in-Ok-Bad.status c.refuse.result c.args.wire.now c.next_head.new.self input (g.L.Ends.input c.next_head.new.source)
+    (at_refusal c.in-Ok-Bad.refusal c.refuse.result c.args.wire.now c.next_head.new.self input (g.L.Ends.input c.next_head.new.source)
     output (g.L.Ends.output c.next_head.new.source) written (rw c.in-Ok-Bad.field-0-is at c.in-Ok-Bad.ensures.next)
     c.in-Ok-Bad.ensures.stays c.next_head.ensures.later c.next_head.ensures.other_end c.refuse.ensures.ends)
 
