@@ -16,8 +16,8 @@ ghost use Rattle.answering.specs.Headline.{OrderComes, PlacesOrder};
 /// event begins, it is accepted exactly where its supplemented codes break no constructibility rule, memory and store allowing,
 /// and the list that is printed is then its book's one complete list. Where the same order is kept under its number, it is told the
 /// list of its own book, and where another one is, the book of that; neither changes anything. Who is alone finds the desk at that
-/// event as it was when the call began. The holder must have seen valid tables, and have the two steps left that such a call may take. Each book of valid
-/// tables can be released, and so can one that a reply tells as a draft's. The call does nothing.
+/// event as it was when the call began. The holder must have seen valid tables, and have the two steps left that such a call may
+/// take. Each book of valid tables can be released, and so can one that a reply tells as a draft's. The call does nothing.
 pub fn headline_laws()
     ensures orders { (call : Call) (number : ℕ) (order : OrderWords) (h : Hand) (said : Reply) (new : Hand)
         → call.what ≡ What.Order number order → IsValid h.state.tables → 2 ≤ h.left

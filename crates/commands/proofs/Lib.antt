@@ -13,3 +13,4 @@ pub mod Runs
 pub mod Weaker
 pub mod OneReply
 mod WorkedHeadline
+mod PositionLaws

@@ -4,10 +4,10 @@ mod TouchLaws
 mod TouchedLaws
 mod NotedLaws
 mod FitLaws
-mod GoalLaws
+pub mod GoalLaws
 mod SizeLaws
 mod CodingLaws
 mod GroupLaws
 mod SourceLaws
-mod ReportLaws
+pub mod ReportLaws
 mod OccursLaws
