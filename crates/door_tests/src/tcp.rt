@@ -6,21 +6,22 @@ use pb_outside::{OutError, Sink, Source};
 use std::alloc::Global;
 use std::io::{Read, Write};
 use std::net::{Net, Shutdown, SocketAddr, TcpListener, TcpStream};
+use std::sync::atomic::{AtomicU64, Ordering};
 use std::test::Fail;
-use std::time::Clock;
+use std::time::{Clock, Duration};
 use std::{io, thread};
-use tcp_door::{TcpDoor, TcpLink, TcpPort};
+use tcp_door::{SystemWatch, TcpDoor, TcpLink, TcpPort, Watch};
 
 // How many pieces a long request has: 2 MiB in all.
 const PIECES: u32 = 256;
 
 // The port of a door for one worker, which listens at this port of the machine.
-fn only_port<'a, R: Net<Listener = TcpListener, Stream = TcpStream> + Clock + Sync>(
+fn only_port<'a, R: Net<Listener = TcpListener, Stream = TcpStream> + Sync, W: Watch + Sync>(
     alloc: Global,
-    door: &mut TcpDoor<'a, R>,
+    door: &mut TcpDoor<'a, R, W>,
     number: u16,
     links: u32,
-) -> Result<TcpPort<&'a R>, OutError>
+) -> Result<TcpPort<&'a W>, OutError>
     ensures { IfOk result (λ port. port.out ≡ false) }
 {
     let mut ports = door.listen(alloc, number, 1, links)?;
@@ -44,7 +45,8 @@ fn read_all<C: Clock + Drop>(alloc: Global, link: &mut TcpLink<C>) -> Result<Vec
 #[test]
 fn links_come_and_go(rt: HostRuntime) -> Result<(), Fail> {
     let alloc = rt.alloc();
-    let mut door = TcpDoor::new(alloc, &rt);
+    let watch = SystemWatch::new(&rt, None, 0);
+    let mut door = TcpDoor::new(alloc, &rt, &watch);
     let mut port = only_port(alloc, &mut door, 0, 2)?;
     let address = port.address()?;
     assert!(rt; address.ip().is_loopback());
@@ -76,7 +78,8 @@ fn links_come_and_go(rt: HostRuntime) -> Result<(), Fail> {
 #[test]
 fn a_door_listens_at_the_port_that_is_asked_for(rt: HostRuntime) -> Result<(), Fail> {
     let alloc = rt.alloc();
-    let mut door = TcpDoor::new(alloc, &rt);
+    let watch = SystemWatch::new(&rt, None, 0);
+    let mut door = TcpDoor::new(alloc, &rt, &watch);
     let number = only_port(alloc, &mut door, 0, 1)?.address()?.port();
     let port = only_port(alloc, &mut door, number, 1)?;
     assert_eq!(rt; port.address()?.port(), number);
@@ -100,9 +103,9 @@ fn send_all<R: Net<Listener = TcpListener, Stream = TcpStream>>(
 }
 
 // Refuses the next link when it has read a few bytes of it.
-fn refuse_early<C: Clock + Copy + Drop + Send>(
+fn refuse_early<W: Watch + Copy + Drop + Send>(
     alloc: Global,
-    port: &mut TcpPort<C>,
+    port: &mut TcpPort<W>,
 ) -> Result<(), OutError>
     requires { port.old.out ≡ false }
 {
@@ -122,7 +125,8 @@ fn refuse_early<C: Clock + Copy + Drop + Send>(
 #[test]
 fn an_early_refusal_reaches_a_client_that_sends_on(rt: HostRuntime) -> Result<(), Fail> {
     let alloc = rt.alloc();
-    let mut door = TcpDoor::new(alloc, &rt);
+    let watch = SystemWatch::new(&rt, None, 0);
+    let mut door = TcpDoor::new(alloc, &rt, &watch);
     let mut port = only_port(alloc, &mut door, 0, 1)?;
     let address = port.address()?;
     let (rt, port) = (&rt, &mut port);
@@ -133,5 +137,73 @@ fn an_early_refusal_reaches_a_client_that_sends_on(rt: HostRuntime) -> Result<()
     );
     refused?;
     assert_eq!(rt; answer?.as_slice(), b"too large".as_slice());
+    Ok(())
+}
+
+// Is stopped once it was asked so often.
+#[derive(Drop)]
+struct StopsAt<'a, R: Clock> {
+    clock: &'a R,
+    asked: AtomicU64,
+    most: u64,
+}
+
+impl<R: Clock> Clock for StopsAt<'_, R> {
+    fn monotonic(&self) -> io::Result<Duration> {
+        self.clock.monotonic()
+    }
+
+    fn since_1970(&self) -> io::Result<Duration> {
+        self.clock.since_1970()
+    }
+}
+
+impl<R: Clock> Watch for StopsAt<'_, R> {
+    ghost use Rattle.std.specs.Prelude.{true};
+
+    ghost may_stop = { true };
+
+    fn is_stopped(&self) -> bool {
+        self.asked.fetch_add(1, Ordering::SeqCst) >= self.most
+    }
+
+    fn note_listening(&self, _: u16) {}
+
+    fn note_given(&self) {}
+
+    fn note_ended(&self, _: bool) {}
+
+    fn note_refused(&self) {}
+}
+
+#[test]
+fn a_port_that_waits_is_over_once_it_is_stopped(rt: HostRuntime) -> Result<(), Fail> {
+    let alloc = rt.alloc();
+    let watch = StopsAt {
+        clock: &rt,
+        asked: AtomicU64::new(0),
+        most: 3,
+    };
+    let mut door = TcpDoor::new(alloc, &rt, &watch);
+    let mut port = only_port(alloc, &mut door, 0, 9)?;
+    let client = TcpStream::connect(&rt, port.address()?)?;
+    client.shutdown(Shutdown::Write)?;
+    match port.next()? {
+        Some(link) => port.done(link),
+        None => panic!(rt; "a connection waits"),
+    }
+    // Nobody comes any more, and some are left to be given.
+    assert!(rt; port.next()?.is_none());
+    assert_eq!(rt; port.faults(), 0);
+    Ok(())
+}
+
+#[test]
+fn a_file_stops_a_door(rt: HostRuntime) -> Result<(), Fail> {
+    let alloc = rt.alloc();
+    let there = SystemWatch::new(&rt, Some(String::from_str(alloc, "/")?), 0);
+    assert!(rt; there.is_stopped());
+    let absent = SystemWatch::new(&rt, Some(String::from_str(alloc, "/no such file")?), 0);
+    assert!(rt; !absent.is_stopped());
     Ok(())
 }

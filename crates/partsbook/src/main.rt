@@ -2,30 +2,41 @@
 #![tactic(auto)]
 
 mod store;
+mod watching;
 
-ghost use Rattle.std.specs.Prelude.{◌≡◌, ℕ, List, IfOk};
+ghost use Rattle.std.specs.Prelude.{◌≡◌};
 ghost use Rattle.std.specs.Process.{exit_status};
 ghost use Rattle.book_commands.specs.Numbers.{status_number};
-ghost use Rattle.command_words.specs.Prepared.{texts_of};
-ghost use Rattle.commands.specs.Words.{NamesStore};
 
 use crate::store::{FileStore, Store};
+use crate::watching::watch_of;
 use answering::NoGate;
-use commands::{Channels, RunEnd, RunLog, RunStatus, World, run_given};
-use keeper::Keeper;
+use commands::{Begun, Channels, RunEnd, RunLog, RunStatus, World, begin_given, run_service};
 use pb_outside::{StreamSink, StreamSource, SystemFiles};
-use std::alloc::Global;
-use std::net::{Net, TcpListener, TcpStream};
 use std::process::ExitCode;
-use std::rt::Runtime;
-use std::sync::Wait;
-use std::thread::Threads;
 use std::{env, io};
 use tcp_door::TcpDoor;
 
 fn main(rt: HostRuntime) -> ExitCode {
+    let alloc = rt.alloc();
     let words = given_words(&rt);
-    closed(rt, run_with(&rt, rt.alloc(), words, Store::Unopened(rt)))
+    let watch = watch_of(&rt, alloc, &words);
+    let channels = Channels {
+        source: StreamSource::new(rt.reader()),
+        sink: StreamSink::new(io::writer(&rt)),
+        files: SystemFiles::new(&rt),
+        door: TcpDoor::new(alloc, &rt, &watch),
+        log: RunLog::new(alloc),
+    };
+    let world = World {
+        keeper: Store::Unopened(rt),
+        channels,
+    };
+    let RunEnd { status, world } = match begin_given(&rt, alloc, words, world, &NoGate) {
+        Begun::Ended(end) => end,
+        Begun::Awaited(service, left) => run_service(&rt, alloc, &service, left, &NoGate),
+    };
+    closed(rt, status, world.keeper)
 }
 
 // The status, as the system takes it.
@@ -44,10 +55,9 @@ fn given_words(rt: &HostRuntime) -> io::Result<Vec<String>> {
 
 // The status of a run, whose store is closed. What a store that can't be closed has in its log is there for the next run, so
 // the status stays what it is, and standard error says what is left.
-fn closed(rt: HostRuntime, ended: (RunStatus, FileStore)) -> ExitCode
-    ensures { exit_status result ≡ status_number ended.0 }
+fn closed(rt: HostRuntime, status: RunStatus, store: FileStore) -> ExitCode
+    ensures { exit_status result ≡ status_number status }
 {
-    let (status, store) = ended;
     if !close(store) {
         let _told = rt.eprintln(
             "the store's log stays beside it: keep both, the next run takes both",
@@ -63,24 +73,4 @@ fn close(store: FileStore) -> bool {
         Store::Journal(_keeper) => true,
         Store::Unopened(_rt) => true,
     }
-}
-
-// Runs between the streams and over the files and the ports of the system, and gives the status and the keeper.
-fn run_with<
-    R: Runtime + Net<Listener = TcpListener, Stream = TcpStream> + Threads + Wait + Sync,
-    P: Keeper + Send,
->(rt: &R, alloc: Global, words: io::Result<Vec<String>>, keeper: P) -> (RunStatus, P)
-    requires { IfOk words (λ words. (store : List ℕ) → NamesStore (texts_of words.items) store
-        → P.may_begin keeper store) }
-{
-    let channels = Channels {
-        source: StreamSource::new(rt.reader()),
-        sink: StreamSink::new(io::writer(rt)),
-        files: SystemFiles::new(rt),
-        door: TcpDoor::new(alloc, rt),
-        log: RunLog::new(alloc),
-    };
-    let world = World { keeper, channels };
-    let RunEnd { status, world } = run_given(rt, alloc, words, world, &NoGate);
-    (status, world.keeper)
 }

@@ -52,7 +52,6 @@ goes_on end h mid link link' p log log' some_left dealt keeps = λ last_end last
       kept = k.kept;
       logged = k.logged;
       notes = k.notes;
-      left = (let l = w.left in omega arith);
       share = (let s = w.share in omega (arith, length-append p.given (link ∷ [])));
       number = w.number;
       none_out = w.none_out;
@@ -74,7 +73,6 @@ stops end h p over faults log none_out never_falls cause = record {
   kept = [];
   logged = sym (append-nil log);
   notes = refl;
-  left = omega arith;
   share = refl;
   number = refl;
   none_out = none_out;

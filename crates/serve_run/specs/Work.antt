@@ -60,7 +60,6 @@ pub record Works (end : WorkEnd) (h : Hand) (before after : PortTold) (log log' 
   pub kept : List SessionEnd
   pub logged : log' ≡ log ++ kept
   pub notes : Notes ends kept
-  pub left : after.left + length given ≡ before.left
   pub share : links_of after ≡ links_of before
   pub number : after.number ≡ before.number
   pub none_out : after.out ≡ false

@@ -1,5 +1,7 @@
 //! Connections over TCP.
-ghost use Rattle.std.specs.Prelude.{◌≡◌, []};
+ghost use Rattle.std.specs.Prelude.{◌≡◌, ◌≤◌, [], true, IfOk, OnOk, OnErr};
+ghost use Rattle.pb_outside.specs.Faults.{Rose};
+ghost use Rattle.pb_outside.specs.Source.{Appends, ReadsPiece};
 ghost use Rattle.pb_door.specs.LinkTold.{IsUnwritten, link_told};
 ghost use Rattle.tcp_door.specs.Untold.{untold};
 
@@ -66,23 +68,48 @@ impl<C: Clock + Drop> Ends for TcpLink<C> {
 impl<C: Clock + Drop> Source for TcpLink<C> {
     fn read(&mut self, into: &mut Vec<u8>, max: usize) -> Result<usize, OutError> {
         self.progress = before_read(&self.clock, self.progress);
-        if is_late(&self.clock, self.progress) {
-            return self.read_faults.fail();
+        let late = is_late(&self.clock, self.progress);
+        let mut source = StreamSource::new(&self.stream);
+        let count = read_in_time(late, &mut source, &mut self.read_faults, into, max)?;
+        if matches!(self.progress, Progress::Awaited) {
+            self.progress = Progress::Begun;
         }
-        match StreamSource::new(&self.stream).read(into, max) {
-            Err(OutError::Failed) => self.read_faults.fail(),
-            Err(OutError::Memory) => Err(OutError::Memory),
-            Ok(count) => {
-                if matches!(self.progress, Progress::Awaited) {
-                    self.progress = Progress::Begun;
-                }
-                Ok(count)
-            }
-        }
+        Ok(count)
     }
 
     fn read_faults(&self) -> u64 {
         self.read_faults.faults()
+    }
+}
+
+// Reads from a source, unless it is too late. Both a fault of the source and being late are faults of the connection, and
+// never the end of what comes.
+fn read_in_time<S: Source>(
+    late: bool,
+    source: &mut S,
+    faults: &mut FaultCount,
+    into: &mut Vec<u8>,
+    max: usize,
+) -> Result<usize, OutError>
+    requires { 1 ≤ max }
+    ensures late { late ≡ true → result ≡ Err OutError.Failed }
+    ensures at_most { IfOk result (λ count. count ≤ max) }
+    ensures appends { IfOk result (λ count. Appends count into.old.items into.new.items) }
+    ensures told { let left = (S.input source.old).left in
+        let left' = (S.input source.new).left in
+        IfOk result (λ count. ReadsPiece count left left' into.old.items into.new.items) }
+    ensures stays { OnOk result (faults.new ≡ faults.old) }
+    ensures unchanged { OnErr result (into.new.items ≡ into.old.items) }
+    ensures rose { result ≡ Err OutError.Failed → Rose faults.old faults.new }
+    ensures never_falls { faults.old ≤ faults.new }
+{
+    if late {
+        return faults.fail();
+    }
+    match source.read(into, max) {
+        Err(OutError::Failed) => faults.fail(),
+        Err(OutError::Memory) => Err(OutError::Memory),
+        Ok(count) => Ok(count),
     }
 }
 

@@ -4,32 +4,34 @@ ghost use Rattle.pb_door.specs.PortTold.{gives, new_port};
 ghost use Rattle.pb_door.specs.DoorTold.{has_failed};
 ghost use Rattle.tcp_door.specs.Untold.{untold};
 
+use crate::accepting::accept;
 use crate::link::TcpLink;
+use crate::watch::Watch;
 use pb_door::DoorPort;
-use pb_outside::{FaultCount, OutError};
+use pb_outside::{FaultCount, OutError, Sink, Source};
 use std::alloc::Global;
 use std::io;
 use std::marker::Model;
 use std::net::{SocketAddr, TcpListener, TcpStream};
 use std::snapshot::Snapshot;
-use std::time::Clock;
 
 /// One of the ports of a TCP door. Each accepts connections from the listener that all of them share, so a connection
-/// comes to whichever port asks first. Each error of the listener is a fault. The clock is that of its connections.
+/// comes to whichever port asks first. It has no more once its watch is stopped. Want of descriptors or of memory in the
+/// system passes: it tries again then. Each other error of the listener is a fault.
 #[derive(Drop)]
-pub struct TcpPort<C: Clock + Copy + Drop> {
+pub struct TcpPort<W: Watch + Copy + Drop> {
     listener: TcpListener,
-    clock: C,
+    watch: W,
     number: u32,
     left: u64,
-    given: Vec<Snapshot<TcpLink<C>>>,
-    ended: Vec<Snapshot<TcpLink<C>>>,
+    given: Vec<Snapshot<TcpLink<W>>>,
+    ended: Vec<Snapshot<TcpLink<W>>>,
     out: bool,
     over: bool,
     faults: FaultCount,
 }
 
-impl<C: Clock + Copy + Drop> Model for TcpPort<C> {
+impl<W: Watch + Copy + Drop> Model for TcpPort<W> {
     ghost use Rattle.std.specs.Prelude.{◌≡◌, ◌<◌, true, map, vec_len, vec_capacity};
     ghost use Rattle.pb_door.specs.PortTold.{PortTold};
     ghost use Rattle.tcp_door.specs.Untold.{untold};
@@ -49,20 +51,20 @@ impl<C: Clock + Copy + Drop> Model for TcpPort<C> {
     ghost invariant = { λ p. p.out ≡ true → vec_len p.ended < vec_capacity p.ended };
 }
 
-impl<C: Clock + Copy + Drop> TcpPort<C> {
+impl<W: Watch + Copy + Drop> TcpPort<W> {
     /// The port of this number, which gives so many connections of the listener at most.
     pub(crate) fn new(
         alloc: Global,
         listener: TcpListener,
-        clock: C,
+        watch: W,
         number: u32,
         left: u64,
-    ) -> TcpPort<C>
+    ) -> TcpPort<W>
         ensures { result ≡ new_port number left }
     {
         TcpPort {
             listener,
-            clock,
+            watch,
             number,
             left,
             given: Vec::new(alloc),
@@ -86,42 +88,49 @@ impl<C: Clock + Copy + Drop> TcpPort<C> {
     }
 }
 
-impl<C: Clock + Copy + Drop + Send> DoorPort for TcpPort<C> {
-    type L = TcpLink<C>;
+impl<W: Watch + Copy + Drop + Send> DoorPort for TcpPort<W> {
+    type L = TcpLink<W>;
 
     ghost told = { λ p. p };
 
     ghost faultless = { λ _. false };
 
-    // A listener always has another.
-    ghost exhausted = { λ _. ⊥ };
+    // Unless its watch may stop it, a listener always has another.
+    ghost exhausted = { λ _. W.may_stop ≡ true };
 
-    fn next(&mut self) -> Result<Option<TcpLink<C>>, OutError> {
+    fn next(&mut self) -> Result<Option<TcpLink<W>>, OutError> {
         if self.left == 0 {
             self.over = true;
             return Ok(None);
         }
         self.ended.reserve(1)?;
         self.given.reserve(1)?;
-        match self.listener.accept() {
-            Ok((stream, _)) => {
-                let link = TcpLink::new(stream, self.clock);
+        match accept(&self.listener, &self.watch) {
+            Ok(Some(stream)) => {
+                let link = TcpLink::new(stream, self.watch);
                 if self.given.push(Snapshot::of(&link)).is_err() {
                     unreachable!();
                 }
+                self.watch.note_given();
                 self.left -= 1;
                 self.out = true;
                 Ok(Some(link))
+            }
+            Ok(None) => {
+                self.over = true;
+                Ok(None)
             }
             Err(_) => self.faults.fail(),
         }
     }
 
-    fn done(&mut self, link: TcpLink<C>) {
+    fn done(&mut self, link: TcpLink<W>) {
         if self.ended.push(Snapshot::of(&link)).is_err() {
             unreachable!();
         }
         self.out = false;
+        self.watch
+            .note_ended(link.read_faults() > 0 || link.write_faults() > 0);
         link.close();
     }
 
