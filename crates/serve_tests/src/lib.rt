@@ -1,4 +1,4 @@
-//! Tests of the run of many workers, of what no contract says: that the work outside the turn overlaps.
+//! Tests of the run of many workers, of what no contract says: that the work outside the turn overlaps, and that a client is answered over TCP.
 #![tactic(auto)]
 
 #[cfg(test)]
@@ -7,3 +7,5 @@ mod gates;
 mod messages;
 #[cfg(test)]
 mod runs;
+#[cfg(test)]
+mod tcp;

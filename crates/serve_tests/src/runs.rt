@@ -44,7 +44,7 @@ fn two_ports(alloc: Global, first: &[u8], second: &[u8]) -> Result<MemoryDoor, F
 }
 
 // The desk of an empty store.
-fn started<A: Abort>(rt: &A, alloc: Global) -> Desk<MemoryKeeper> {
+pub(crate) fn started<A: Abort>(rt: &A, alloc: Global) -> Desk<MemoryKeeper> {
     let rows = Rows {
         form: 0,
         drafts: Vec::new(alloc),
