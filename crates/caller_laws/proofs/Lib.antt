@@ -1,0 +1,5 @@
+pub mod OwnOrders
+pub mod OwnEffects
+pub mod OwnSteps
+pub mod OwnHistories
+pub mod WorkedCallers
