@@ -1,3 +1,4 @@
+pub mod ListLaws
 pub mod LineLaws
 pub mod DayLaws
 pub mod KeptLaws

@@ -3,4 +3,4 @@
 
 mod laws;
 
-pub use laws::{kept_law, ordered_law};
+pub use laws::{kept_law, listed_law, ordered_law};
