@@ -11,7 +11,7 @@ ghost use Rattle.left_cars.specs.Seen.{AllSeen, IsSeen};
 ghost use Rattle.left_cars.specs.declared.states.CodeState.TheVariants as state;
 
 use crate::asking::begin;
-use crate::hints::{Hints, clauses_of};
+use crate::hints::Hints;
 use crate::seen::{Seen, none_seen, see};
 use crate::states::{CodeState, Freedom};
 use book_model::Book;
@@ -133,7 +133,7 @@ fn states_from(
     ensures { IfOk result (λ states. HasStates book.now day chosen.now budget states.items) }
 {
     let mut seen = none_seen(alloc, book, day, chosen)?;
-    let mut hints = Hints::none(alloc, car.len());
+    let mut hints = Hints::none(alloc);
     see_one(book, day, chosen, &mut seen, &mut hints, car, found)?;
     let mut states = Vec::new(alloc);
     for place in 0..car.len() {
@@ -234,10 +234,8 @@ fn state_beside(
     ensures all { AllSeen (length book.now.codes) seen.new }
     ensures state { IfOk result (IsState book.now day chosen.now budget place) }
 {
-    hints.point(seen, solver, place)?;
-    let known = clauses_of(solver);
+    hints.point(solver);
     let outcome = ask_value(book, day, chosen, place, !value, budget, solver)?;
-    hints.weigh(solver, known, place);
     match outcome {
         Outcome::Shown(car) => {
             let noted = see_one(book, day, chosen, seen, hints, &car, found);
