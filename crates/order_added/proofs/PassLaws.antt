@@ -1,5 +1,5 @@
 -- What passes over the added codes come to.
-use Rattle.std.proofs.Common.{◌≡◌, ℕ, zero, suc, ◌+◌, ◌<◌, ◌≤◌, Bool, true, false, List, [], ◌∷◌, ◌++◌, length, refl, sym, ap, subst, ◌∙◌, inl, inr, arith}
+use Rattle.std.proofs.Common.{◌≡◌, ℕ, zero, suc, ◌+◌, ◌<◌, ◌≤◌, Bool, true, false, List, [], ◌∷◌, ◌++◌, length, take, drop, refl, sym, ap, subst, ◌∙◌, inl, inr, arith, length-append, length-take-le}
 use Rattle.std.specs.List.{remove}
 use Rattle.std.proofs.lemmas.Bool.{cases_eq}
 use Rattle.std.proofs.lemmas.List.Edits.{length-remove}
@@ -35,6 +35,26 @@ module _ {X : Type 0} where
 
   pub among_one : (xs ys zs : List X) (place : ℕ) → place < length ys → zs ≡ remove ys place → Among xs ys → Among xs zs
   among_one xs ys zs place within is h = subst (Among xs) (sym is) (among_without xs ys place within h)
+
+  among_drop : (xs : List X) (count : ℕ) → Among xs (drop count xs)
+  among_drop [] zero = refl
+  among_drop [] (suc count) = refl
+  among_drop (x ∷ xs) zero = among_self (x ∷ xs)
+  among_drop (x ∷ xs) (suc count) = inl (among_drop xs count)
+
+  -- without those from one place up to another
+  pub among_cut : (xs : List X) (at end : ℕ) → at ≤ end → Among xs (take at xs ++ drop end xs)
+  among_cut [] zero zero order = refl
+  among_cut [] zero (suc end) order = refl
+  among_cut [] (suc at) zero order = refl
+  among_cut [] (suc at) (suc end) order = refl
+  among_cut (x ∷ xs) zero end order = among_drop (x ∷ xs) end
+  among_cut (x ∷ xs) (suc at) zero order = absurd (omega (arith, order))
+  among_cut (x ∷ xs) (suc at) (suc end) order = inr (take at xs ++ drop end xs, refl, among_cut xs at end (omega (arith, order)))
+
+  pub cut_in_range : (xs : List X) (at end : ℕ) → at ≤ end → end ≤ length xs → at ≤ length (take at xs ++ drop end xs)
+  cut_in_range xs at end order within =
+      omega (arith, length-append (take at xs) (drop end xs), length-take-le at xs (omega (arith, order, within)))
 
 module _ (b : Contents) (day : ℕ) (ordered : List (List ℕ)) where
   -- nothing was tried yet
@@ -120,3 +140,18 @@ needing_more b day ordered others old new before more h accepted among passed = 
   among = among_among others old new h.among among;
   needed = needed_after b day ordered (length old) new more passed;
 }
+
+-- what is left while runs are taken out, of which the next ends at a place
+pub record Cutting (b : Contents) (day : ℕ) (ordered before added : List (List ℕ)) (end : ℕ) : Type 0 where
+  pub accepted : is_accepted b day (ordered ++ added) ≡ true
+  pub among : Among before added
+  pub in_range : end ≤ length added
+
+pub cutting_begun : (b : Contents) (day : ℕ) (ordered added : List (List ℕ)) (end : ℕ) → end ≤ length added → is_accepted b day (ordered ++ added) ≡ true
+    → Cutting b day ordered added added end
+cutting_begun b day ordered added end within accepted = record { accepted = accepted; among = among_self added; in_range = within }
+
+pub cutting_more : (b : Contents) (day : ℕ) (ordered before old new : List (List ℕ)) (end at : ℕ) → Cutting b day ordered before old end
+    → is_accepted b day (ordered ++ new) ≡ true → Among old new → at ≤ length new → Cutting b day ordered before new at
+cutting_more b day ordered before old new end at h accepted among within =
+    record { accepted = accepted; among = among_among before old new h.among among; in_range = within }

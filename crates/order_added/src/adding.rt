@@ -1,13 +1,15 @@
 //! Codes that an order needs to be accepted.
 //!
-//! Acceptance isn't monotone: an order may be accepted, refused with one code more, and accepted with two. So codes are taken out in
-//! passes until one pass takes none out; the last pass then tried each code that is left, with all the others there.
+//! Acceptance isn't monotone: an order may be accepted, refused with one code more, and accepted with two. So codes are taken out,
+//! first whole runs of them and then one by one, in passes until one pass takes none out; the last pass then tried each code that
+//! is left, with all the others there.
 ghost use Rattle.std.specs.Prelude.{◌≡◌, ◌++◌, ◌<◌, [], true, IfOk, OnOk, length};
 ghost use Rattle.std.specs.List.{remove};
 ghost use Rattle.order_added.specs.Accepted.{is_accepted};
 ghost use Rattle.order_added.specs.Added.{IsAdded, IsPassed, IsStep, Among};
 
 use crate::accepting::is_accepted;
+use crate::runs::take_runs_out;
 use book_model::Book;
 use pb_base::{CodeName, Day, Memory};
 use std::alloc::Global;
@@ -32,11 +34,32 @@ pub fn add(
     if accepted {
         return Ok(Vec::new(alloc));
     }
-    let added = needed_of(alloc, book, day, &completer, ordered, others)?;
+    let added = few_of(alloc, book, day, &completer, ordered, others)?;
     Ok(added)
 }
 
 // The same where the order itself isn't looked at.
+#[tactic(auto, using(crate::proofs::PassLaws::among_among))]
+fn few_of(
+    alloc: Global,
+    book: &Book,
+    day: Day,
+    completer: &Completer,
+    ordered: &[CodeName],
+    others: Vec<CodeName>,
+) -> Result<Vec<CodeName>, Memory>
+    requires completer { completer.now ≡ record { book = book.now; day = day } }
+    requires accepted { is_accepted book.now day (ordered.now ++ others.items) ≡ true }
+    ensures added { IfOk result (λ added. IsAdded book.now day ordered.now added.items) }
+    ensures among { IfOk result (λ added. Among others.items added.items) }
+{
+    let mut some = others;
+    take_runs_out(alloc, book, day, completer, ordered, &mut some)?;
+    let added = needed_of(alloc, book, day, completer, ordered, some)?;
+    Ok(added)
+}
+
+// The same code by code.
 fn needed_of(
     alloc: Global,
     book: &Book,

@@ -3,5 +3,6 @@
 
 mod accepting;
 mod adding;
+mod runs;
 
 pub use adding::add;
