@@ -15,6 +15,7 @@ all      forty silent clients at once, and none of them goes: each holds a worke
 long     one who sends his request a byte a second, for longer than a message may take: his connection is ended.
 many     200 connections at once, each with an order; and 100 that are open at once, which speak one after the other.
 large    one who has a large book checked and released.
+descriptors  a service that may have too few open files for its workers: who can't be taken waits, and the service doesn't end.
 deep     bodies with lists deep in one another, since a worker has a stack of its own.
 
 It isn't part of the gate. It needs the built program and python3, and ends by itself. The status is 1 where something doesn't
@@ -393,6 +394,33 @@ def try_large(program, given):
     return over(program, trial)
 
 
+def try_descriptors(program, given):
+    with tempfile.TemporaryDirectory(dir=work_place()) as folder:
+        store = os.path.join(folder, "desk.db")
+        with Service(program, store, WORKERS, WORKERS) as service:
+            service.wait()
+            most = len(os.listdir(f"/proc/{service.process.pid}/fd")) + 2
+        settings = {**os.environ, "PARTSBOOK_COUNTS": "1"}
+        with Service(program, store, WORKERS, WORKERS, settings=settings, under=["prlimit", f"--nofile={most}"]) as service:
+            silent = [service.connect() for _ in range(2)]
+            time.sleep(2)
+            with service.connect() as link:
+                link.settimeout(3)
+                link.sendall(request("GET", "/", "BOB", b"", "Connection: close\r\n"))
+                try:
+                    raise Gone("nobody can be taken", link.recv(1))
+                except TimeoutError:
+                    link.settimeout(PATIENCE)
+                for other in silent:
+                    other.close()
+                must("who waited is answered", hear(link).endswith(b"no such path\n"))
+            status, out, said = service.use_up()
+    must("it ends as behind its last link", (status, out) == (0, "drafts 0 books 0 orders 0\n"), status, out, said)
+    refused = max((int(line.split()[-1]) for line in said.splitlines() if line.startswith("links ")), default=0)
+    must("it says that it couldn't take a link", refused > 0, said)
+    return f"with {most} descriptors two silent clients kept a third waiting, who was taken when they had gone: {refused} tries in vain"
+
+
 def try_deep(program, given):
     def trial(hall):
         deep = b'{"book":1,"day":1,"codes":["M1"],"more":%s%s}'
@@ -417,7 +445,7 @@ def try_deep(program, given):
 def main():
     subjects = {
         "slow": try_slow, "unread": try_unread, "silent": try_silent, "gone": try_gone, "closing": try_closing, "all": try_all, "long": try_long,
-        "many": try_many, "large": try_large, "deep": try_deep,
+        "many": try_many, "large": try_large, "descriptors": try_descriptors, "deep": try_deep,
     }
     reader = argparse.ArgumentParser(usage="tests/hostile-serve.py [PROGRAM [SUBJECT..]]")
     reader.add_argument("program", nargs="?", default=PROGRAM)

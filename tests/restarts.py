@@ -7,7 +7,7 @@ callers go on through the proxy.
 PROGRAM is crates/partsbook/out/partsbook without the word, and KIND one of `db` and `journal`, both without a word.
 
 This does what the unit has systemd do: the words of its ExecStart, with a port of its own. The service ends in turn by its last
-link and by a kill, and is started again at once. Six dealers place orders meanwhile, two read books and kept orders, two engineers
+link, by a kill and by its stop file, and is started again at once. Six dealers place orders meanwhile, two read books and kept orders, two engineers
 check a draft, and one asks /up. Counted is what they get: each order has to be accepted and to be in the store once, each read to
 be whole, and nobody may get a 5xx but an engineer whose check was on its way, and who asks /up.
 
@@ -19,6 +19,7 @@ import collections
 import contextlib
 import http.client
 import os
+import pathlib
 import random
 import shlex
 import socket
@@ -35,7 +36,7 @@ from service import ACCEPTED, PATIENCE, Service, free_port, kept_orders, must, t
 SERVICE = os.path.join(TOP, "examples", "service")
 SECRETS = {"KIEL1": "another-secret", "ANNA": "a-secret"}
 DEALERS, READERS, ENGINEERS = 6, 2, 2
-WAYS = "last link", "kill"
+WAYS = "last link", "kill", "stop file"
 # The links of a run that is to end by its last one.
 FEW_LINKS = 150
 
@@ -84,7 +85,11 @@ class Unit:
         self.port = free_port()
         self.ends, self.gaps, self.ended_at = collections.Counter(), [], None
 
+    def stop_file(self):
+        return pathlib.Path(self.folder, self.store + ".stop")
+
     def start(self, links):
+        self.stop_file().unlink(missing_ok=True)
         service = Service(self.program, os.path.join(self.folder, self.store), self.workers, links, self.port)
         service.wait()
         if self.ended_at:
@@ -103,6 +108,8 @@ class Unit:
                     raise raised[0]
                 if way == "kill":
                     service.kill()
+                if way == "stop file":
+                    self.stop_file().touch()
                 end = None if way == "kill" else service.ended()
                 self.ended_at = time.time()
                 self.ends[way] += 1
