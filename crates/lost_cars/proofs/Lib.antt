@@ -4,4 +4,4 @@ mod AskLaws
 mod SameLaws
 pub mod NotedLaws
 pub mod KeepLaws
-mod CommonLaws
+mod CommonCarLaws

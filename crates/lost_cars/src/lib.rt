@@ -3,7 +3,7 @@
 
 mod asks;
 mod by_name;
-mod common;
+mod common_cars;
 mod losses;
 mod note;
 mod question;
@@ -11,6 +11,6 @@ mod questions;
 mod same;
 mod violation;
 
-pub use common::common_car;
+pub use common_cars::common_car;
 pub use losses::lost_cars;
 pub use note::{Cause, LossNote};

@@ -104,7 +104,7 @@ fn answer_to(
 }
 
 // The one answer.
-#[tactic(auto, using(crate::proofs::CommonLaws::only_one))]
+#[tactic(auto, using(crate::proofs::CommonCarLaws::only_one))]
 fn only(mut answers: Vec<RuleAnswer>) -> RuleAnswer
     requires { length answers.items ≡ 1 }
     ensures { result ≡ slice_index_or answers.items 0 NotMet }

@@ -3,8 +3,8 @@ use Rattle.std.specs.List.{AllZip}
 use Rattle.std.proofs.lemmas.List.Elements.{All-from_recursion}
 use Rattle.pb_base.specs.Rule.{Rule}
 use Rattle.rules_met.specs.Met.{IsAnswer, RuleIsSmall}
-use Rattle.lost_cars.proofs.CommonLaws.{one_answer, one_count}
-use Rattle.lost_cars.proofs.common.answer_to.Goals as goal
+use Rattle.lost_cars.proofs.CommonCarLaws.{one_answer, one_count}
+use Rattle.lost_cars.proofs.common_cars.answer_to.Goals as goal
 
 pub ask_rules-requires-clause-small : goal.ask_rules-requires-clause-small
 ask_rules-requires-clause-small c =

@@ -5,8 +5,8 @@ use Rattle.std.proofs.lemmas.List.{map-append}
 use Rattle.pb_base.specs.Rule.{Rule, either, negation, never}
 use Rattle.lost_cars.specs.CommonCar.{any_rule}
 use Rattle.lost_cars.specs.declared.asks.Ask.{Ask}
-use Rattle.lost_cars.proofs.CommonLaws.{any_more}
-use Rattle.lost_cars.proofs.common.none_of.Goals as goal
+use Rattle.lost_cars.proofs.CommonCarLaws.{any_more}
+use Rattle.lost_cars.proofs.common_cars.none_of.Goals as goal
 
 pub loop-ask-preserved : goal.loop-ask-preserved
 loop-ask-preserved c =

@@ -5,9 +5,9 @@ use Rattle.lost_cars.specs.Losses.{QuestionFits, questions}
 use Rattle.lost_cars.specs.declared.asks.Ask.{Ask}
 use Rattle.lost_cars.specs.declared.question.Question.{Question}
 use Rattle.lost_cars.proofs.AskLaws.{questions_fit}
-use Rattle.lost_cars.proofs.CommonLaws.{rule_fits, rule_tells}
+use Rattle.lost_cars.proofs.CommonCarLaws.{rule_fits, rule_tells}
 use Rattle.lost_cars.proofs.NotedLaws.{put_fit}
-use Rattle.lost_cars.proofs.common.common_rule.Goals as goal
+use Rattle.lost_cars.proofs.common_cars.common_rule.Goals as goal
 
 pub asks-requires : goal.asks-requires
 asks-requires c =

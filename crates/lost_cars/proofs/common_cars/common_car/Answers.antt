@@ -1,8 +1,8 @@
 use Rattle.std.proofs.Common.{subst}
 use Rattle.std.specs.List.{IsDistinct}
 use Rattle.pb_base.specs.Names.{same_name}
-use Rattle.lost_cars.proofs.CommonLaws.{common_answered}
-use Rattle.lost_cars.proofs.common.common_car.Goals as goal
+use Rattle.lost_cars.proofs.CommonCarLaws.{common_answered}
+use Rattle.lost_cars.proofs.common_cars.common_car.Goals as goal
 
 pub returns-clause-answer : goal.returns-clause-answer
 returns-clause-answer c =
