@@ -1,1 +1,2 @@
+mod Guards
 mod WorkedRows

@@ -1,7 +1,10 @@
 -- What the acceptance of an order hangs on: its day, its codes' names, and the constructibility rules.
-use Rattle.std.proofs.Common.{◌≡◌, ℕ, Bool, true, false, List, [], Option, Some, None, refl, ap, ◌∙◌}
-use Rattle.std.specs.Prelude.{Ok, Err, is_none, if◌then◌else◌}
+use Rattle.std.proofs.Common.{◌≡◌, ℕ, Bool, true, false, List, [], Option, Some, None, length, refl, sym, ap, ◌∙◌}
+use Rattle.std.specs.Prelude.{Ok, Err, is_none, is_some, not, if◌then◌else◌}
+use Rattle.std.specs.List.{list_any}
 use Rattle.std.specs.Option.{option_map}
+use Rattle.std.proofs.lemmas.List.{length-map}
+use Rattle.pb_base.specs.Names.{same_name}
 use Rattle.pb_base.specs.NamedSet.{first_fault, named, set_of_names}
 use Rattle.pb_base.specs.Results.{unless}
 use Rattle.pb_base.specs.declared.named_set.NameFault.{NameFault}
@@ -20,6 +23,18 @@ use Rattle.parts_usage.specs.declared.unfit.Unfit.{Unfit}
 use Rattle.parts_usage.specs.declared.judgement.Outcome.TheVariants.{Accepted}
 use Rattle.release.specs.Accepting.{accepts, is_accepted}
 use Rattle.release.proofs.NeverUnfit.{completed, fits_when_unbroken, ok_behind}
+
+-- what a call of `is_none` tells
+pub is_none_told : (o : Option ℕ) (b : Bool) → is_some o ≡ not b → b ≡ is_none o
+is_none_told None true h = refl
+is_none_told None false h = absurd (cc)
+is_none_told (Some place) true h = absurd (cc)
+is_none_told (Some place) false h = refl
+
+pub length-named : (codes names : List (List ℕ)) (ordered : List Bool) → set_of_names codes names ≡ Ok ordered → length ordered ≡ length codes
+length-named codes names ordered is =
+    ap length (sym (ok_behind (first_fault codes [] names) (named codes names) ordered is).1)
+    ∙ length-map codes (λ code. list_any (same_name code) names)
 
 module _ (b : Contents) (day : ℕ) (names : List (List ℕ)) where
   -- by whether the day is in the term, and by the first name at fault

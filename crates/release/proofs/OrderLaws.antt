@@ -1,18 +1,17 @@
 -- A well-formed order at a released book is accepted exactly where it can be built, and then has one complete parts list.
-use Rattle.std.proofs.Common.{◌≡◌, ℕ, zero, suc, ◌+◌, ◌<◌, ◌≤◌, ◌==◌, Bool, true, false, cond, not, ◌||◌, ◌&&◌, List, [], ◌∷◌, ◌++◌, length, Option, Some, None, Ok, refl, sym, ap, subst, ◌∙◌, arith, append-nil}
-use Rattle.std.specs.Prelude.{is_none, filter, map, nat_le, slice_get, if◌then◌else◌}
+use Rattle.std.proofs.Common.{◌≡◌, ℕ, zero, suc, ◌+◌, ◌<◌, ◌≤◌, ◌==◌, Bool, true, false, cond, not, ◌||◌, List, [], ◌∷◌, ◌++◌, length, Option, Some, None, Ok, refl, sym, ap, subst, ◌∙◌, arith, append-nil}
+use Rattle.std.specs.Prelude.{nat_le, slice_get, if◌then◌else◌}
 use Rattle.std.specs.List.{list_any, position_from}
 use Rattle.std.specs.Option.{option_map}
 use Rattle.std.proofs.lemmas.Bool.{and_from, and_parts, eqb-true, eq-eqb, ne_eqb, false≢true, true≢false, leb-true, le-leb}
 use Rattle.pb_base.proofs.Faultless.{no_fault}
-use Rattle.pb_base.specs.NamedSet.{named}
 use Rattle.pb_base.specs.Results.{unless}
 use Rattle.book_model.specs.Activity.{is_within}
 use Rattle.book_model.specs.Book.{IsBook}
 use Rattle.book_model.specs.Contents.{Contents}
 use Rattle.book_model.specs.Good.{breaks, is_constructible, is_good}
 use Rattle.book_model.specs.Parts.{PartsLine, is_active_position, lines_at, parts, parts_from, selected, selected_of}
-use Rattle.book_model.specs.Sound.{IsReleasable, is_fit, are_fit_from, permits}
+use Rattle.book_model.specs.Sound.{is_fit, are_fit_from, permits}
 use Rattle.book_model.specs.declared.record.Position.{Position}
 use Rattle.book_text.proofs.BookLaw.{book_of-book}
 use Rattle.parts_usage.specs.Broken.{first_broken_of}

@@ -8,7 +8,7 @@ use Rattle.std.specs.declared.cmp.Reverse.{Reverse}
 use Rattle.std.proofs.lemmas.Map.Keys.{ge_from_not_lt}
 use Rattle.std.specs.List.Sorted.{IsPermutation}
 use Rattle.std.proofs.lemmas.List.Sorted.{All-permutation, Contains-permutation}
-use Rattle.std.proofs.lemmas.Bool.{cases_Bool, cases_eq, cases_order, eq-eqb, lt-ltb, ltb-true, le-ltb, eqb-true, eqb-false, and_parts, and_from, or_cases, or_parts, not_from_false, not-true, false≢true}
+use Rattle.std.proofs.lemmas.Bool.{cases_Bool, cases_eq, cases_order, eq-eqb, ne_eqb, lt-ltb, ltb-true, le-ltb, eqb-true, eqb-false, and_parts, and_from, or_cases, or_parts, not_from_false, not-true, false≢true}
 use Rattle.std.proofs.lemmas.List.Folds.{list_any-append}
 use Rattle.std.proofs.Math.Seq.{take-suc}
 use Rattle.std.proofs.Math.Bool.{or_assoc, or-false}
@@ -27,7 +27,7 @@ use Rattle.supplement.specs.declared.worklist.Candidate.{Candidate}
 use Rattle.supplement.specs.declared.occurrences.Entry.{Entry}
 use Rattle.supplement.specs.declared.occurrences.OccurrenceLists.{OccurrenceLists}
 use Rattle.supplement.specs.Occurrences.{occurs, is_code, Leads, here, later, Lists, AreLinked, Notes, ListsFirst}
-use Rattle.supplement.specs.Worklist.{AreCandidates, candidate_of, ComesBefore}
+use Rattle.supplement.specs.Worklist.{AreCandidates, AreTryable, IsTryable, candidate_of, ComesBefore}
 
 -- ---- lists
 pub slice_get-push : {X : Type 0} (xs ys : List X) (k : ℕ) (e : X) → slice_get xs k ≡ Some e → slice_get (xs ++ ys) k ≡ Some e
@@ -70,6 +70,10 @@ leads_at es rule k e at there is (later j f is_j there_j rest) =
 pub leads_on : (es : List Entry) (rule k : ℕ) (e : Entry) → slice_get es k ≡ Some e → Leads es rule (Some k) → (e.rule ≡ rule) ⊎ Leads es rule e.next
 leads_on es rule k e there lead = leads_at es rule k e (Some k) there refl lead
 
+-- the entry at the place of a link, as it is read
+pub entry_read : (es : List Entry) (at : Option ℕ) (k : ℕ) (e : Entry) → at ≡ Some k → IfSome at (λ j. j < length es) → e ≡ get_or es k e → slice_get es k ≡ Some e
+entry_read es at k e is below read = slice_get_read es (length es) k e refl (subst (λ (o : Option ℕ). IfSome o (λ j. j < length es)) is below) read
+
 -- ---- what an added code can change
 pub holds-set : (f : Rule) (x : List Bool) (c : ℕ) → occurs c f ≡ false → holds f (set x c true) ≡ holds f x
 holds-set (code place) x c off = get_or-set_other x c place true false (eqb-false place c off)
@@ -94,7 +98,6 @@ absent_before x c k within absent =
 -- a rule that fires over the larger set adds another code, and fired before or has the added code in its formula
 pub record FiresAfter (day : ℕ) (x : List Bool) (c : ℕ) (s : Supplement) : Type 0 where
   pub other : s.code ≢ c
-  pub active : is_within s.from s.until day ≡ true
   pub was : (fires day x s ≡ true) ⊎ (occurs c s.rule ≡ true)
 
 pub fires_after : (day : ℕ) (x : List Bool) (c : ℕ) (s : Supplement) → c < length x → fires day (set x c true) s ≡ true → FiresAfter day x c s
@@ -105,7 +108,6 @@ fires_after day x c s within on =
     let absent = absent_before x c s.code within (not-true (has y s.code) first.1) in
     record {
       other = absent.0;
-      active = inner.0;
       was = elim (cases_Bool (occurs c s.rule)) [
         | inl there ↦ inr there
         | inr off ↦ inl (and_from (is_within s.from s.until day && holds s.rule x) (not (has x s.code))
@@ -232,44 +234,131 @@ Contains-front x xs = (zero, omega arith, refl)
 Contains-behind : {X : Type 0} (y x : X) (xs : List X) → Contains xs x → Contains (y ∷ xs) x
 Contains-behind y x xs among = (suc among.0, omega (arith, among.1), among.2)
 
--- the rules up to the place `at` are among the candidates
-pub record AddedUpTo (rules : List Supplement) (entries : List Entry) (head : Option ℕ) (old now : List Candidate) (at : Option ℕ) : Type 0 where
+-- the rules up to the place `at` that fire are among the candidates
+pub record AddedUpTo (rules : List Supplement) (day : ℕ) (x : List Bool) (entries : List Entry) (head : Option ℕ) (old now : List Candidate) (at : Option ℕ) : Type 0 where
   pub candidates : AreCandidates rules now
   pub keeps : (t : Candidate) → Contains old t → Contains now t
-  pub added : (p : ℕ) (s : Supplement) → Leads entries p head → slice_get rules p ≡ Some s → Contains now (candidate_of p s) ⊎ Leads entries p at
+  pub added : (p : ℕ) (s : Supplement) → Leads entries p head → slice_get rules p ≡ Some s → fires day x s ≡ true → Contains now (candidate_of p s) ⊎ Leads entries p at
   pub in_range : IfSome at (λ k. k < length entries)
 
-pub added_start : (rules : List Supplement) (entries : List Entry) (head : Option ℕ) (old : List Candidate) → AreCandidates rules old → IfSome head (λ k. k < length entries) → AddedUpTo rules entries head old old head
-added_start rules entries head old candidates below = record { candidates = candidates; keeps = λ t among. among; added = λ p s lead there. inr lead; in_range = below }
-
-pub added_more : (rules : List Supplement) (entries : List Entry) (head : Option ℕ) (old now new : List Candidate) (k : ℕ) (e : Entry) (s : Supplement)
+pub added_more : (rules : List Supplement) (day : ℕ) (x : List Bool) (entries : List Entry) (head : Option ℕ) (old now new : List Candidate) (k : ℕ) (e : Entry) (s : Supplement)
     → slice_get entries k ≡ Some e → IfSome e.next (λ j. j < k) → slice_get rules e.rule ≡ Some s → IsPermutation (candidate_of e.rule s ∷ now) new
-    → AddedUpTo rules entries head old now (Some k) → AddedUpTo rules entries head old new e.next
-added_more rules entries head old now new k e s there back of_rule moved so_far =
+    → AddedUpTo rules day x entries head old now (Some k) → AddedUpTo rules day x entries head old new e.next
+added_more rules day x entries head old now new k e s there back of_rule moved so_far =
     let t = candidate_of e.rule s in
     let goes : (u : Candidate) → Contains (t ∷ now) u → Contains new u = λ u among. Contains-permutation (t ∷ now) new u moved among in
     record {
       candidates = All-permutation (λ u. (r : Supplement) × (slice_get rules u.rule ≡ Some r) × (u.rank ≡ r.rank)) (t ∷ now) new moved
           (All-cons (λ u. (r : Supplement) × (slice_get rules u.rule ≡ Some r) × (u.rank ≡ r.rank)) t now (s, of_rule, refl) so_far.candidates);
       keeps = λ u among. goes u (Contains-behind t u now (so_far.keeps u among));
-      added = λ p r lead is_rule.
-          elim (so_far.added p r lead is_rule) [
+      added = λ p r lead is_rule on.
+          elim (so_far.added p r lead is_rule on) [
             | inl among ↦ inl (goes (candidate_of p r) (Contains-behind t (candidate_of p r) now among))
             | inr still ↦ elim (leads_on entries p k e there still) [
               | inl same ↦
                   let rule : s ≡ r = same_Some s r (sym of_rule ∙ ap (slice_get rules) same ∙ is_rule) in
                   let candidate : t ≡ candidate_of p r = ap (λ (q : Supplement). candidate_of e.rule q) rule ∙ ap (λ j. candidate_of j r) same in
                   inl (goes (candidate_of p r) (subst (λ (u : Candidate). Contains (t ∷ now) u) candidate (Contains-front t now)))
-              | inr on ↦ inr on
+              | inr rest ↦ inr rest
             ]
           ];
       in_range = IfSome-below e.next k (length entries) (omega (arith, slice_get_within entries k e there)) back;
     }
 
--- at the end of the links all were added
-pub added_all : (rules : List Supplement) (entries : List Entry) (head : Option ℕ) (old now : List Candidate) → AddedUpTo rules entries head old now None
-    → (p : ℕ) (s : Supplement) → Leads entries p head → slice_get rules p ≡ Some s → Contains now (candidate_of p s)
-added_all rules entries head old now w p s lead there = elim (w.added p s lead there) [ inl among ↦ among | inr none ↦ absurd (no_lead entries p none) ]
+-- a rule that does not fire is not needed
+pub added_same : (rules : List Supplement) (day : ℕ) (x : List Bool) (entries : List Entry) (head : Option ℕ) (old now : List Candidate) (k : ℕ) (e : Entry) (s : Supplement)
+    → slice_get entries k ≡ Some e → IfSome e.next (λ j. j < k) → slice_get rules e.rule ≡ Some s → fires day x s ≡ false
+    → AddedUpTo rules day x entries head old now (Some k) → AddedUpTo rules day x entries head old now e.next
+added_same rules day x entries head old now k e s there back of_rule off so_far = record {
+  candidates = so_far.candidates;
+  keeps = so_far.keeps;
+  added = λ p r lead is_rule on.
+      elim (so_far.added p r lead is_rule on) [
+        | inl among ↦ inl among
+        | inr still ↦ elim (leads_on entries p k e there still) [
+          | inl same ↦
+              let rule : s ≡ r = same_Some s r (sym of_rule ∙ ap (slice_get rules) same ∙ is_rule) in
+              absurd (false≢true (sym off ∙ ap (fires day x) rule ∙ on))
+          | inr rest ↦ inr rest
+        ]
+      ];
+  in_range = IfSome-below e.next k (length entries) (omega (arith, slice_get_within entries k e there)) back;
+}
+
+-- ---- marks
+pub has_within : (x : List Bool) (c : ℕ) → has x c ≡ true → c < length x
+has_within [] c on = absurd (false≢true on)
+has_within (b ∷ x) zero on = omega arith
+has_within (b ∷ x) (suc c) on = omega (arith, has_within x c on)
+
+-- a mark stays where another is set
+mark_stays : (marks : List Bool) (k p : ℕ) → has marks p ≡ true → has (set marks k true) p ≡ true
+mark_stays marks k p on =
+    elim (cases_eq p k) [
+      | inl same ↦ ap (λ j. has (set marks j true) p) (sym same) ∙ get_or-set_same marks p true false (has_within marks p on)
+      | inr other ↦ get_or-set_other marks k p true false other ∙ on
+    ]
+
+-- the rules from the head up to the place `at` are marked
+pub record MarkedUpTo (entries : List Entry) (head : Option ℕ) (old now : List Bool) (at : Option ℕ) : Type 0 where
+  pub same_rules : length now ≡ length old
+  pub keeps : (p : ℕ) → has old p ≡ true → has now p ≡ true
+  pub listed : (p : ℕ) → Leads entries p head → (has now p ≡ true) ⊎ Leads entries p at
+
+pub marked_more : (entries : List Entry) (head : Option ℕ) (old now : List Bool) (k : ℕ) (e : Entry) → slice_get entries k ≡ Some e → e.rule < length now
+    → MarkedUpTo entries head old now (Some k) → MarkedUpTo entries head old (set now e.rule true) e.next
+marked_more entries head old now k e there within up = record {
+  same_rules = length-set now e.rule true ∙ up.same_rules;
+  keeps = λ p on. mark_stays now e.rule p (up.keeps p on);
+  listed = λ p lead.
+      elim (up.listed p lead) [
+        | inl on ↦ inl (mark_stays now e.rule p on)
+        | inr still ↦ elim (leads_on entries p k e there still) [
+          | inl same ↦ inl (subst (λ j. has (set now e.rule true) j ≡ true) same (get_or-set_same now e.rule true false within))
+          | inr rest ↦ inr rest
+        ]
+      ];
+}
+
+-- what may be tried may be tried with further marks
+pub tryable_kept : (rules : List Supplement) (old now : List Bool) (ts : List Candidate) → ((p : ℕ) → has old p ≡ true → has now p ≡ true) → AreTryable rules old ts → AreTryable rules now ts
+tryable_kept rules old now ts keeps all =
+    All-weaker (IsTryable rules old) (IsTryable rules now) (λ t one. elim one [ inl on ↦ inl (keeps t.rule on) | inr stands ↦ inr stands ]) ts all
+
+pub tryable_marked : (rules : List Supplement) (now : List Bool) (k : ℕ) (ts : List Candidate) → AreTryable rules now ts → AreTryable rules (set now k true) ts
+tryable_marked rules now k ts all = tryable_kept rules now (set now k true) ts (λ p on. mark_stays now k p on) all
+
+-- a candidate of a rule that was marked just now
+pub tryable_pushed : (rules : List Supplement) (now : List Bool) (t : Candidate) (old new : List Candidate) → t.rule < length now → IsPermutation (t ∷ old) new → AreTryable rules now old
+    → AreTryable rules (set now t.rule true) new
+tryable_pushed rules now t old new within moved all =
+    All-permutation (IsTryable rules (set now t.rule true)) (t ∷ old) new moved
+    (All-cons (IsTryable rules (set now t.rule true)) t old (inl (get_or-set_same now t.rule true false within)) (tryable_marked rules now t.rule old all))
+
+-- the rules up to the place `at` are marked, and those of them that fire are among the candidates
+pub record IsAdding (rules : List Supplement) (day : ℕ) (x : List Bool) (entries : List Entry) (head : Option ℕ) (old now : List Candidate) (old_marks marks : List Bool) (at : Option ℕ) : Type 0 where
+  pub added : AddedUpTo rules day x entries head old now at
+  pub marked : MarkedUpTo entries head old_marks marks at
+  pub tryable : AreTryable rules marks now
+
+pub adding_more : (rules : List Supplement) (day : ℕ) (x : List Bool) (entries : List Entry) (head : Option ℕ) (old now new : List Candidate) (old_marks marks : List Bool) (k : ℕ) (e : Entry) (s : Supplement)
+    → slice_get entries k ≡ Some e → IfSome e.next (λ j. j < k) → slice_get rules e.rule ≡ Some s → e.rule < length marks → IsPermutation (candidate_of e.rule s ∷ now) new
+    → IsAdding rules day x entries head old now old_marks marks (Some k) → IsAdding rules day x entries head old new old_marks (set marks e.rule true) e.next
+adding_more rules day x entries head old now new old_marks marks k e s there back of_rule within moved so_far = record {
+  added = added_more rules day x entries head old now new k e s there back of_rule moved so_far.added;
+  marked = marked_more entries head old_marks marks k e there within so_far.marked;
+  tryable = tryable_pushed rules marks (candidate_of e.rule s) now new within moved so_far.tryable;
+}
+
+-- a rule that does not fire is only marked
+pub adding_same : (rules : List Supplement) (day : ℕ) (x : List Bool) (entries : List Entry) (head : Option ℕ) (old now : List Candidate) (old_marks marks : List Bool) (k : ℕ) (e : Entry) (s : Supplement)
+    → slice_get entries k ≡ Some e → IfSome e.next (λ j. j < k) → slice_get rules e.rule ≡ Some s → e.rule < length marks → fires day x s ≡ false
+    → IsAdding rules day x entries head old now old_marks marks (Some k) → IsAdding rules day x entries head old now old_marks (set marks e.rule true) e.next
+adding_same rules day x entries head old now old_marks marks k e s there back of_rule within off so_far = record {
+  added = added_same rules day x entries head old now k e s there back of_rule off so_far.added;
+  marked = marked_more entries head old_marks marks k e there within so_far.marked;
+  tryable = tryable_marked rules marks e.rule now so_far.tryable;
+}
 
 -- ---- building the lists
 pub linked_start : (codes n : ℕ) (lists : OccurrenceLists) → lists.heads.items ≡ replicate codes None → lists.entries.items ≡ [] → AreLinked codes n lists
@@ -280,24 +369,14 @@ linked_start codes n lists heads entries = record {
   rules_in_range = λ k e there. absurd (none-some e (sym (ap (λ es. slice_get es k) entries) ∙ there));
 }
 
-pub listed_more : (rules : List Supplement) (day place : ℕ) (s : Supplement) (old new : OccurrenceLists) → slice_get rules place ≡ Some s → Notes old new place (λ c. occurs c s.rule)
-    → ListsFirst old rules day place → ListsFirst new rules day (place + 1)
-listed_more rules day place s old new there noted so_far p r below is_rule active c on =
+pub listed_more : (rules : List Supplement) (place : ℕ) (s : Supplement) (old new : OccurrenceLists) → slice_get rules place ≡ Some s → Notes old new place (λ c. occurs c s.rule)
+    → ListsFirst old rules place → ListsFirst new rules (place + 1)
+listed_more rules place s old new there noted so_far p r below is_rule c on =
     elim (cases_eq p place) [
       | inl same ↦
           let rule : s ≡ r = same_Some s r (sym there ∙ ap (slice_get rules) (sym same) ∙ is_rule) in
           subst (λ q. Lists new c q) (sym same) (noted.noted c (subst (λ (q : Supplement). occurs c q.rule ≡ true) (sym rule) on))
-      | inr other ↦ noted.keeps c p (so_far p r (omega arith) is_rule active c on)
-    ]
-
-pub listed_inactive : (rules : List Supplement) (day place : ℕ) (s : Supplement) (lists : OccurrenceLists) → slice_get rules place ≡ Some s → is_within s.from s.until day ≡ false
-    → ListsFirst lists rules day place → ListsFirst lists rules day (place + 1)
-listed_inactive rules day place s lists there off so_far p r below is_rule active c on =
-    elim (cases_eq p place) [
-      | inl same ↦
-          let rule : s ≡ r = same_Some s r (sym there ∙ ap (slice_get rules) (sym same) ∙ is_rule) in
-          absurd (false≢true (sym off ∙ ap (λ (q : Supplement). is_within q.from q.until day) rule ∙ active))
-      | inr other ↦ so_far p r (omega arith) is_rule active c on
+      | inr other ↦ noted.keeps c p (so_far p r (omega arith) is_rule c on)
     ]
 
 pub links_fall : (next at : Option ℕ) (k : ℕ) → at ≡ Some k → IfSome next (λ j. j < k) → option_map_or (λ j. suc j) next 0 < option_map_or (λ j. suc j) at 0
@@ -311,7 +390,7 @@ nat_cmp-same a b same = ap (λ c. cond c Less (cond (eqb a b) Equal Greater)) (l
 nat_cmp-less : (a b : ℕ) → a < b → nat_cmp a b ≡ Less
 nat_cmp-less a b less = ap (λ c. cond c Less (cond (eqb a b) Equal Greater)) (lt-ltb a b less)
 
-comes_before : (t u : Candidate) → is_lt (ordering_then (nat_cmp u.rank t.rank) (nat_cmp u.rule t.rule)) ≡ false → ComesBefore t u
+pub comes_before : (t u : Candidate) → is_lt (ordering_then (nat_cmp u.rank t.rank) (nat_cmp u.rule t.rule)) ≡ false → ComesBefore t u
 comes_before t u not_less =
     elim (cases_order t.rank u.rank) [
       | inl same ↦
@@ -320,6 +399,29 @@ comes_before t u not_less =
       | inr apart ↦ elim apart [
         | inl lower ↦ inl lower
         | inr higher ↦ absurd (false≢true (sym not_less ∙ ap (λ o. is_lt (ordering_then o (nat_cmp u.rule t.rule))) (nat_cmp-less u.rank t.rank higher)))
+      ]
+    ]
+
+nat_cmp-greater : (a b : ℕ) → b < a → nat_cmp a b ≡ Greater
+nat_cmp-greater a b greater =
+    ap (λ c. cond c Less (cond (eqb a b) Equal Greater)) (le-ltb a b (omega (arith, greater))) ∙ ap (λ c. cond c Equal Greater) (ne_eqb a b (λ same. omega (arith, greater, same)))
+
+le_from_is_lt : (a b : ℕ) → is_lt (nat_cmp a b) ≡ true → a ≤ b
+le_from_is_lt a b on =
+    elim (cases_order a b) [
+      | inl same ↦ omega (arith, same)
+      | inr apart ↦ elim apart [ inl less ↦ omega (arith, less) | inr greater ↦ absurd (false≢true (sym (ap is_lt (nat_cmp-greater a b greater)) ∙ on)) ]
+    ]
+
+pub comes_strictly : (t u : Candidate) → is_lt (ordering_then (nat_cmp t.rank u.rank) (nat_cmp t.rule u.rule)) ≡ true → ComesBefore t u
+comes_strictly t u less =
+    elim (cases_order t.rank u.rank) [
+      | inl same ↦
+          let tie : nat_cmp t.rank u.rank ≡ Equal = nat_cmp-same t.rank u.rank same in
+          inr (same, le_from_is_lt t.rule u.rule (sym (ap (λ o. is_lt (ordering_then o (nat_cmp t.rule u.rule))) tie) ∙ less))
+      | inr apart ↦ elim apart [
+        | inl lower ↦ inl lower
+        | inr higher ↦ absurd (false≢true (sym (ap (λ o. is_lt (ordering_then o (nat_cmp t.rule u.rule))) (nat_cmp-greater t.rank u.rank higher)) ∙ less))
       ]
     ]
 

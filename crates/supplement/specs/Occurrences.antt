@@ -1,12 +1,11 @@
 -- From codes to the rules in whose formulas they occur.
 --     occurs c f                              the code stands in the formula
 --     Lists lists c rule                      the list of the code has the rule
---     AreOccurrences codes rules day lists    each code's list has each active rule in whose formula the code occurs
+--     AreOccurrences codes rules lists        each code's list has each rule in whose formula the code occurs
 use Rattle.std.specs.Prelude.{◌≡◌, ℕ, ◌<◌, Bool, true, false, ◌||◌, ◌==◌, List, Option, None, Some, IfSome, All, length, slice_index_or, slice_get}
 use Rattle.pb_base.specs.Rule.{Rule, code, negation, both, either, always, never}
 use Rattle.pb_base.specs.declared.node.Node.{Node}
 use Rattle.pb_base.specs.declared.node.Node.TheVariants.{Code}
-use Rattle.book_model.specs.Activity.{is_within}
 use Rattle.book_model.specs.declared.record.Supplement.{Supplement}
 use Rattle.supplement.specs.declared.occurrences.Entry.{Entry}
 use Rattle.supplement.specs.declared.occurrences.OccurrenceLists.{OccurrenceLists}
@@ -53,11 +52,10 @@ pub record Notes (old new : OccurrenceLists) (rule : ℕ) (test : ℕ → Bool) 
   pub keeps : KeepsLists old new
   pub noted : ListsWhere new test rule
 
--- each of the first n rules, where it is active, is in the list of each code of its formula
-abbrev pub ListsFirst : OccurrenceLists → List Supplement → ℕ → ℕ → Type 0
-ListsFirst lists rules day n =
-    (p : ℕ) (s : Supplement) → p < n → slice_get rules p ≡ Some s → is_within s.from s.until day ≡ true → ListsWhere lists (λ c. occurs c s.rule) p
+-- each of the first n rules is in the list of each code of its formula
+abbrev pub ListsFirst : OccurrenceLists → List Supplement → ℕ → Type 0
+ListsFirst lists rules n = (p : ℕ) (s : Supplement) → p < n → slice_get rules p ≡ Some s → ListsWhere lists (λ c. occurs c s.rule) p
 
-pub record AreOccurrences (codes : ℕ) (rules : List Supplement) (day : ℕ) (lists : OccurrenceLists) : Type 0 where
+pub record AreOccurrences (codes : ℕ) (rules : List Supplement) (lists : OccurrenceLists) : Type 0 where
   pub linked : AreLinked codes (length rules) lists
-  pub complete : ListsFirst lists rules day (length rules)
+  pub complete : ListsFirst lists rules (length rules)

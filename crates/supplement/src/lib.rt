@@ -7,8 +7,9 @@ mod completion;
 mod firing;
 mod occurrences;
 mod plain;
+mod standing;
 mod worklist;
 
 pub use completed::{Added, AddedList, Completed};
-pub use completer::Completer;
+pub use completer::{BookCompleter, Completer};
 pub use plain::complete_plainly;

@@ -6,11 +6,11 @@ ghost use Rattle.pb_base.specs.declared.limits.TheConstants.{MOST_SUPPLEMENTS};
 ghost use Rattle.book_model.specs.Book.{SupplementFits};
 ghost use Rattle.supplement.specs.declared.worklist.Candidate.{Candidate};
 ghost use Rattle.supplement.specs.Occurrences.{occurs, is_code, AreLinked, Notes, AreOccurrences};
-ghost use Rattle.supplement.specs.Worklist.{AreCandidates, HoldsListed};
+ghost use Rattle.supplement.specs.Worklist.{AreCandidates, AreTryable, HoldsListed, Marks};
 
-use crate::worklist::{Candidate, Worklist};
-use book_model::{Supplement, active};
-use pb_base::{Day, Formula, Memory, Node};
+use crate::worklist::{Candidate, RuleSet, Worklist};
+use book_model::{Supplement, fires};
+use pb_base::{CodeSet, Day, Formula, Memory, Node};
 use std::alloc::Global;
 
 /// A rule in whose formula a code occurs.
@@ -22,7 +22,7 @@ pub struct Entry {
     pub next: Option<usize>,
 }
 
-/// For each code the active supplementing rules in whose formulas it occurs. The entries of all codes stand in one vector,
+/// For each code the supplementing rules in whose formulas it occurs, on whatever days they are active. The entries of all codes stand in one vector,
 /// those of a code linked from its head.
 #[derive(Drop)]
 pub struct OccurrenceLists {
@@ -32,48 +32,56 @@ pub struct OccurrenceLists {
 }
 
 impl OccurrenceLists {
-    /// The lists of the rules that are active on this day, over so many codes.
+    /// The lists of these rules, over so many codes.
     pub fn of(
         alloc: Global,
         codes: u32,
         supplements: &[Supplement],
-        day: Day,
     ) -> Result<OccurrenceLists, Memory>
         requires fit { All (SupplementFits codes) supplements.now }
         requires places { length supplements.now ≤ MOST_SUPPLEMENTS }
-        ensures { IfOk result (AreOccurrences codes supplements.now day) }
+        ensures { IfOk result (AreOccurrences codes supplements.now) }
     {
         let mut lists = empty_lists(alloc, codes)?;
         for (place, supplement) in supplements.iter().enumerate() {
-            if active(supplement.from, supplement.until, day) {
-                lists.note_codes(&supplement.rule, place as u32)?;
-            }
+            lists.note_codes(&supplement.rule, place as u32)?;
         }
         Ok(lists)
     }
 
-    /// Puts the rules in whose formulas a code occurs to the others that are to be tried.
+    /// Marks the rules in whose formulas a code occurs, and puts those of them that fire to the others that are to be tried.
     pub fn add_rules_of(
         &self,
         code: u32,
         supplements: &[Supplement],
-        worklist: &mut Worklist,
+        day: Day,
+        set: &CodeSet,
+        worklist: &mut Worklist<'_>,
+        marks: &mut RuleSet,
     ) -> Result<(), Memory>
+        requires fit { All (SupplementFits (length set.now)) supplements.now }
         requires linked { AreLinked (length self.now.heads.items) (length supplements.now) self.now }
         requires in_range { code < length self.now.heads.items }
         requires candidates { AreCandidates supplements.now worklist.old }
+        requires tryable { AreTryable supplements.now marks.old worklist.old }
+        requires marks { length marks.old ≡ length supplements.now }
         ensures candidates { OnOk result (AreCandidates supplements.now worklist.new) }
         ensures keeps { OnOk result ((c : Candidate) → Contains worklist.old c → Contains worklist.new c) }
-        ensures added { OnOk result (HoldsListed supplements.now self.now code worklist.new) }
+        ensures added { OnOk result (HoldsListed supplements.now self.now day set.now code worklist.new) }
+        ensures tryable { OnOk result (AreTryable supplements.now marks.new worklist.new) }
+        ensures marks { OnOk result (Marks self.now code marks.old marks.new) }
     {
         let mut at = self.heads[code as usize];
         while let Some(place) = at {
             let entry = self.entries[place];
-            let rank = supplements[entry.rule as usize].rank;
-            worklist.push(Candidate {
-                rank,
-                rule: entry.rule,
-            })?;
+            let supplement = &supplements[entry.rule as usize];
+            marks.with(entry.rule);
+            if fires(supplement, day, set) {
+                worklist.push(Candidate {
+                    rank: supplement.rank,
+                    rule: entry.rule,
+                })?;
+            }
             at = entry.next;
         }
         Ok(())

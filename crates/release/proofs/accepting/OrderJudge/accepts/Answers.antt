@@ -1,4 +1,4 @@
-use Rattle.std.proofs.Common.{◌≡◌, Bool, List, false, true, sym, ap, subst, ◌∙◌}
+use Rattle.std.proofs.Common.{◌≡◌, Bool, List, false, true, length, sym, ap, subst, ◌∙◌}
 use Rattle.std.specs.Prelude.{IfOk, Ok, Err, is_none}
 use Rattle.pb_base.specs.NamedSet.{set_of_names}
 use Rattle.book_model.specs.Activity.{is_within}
@@ -7,21 +7,35 @@ use Rattle.book_model.specs.Sound.{IsReleasable}
 use Rattle.supplement.specs.Completion.{completion_of}
 use Rattle.parts_usage.specs.Broken.{first_broken_of}
 use Rattle.release.specs.Accepting.{accepts}
-use Rattle.release.proofs.Accepted.{accepts_outside, accepts_misnamed, accepts_named}
-use Rattle.release.proofs.accepting.accepts.Goals as goal
+use Rattle.release.specs.Release.{Release}
+use Rattle.release.proofs.Accepted.{accepts_outside, accepts_misnamed, accepts_named, length-named}
+use Rattle.release.proofs.accepting.OrderJudge.accepts.Goals as goal
+
+pub breaks_none-requires-clause-same_book : goal.breaks_none-requires-clause-same_book
+breaks_none-requires-clause-same_book c = c.self.invariant.1 ∙ sym c.self.invariant.0
+
+pub breaks_none-requires-clause-codes : goal.breaks_none-requires-clause-codes
+breaks_none-requires-clause-codes c =
+    let own : c.self.inside.completer ≡ c.book-book.result.now = c.self.invariant.0 ∙ sym c.book-book.ensures.value in
+    let b : Contents = c.book-book.result.now in
+    let set : set_of_names b.codes c.args.codes.now ≡ Ok c.in-Ok.ordered =
+    ap (λ codes. set_of_names codes c.args.codes.now) (sym c.codes.ensures.value) ∙ c.in-Ok.ensures.set in
+    length-named b.codes c.args.codes.now c.in-Ok.ordered set ∙ sym (ap (λ (b : Contents). length b.codes) own)
 
 pub returns-then-not-active : goal.returns-then-not-active
 returns-then-not-active c =
+    let book : c.book-book.result.now ≡ c.args.self.now.book = c.book-book.ensures.value ∙ ap (λ (r : Release). r.book) c.self.view_is in
     let b : Contents = c.book-book.result.now in
     let outside : is_within b.first b.last c.args.day ≡ false =
     ap (λ f. is_within f b.last c.args.day) (sym c.term-term.ensures.first)
     ∙ ap (λ l. is_within c.term-term.result.first l c.args.day) (sym c.term-term.ensures.last)
     ∙ sym c.active.ensures ∙ c.if-not-active.true in
-    sym (ap (λ (b : Contents). accepts b c.args.day c.args.codes.now) (sym c.book-book.ensures.value)
+    sym (ap (λ (b : Contents). accepts b c.args.day c.args.codes.now) (sym book)
     ∙ accepts_outside b c.args.day c.args.codes.now outside)
 
 pub returns-in-Ok : goal.returns-in-Ok
 returns-in-Ok c =
+    let book : c.book-book.result.now ≡ c.args.self.now.book = c.book-book.ensures.value ∙ ap (λ (r : Release). r.book) c.self.view_is in
     let b : Contents = c.book-book.result.now in
     let day = c.args.day in
     let names = c.args.codes.now in
@@ -32,16 +46,19 @@ returns-in-Ok c =
     ∙ ap (λ l. is_within c.term-term.result.first l day) (sym c.term-term.ensures.last)
     ∙ sym c.active.ensures ∙ c.if-not-active.false in
     let set : set_of_names b.codes names ≡ Ok ordered = ap (λ codes. set_of_names codes names) (sym c.codes.ensures.value) ∙ c.in-Ok.ensures.set in
-    let same : accepts c.args.released.now.book day names ≡ is_none (first_broken_of b day (completion_of b day ordered).set) =
-    ap (λ (b : Contents). accepts b day names) (sym c.book-book.ensures.value)
-    ∙ accepts_named b day names ordered c.codes.ensures.book releasable within set in
+    let own : c.self.inside.completer ≡ b = c.self.invariant.0 ∙ sym c.book-book.ensures.value in
+    let same : accepts c.args.self.now.book day names ≡ is_none (first_broken_of c.self.inside.completer day (completion_of c.self.inside.completer day ordered).set) =
+    ap (λ (b : Contents). accepts b day names) (sym book)
+    ∙ accepts_named b day names ordered c.codes.ensures.book releasable within set
+    ∙ sym (ap (λ (b : Contents). is_none (first_broken_of b day (completion_of b day ordered).set)) own) in
     subst (λ value. IfOk c.breaks_none.result (λ accepted. accepted ≡ value)) (sym same) c.breaks_none.ensures
 
 pub returns-in-Err-Refused : goal.returns-in-Err-Refused
 returns-in-Err-Refused c =
+    let book : c.book-book.result.now ≡ c.args.self.now.book = c.book-book.ensures.value ∙ ap (λ (r : Release). r.book) c.self.view_is in
     let b : Contents = c.book-book.result.now in
     let names = c.args.codes.now in
     let misnamed : set_of_names b.codes names ≡ Err c.in-Err-Refused.field-0-0 =
     ap (λ codes. set_of_names codes names) (sym c.codes.ensures.value) ∙ (rw c.in-Err-Refused.field-0-is at c.in-Err-Refused.ensures.set) in
-    sym (ap (λ (b : Contents). accepts b c.args.day names) (sym c.book-book.ensures.value)
+    sym (ap (λ (b : Contents). accepts b c.args.day names) (sym book)
     ∙ accepts_misnamed b c.args.day names c.in-Err-Refused.field-0-0 misnamed)
