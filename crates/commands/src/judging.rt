@@ -11,7 +11,7 @@ use book_commands::{RunReply, RunStatus, tell_made};
 use command_words::Rejudging;
 use keeper::Keeper;
 use order_again::{rejudge, stock_text};
-use order_desk::{Desk, NotStarted};
+use order_desk::{Desk, ManyHands, NotStarted};
 use pb_base::{Memory, Text};
 use pb_door::Door;
 use pb_outside::{Files, Sink, Source};
@@ -35,7 +35,11 @@ pub fn run_rejudge<R: Threads + Sync, S: Source, K: Sink, F: Files, P: Keeper, D
         keeper,
         mut channels,
     } = world;
-    match Desk::start(alloc, keeper, asked.store()) {
+    let hands = ManyHands {
+        rt,
+        workers: asked.workers(),
+    };
+    match Desk::start_by(alloc, &hands, keeper, asked.store()) {
         Ok(desk) => judge_kept(rt, alloc, asked, desk, channels),
         Err(NotStarted { why, keeper }) => {
             let status = tell_start(alloc, &why, &mut channels.sink, &mut channels.log);

@@ -14,7 +14,7 @@ use command_words::Service;
 use desk_run::MOST_STEPS;
 use desk_words::put_number;
 use keeper::Keeper;
-use order_desk::{Desk, DeskCounts, NotStarted};
+use order_desk::{Desk, DeskCounts, ManyHands, NotStarted};
 use pb_base::{Memory, Text};
 use pb_door::Door;
 use pb_outside::{Files, OutError, Sink, Source};
@@ -25,7 +25,7 @@ use std::sync::Wait;
 use std::thread::Threads;
 
 /// Starts the desk whose rows the keeper has in the service's store, has the workers serve the links of the door, and tells how
-/// that ended. The source and the files are not touched.
+/// that ended. The workers judge the kept orders too. The source and the files are not touched.
 pub fn run_service<
     R: Threads + Wait + Sync,
     S: Source,
@@ -50,7 +50,11 @@ pub fn run_service<
         keeper,
         mut channels,
     } = world;
-    match Desk::start(alloc, keeper, service.store()) {
+    let hands = ManyHands {
+        rt,
+        workers: service.workers(),
+    };
+    match Desk::start_by(alloc, &hands, keeper, service.store()) {
         Ok(desk) => serve_door(rt, alloc, service, desk, channels, gate),
         Err(NotStarted { why, keeper }) => {
             let status = tell_start(alloc, &why, &mut channels.sink, &mut channels.log);

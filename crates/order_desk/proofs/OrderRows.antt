@@ -1,16 +1,16 @@
 -- Rows of orders as they are read.
-use Rattle.std.proofs.Common.{◌≡◌, ℕ, ◌+◌, ◌-◌, ◌<◌, ◌≤◌, ◌==◌, zero, suc, cond, Bool, true, false, List, [], ◌∷◌, ◌++◌, Option, None, Some, length, map, refl, sym, ap, subst, ◌∙◌, arith}
-use Rattle.std.specs.Prelude.{Ok, find, nat_le, nat_lt, slice_get}
+use Rattle.std.proofs.Common.{◌≡◌, ℕ, ◌+◌, ◌-◌, ◌<◌, ◌≤◌, ◌==◌, ◌⊎◌, inl, inr, zero, suc, cond, Bool, true, false, List, [], ◌∷◌, ◌++◌, Option, None, Some, Result, Ok, Err, length, get_or, map, take, refl, sym, ap, subst, ◌∙◌, arith}
+use Rattle.std.specs.Prelude.{IfOk, find, nat_le, nat_lt, slice_get}
 use Rattle.std.specs.BTreeMap.{insert_entry}
-use Rattle.std.specs.List.{AllByRecursion, join_by, join_with_byte, list_all, slice_split}
+use Rattle.std.specs.List.{AllByRecursion, AllZip, join_by, join_with_byte, list_all, slice_split}
 use Rattle.std.specs.Map.{keys_of}
 use Rattle.std.specs.Option.{option_map}
 use Rattle.std.specs.Ordering.{is_lt}
 use Rattle.std.proofs.lemmas.Bool.{eq-eqb, ltb-true, ne_eqb}
-use Rattle.std.proofs.lemmas.List.{append-nil, length_push, map_push, length-map}
+use Rattle.std.proofs.lemmas.List.{append-nil, length_push, map_push, length-map, take_more}
 use Rattle.std.proofs.lemmas.List.Sums.{AllPass-from_list_all}
 use Rattle.std.proofs.lemmas.List.Splits.{join_with_byte-slice_split}
-use Rattle.std.proofs.lemmas.Option.{slice_get_past}
+use Rattle.std.proofs.lemmas.Option.{slice_get-map, slice_get_past}
 use Rattle.desk_words.specs.declared.order_words.OrderWords.{OrderWords}
 use Rattle.keeper.specs.Keys.{by_caller}
 use Rattle.keeper.specs.declared.rows.BookRow.{BookRow}
@@ -19,10 +19,12 @@ use Rattle.pb_base.specs.Names.{is_name, is_code_name}
 use Rattle.pb_base.specs.declared.limits.TheConstants.{LAST_DAY}
 use Rattle.release.specs.Certified.{release_of, release_by, certified_as}
 use Rattle.release.specs.Release.{Release, IsRelease}
+use Rattle.shared_work.proofs.JoinLaws.{zip-append}
 use Rattle.order_desk.specs.declared.kept_book.KeptBook.{KeptBook}
 use Rattle.order_desk.specs.declared.limits.TheConstants.{MOST_ORDERS, MOST_ORDER_NUMBER}
 use Rattle.order_desk.specs.declared.order_key.OrderKey.{OrderKey}
 use Rattle.order_desk.specs.Fits.{AreCodes}
+use Rattle.order_desk.specs.Judged.{IsJudged, accepts_order, release_at}
 use Rattle.order_desk.specs.Judging.{accepts, accepted_by}
 use Rattle.order_desk.specs.RightRows.{accepts_row, codes_in, comes_last, is_order_row, is_under}
 use Rattle.order_desk.specs.Rows.{book_row, book_rows, codes_text, order_row}
@@ -162,6 +164,80 @@ no_book books row past = ap (λ found. is_under found row) (find_book books row.
     none = ap (λ b. cond b None (slice_get books (row.book - 1))) (ne_eqb row.book 0 (λ zero. omega (arith, past)))
         ∙ slice_get_past books (row.book - 1) (omega (arith, past))
 
+-- ---- what was told of a row
+
+no_release : (releases : List Release) (number : ℕ) → (number < 1) ⊎ (length releases < number) → release_at releases number ≡ None
+no_release releases zero outside = refl
+no_release releases (suc n) (inl less) = absurd (omega (arith, less))
+no_release releases (suc n) (inr past) =
+    ap (λ b. cond b None (slice_get releases (suc n - 1))) (ne_eqb (suc n) 0 (λ none. omega arith))
+    ∙ slice_get_past releases (suc n - 1) (omega (arith, past))
+
+-- where no book has the number, the order isn't accepted
+pub judged_none : (releases : List Release) (row : OrderRow) → (row.book < 1) ⊎ (length releases < row.book) → IsJudged releases row false
+judged_none releases row outside = λ day codes. sym (ap (λ found. accepts_order found row) (no_release releases row.book outside))
+
+-- nothing is told of a row with a name that is no code's
+pub judged_unnamed : (releases : List Release) (row : OrderRow) → list_all is_code_name (codes_in row.codes) ≡ false → IsJudged releases row false
+judged_unnamed releases row wrong = λ day named. cc
+
+-- and else as the release at the book's place accepts it
+pub judged_at : (releases : List Release) (row : OrderRow) (judge : Release) (codes : List (List ℕ)) → 1 ≤ row.book
+    → slice_get releases (row.book - 1) ≡ Some judge → codes ≡ codes_in row.codes
+    → accepts judge.book row.day codes ≡ accepts_order (release_at releases row.book) row
+judged_at releases row judge codes least there split =
+    let at : release_at releases row.book ≡ Some judge =
+    ap (λ b. cond b None (slice_get releases (row.book - 1))) (ne_eqb row.book 0 (λ none. omega (arith, least))) ∙ there in
+    ap (accepts judge.book row.day) split ∙ sym (ap (λ found. accepts_order found row) at)
+
+pub if_told : {X E : Type 0} (P Q : X → Type 0) (r : Result X E) → ((x : X) → P x → Q x) → IfOk r P → IfOk r Q
+if_told P Q (Ok x) so is = so x is
+if_told P Q (Err e) so is = tt
+
+-- a further row and what was told of it
+pub told_next : (releases : List Release) (rows : List OrderRow) (told : List Bool) (accepted : Bool) (k : ℕ) (d : OrderRow) → k < length rows
+    → AllZip (IsJudged releases) (take k rows) told → IsJudged releases (get_or rows k d) accepted
+    → AllZip (IsJudged releases) (take (k + 1) rows) (told ++ accepted ∷ [])
+told_next releases rows told accepted k d low so_far is =
+    subst (λ (rs : List OrderRow). AllZip (IsJudged releases) rs (told ++ accepted ∷ [])) (sym (take_more rows k d low))
+    (zip-append (IsJudged releases) (take k rows) (get_or rows k d ∷ []) told (accepted ∷ []) so_far (is, tt))
+
+zip_at : {X M : Type 0} (P : X → M → Type 0) (before : List X) (x : X) (after : List X) (ms : List M) (d : M)
+    → AllZip P (before ++ x ∷ after) ms → (length before < length ms) × P x (get_or ms (length before) d)
+zip_at P [] x after [] d zip = absurd zip
+zip_at P [] x after (m ∷ ms) d zip = (omega arith, zip.0)
+zip_at P (b ∷ before) x after [] d zip = absurd zip
+zip_at P (b ∷ before) x after (m ∷ ms) d zip =
+    let more = zip_at P before x after ms d zip.1 in
+    (let low : length before < length ms = more.0 in omega (arith, low), more.1)
+
+-- the books' releases
+abbrev releases_of : List KeptBook → List Release
+releases_of books = map (λ (b : KeptBook). b.released) books
+
+release_of_book : (books : List KeptBook) (number : ℕ) → release_at (releases_of books) number ≡ option_map (λ (b : KeptBook). b.released) (book_at books number)
+release_of_book books zero = refl
+release_of_book books (suc n) =
+    ap (λ b. cond b None (slice_get (releases_of books) (suc n - 1))) (ne_eqb (suc n) 0 (λ none. omega arith))
+    ∙ slice_get-map (λ (b : KeptBook). b.released) books (suc n - 1)
+    ∙ sym (ap (λ b. option_map (λ (k : KeptBook). k.released) (cond b None (slice_get books (suc n - 1)))) (ne_eqb (suc n) 0 (λ none. omega arith)))
+
+-- what was told is what the row of the book says
+pub told_under : (books : List KeptBook) (row : OrderRow) (accepted : Bool) → AllByRecursion (λ b. IsRelease b.released) books
+    → IsJudged (releases_of books) row accepted → row.day ≤ LAST_DAY → list_all is_code_name (codes_in row.codes) ≡ true
+    → is_under (numbered row.book (book_rows 1 books)) row ≡ accepted
+told_under books row accepted released judged day codes =
+    accepted_as books row (codes_in row.codes) released refl
+    ∙ by (book_at books row.book)
+    ∙ sym (ap (λ found. accepts_order found row) (release_of_book books row.book))
+    ∙ sym (judged day codes)
+  where
+    by : (found : Option KeptBook)
+        → accepted_by found (record { book = row.book; day = row.day; codes = codes_in row.codes })
+        ≡ accepts_order (option_map (λ (b : KeptBook). b.released) found) row
+    by None = refl
+    by (Some b) = refl
+
 -- ---- the codes of a row
 
 joined : (c : ℕ) (names : List (List ℕ)) → join_by (λ name. name) (c ∷ []) names ≡ join_with_byte c names
@@ -204,6 +280,14 @@ pub record AreRead (books : List BookRow) (rows : List OrderRow) (es : List (Ord
   pub read : IsRead (is_order_row books) rows (map order_row es) rest
   pub few : length es ≤ MOST_ORDERS
   pub named : AllByRecursion (λ e. AreCodes e.1.codes) es
+
+-- what was told of the next row
+pub told_at : (books : List BookRow) (rows : List OrderRow) (es : List (OrderKey × OrderWords)) (row : OrderRow) (rest : List OrderRow)
+    (releases : List Release) (told : List Bool) (d : Bool) → AreRead books rows es (row ∷ rest) → AllZip (IsJudged releases) rows told
+    → (length es < length told) × IsJudged releases row (get_or told (length es) d)
+told_at books rows es row rest releases told d are zip =
+    subst (λ n. (n < length told) × IsJudged releases row (get_or told n d)) (length-map es order_row)
+    (zip_at (IsJudged releases) (map order_row es) row rest told d (subst (λ l. AllZip (IsJudged releases) l told) are.read.whole zip))
 
 -- the order of the next row
 pub record IsNextOrder (books : List BookRow) (es : List (OrderKey × OrderWords)) (row : OrderRow) (key : OrderKey) (order : OrderWords) : Type 0 where

@@ -12,4 +12,5 @@ pub mod Lasting
 pub mod Turn
 pub mod Rows
 pub mod RightRows
+pub mod Judged
 pub mod Start

@@ -7,6 +7,8 @@ mod desk;
 mod draft;
 mod draft_rows;
 mod event;
+mod hands;
+mod judging;
 mod kept_book;
 mod limits;
 mod listing;
@@ -24,6 +26,7 @@ pub use answer::Answer;
 pub use desk::{Desk, DeskCounts, history_laws};
 pub use draft::Draft;
 pub use event::{Event, Reading};
+pub use hands::{Hands, ManyHands, OneHand};
 pub use kept_book::KeptBook;
 pub use limits::{
     MOST_BOOKS, MOST_DRAFTS, MOST_LISTED, MOST_ORDER_NUMBER, MOST_ORDERS, MOST_REVISION,

@@ -1,24 +1,22 @@
 //! Orders from their rows.
 ghost use Rattle.std.specs.Prelude.{◌≡◌, ◌≤◌, [], IfOk, None, Some, map, length, true, false};
-ghost use Rattle.std.specs.List.{AllByRecursion, list_all};
+ghost use Rattle.std.specs.List.{AllByRecursion, AllZip};
 ghost use Rattle.pb_base.specs.Answers.{IfRefused};
-ghost use Rattle.pb_base.specs.Names.{is_code_name};
 ghost use Rattle.release.specs.Release.{IsRelease};
 ghost use Rattle.order_desk.specs.Fits.{AreCodes};
-ghost use Rattle.order_desk.specs.Judging.{accepted_by};
-ghost use Rattle.order_desk.specs.RightRows.{codes_in, first_wrong, is_order_row};
+ghost use Rattle.order_desk.specs.Judged.{IsJudged};
+ghost use Rattle.order_desk.specs.RightRows.{first_wrong, is_order_row};
 ghost use Rattle.order_desk.specs.Rows.{book_rows, order_row};
-ghost use Rattle.order_desk.specs.Tables.{book_at};
 ghost use Rattle.order_desk.specs.declared.limits.TheConstants.{MOST_BOOKS as most_books};
 
-use crate::lookup::book_at;
+use crate::judging::codes_of;
 use crate::rising::comes_last;
-use crate::{KeptBook, MOST_ORDER_NUMBER, MOST_ORDERS, OrderKey};
+use crate::{Hands, KeptBook, MOST_ORDER_NUMBER, MOST_ORDERS, OrderKey};
 use desk_words::OrderWords;
 use keeper::OrderRow;
 use pb_base::limits::LAST_DAY;
-use pb_base::{CodeList, CodeName, Fail, Id, Memory};
-use release::accepts;
+use pb_base::{Fail, Id, Memory};
+use release::OrderJudge;
 use std::alloc::Global;
 use std::collections::{BTreeMap, VecDeque};
 
@@ -29,14 +27,65 @@ struct KeyedOrder {
     order: OrderWords,
 }
 
-/// The orders of the rows, or the number, from 1, of the first row that isn't right. Each order is judged again by its book.
-pub(crate) fn orders_of(
+/// The orders of the rows, or the number, from 1, of the first row that isn't right. The hands judge each order again by its
+/// book, and then the rows are gone through in their sequence.
+pub(crate) fn orders_of<H: Hands>(
     alloc: Global,
+    hands: &H,
     books: &[KeptBook],
     rows: Vec<OrderRow>,
 ) -> Result<BTreeMap<OrderKey, OrderWords>, Fail<u32>>
+    requires ready { H.AreReady hands.now }
     requires few { length books.now ≤ most_books }
     requires released { AllByRecursion (λ b. IsRelease b.released) books.now }
+    ensures right { IfOk result (λ orders.
+        first_wrong (is_order_row (book_rows 1 books.now)) [] rows.items ≡ None) }
+    ensures rows { IfOk result (λ orders. map order_row orders.entries ≡ rows.items) }
+    ensures named { IfOk result (λ orders. AllByRecursion (λ e. AreCodes e.1.codes) orders.entries) }
+    ensures wrong { IfRefused result (λ place.
+        first_wrong (is_order_row (book_rows 1 books.now)) [] rows.items ≡ Some place) }
+{
+    match told_of(alloc, hands, books, &rows) {
+        Ok(told) => judged_orders(alloc, books, rows, &told),
+        Err(Memory) => Err(Fail::Memory),
+    }
+}
+
+// What the hands tell of each row.
+fn told_of<H: Hands>(
+    alloc: Global,
+    hands: &H,
+    books: &[KeptBook],
+    rows: &[OrderRow],
+) -> Result<Vec<bool>, Memory>
+    requires { H.AreReady hands.now }
+    ensures { IfOk result (λ told. AllZip (IsJudged (map (λ b. b.released) books.now)) rows.now told.items) }
+{
+    let judges = judges_of(alloc, books)?;
+    hands.judge(alloc, &judges, rows)
+}
+
+// What judges the orders of each book.
+fn judges_of<'a>(alloc: Global, books: &'a [KeptBook]) -> Result<Vec<OrderJudge<'a>>, Memory>
+    ensures { IfOk result (λ judges. judges.items ≡ map (λ b. b.released) books.now) }
+{
+    let mut judges = Vec::with_capacity(alloc, books.len())?;
+    for book in books {
+        judges.push(OrderJudge::new(alloc, book.released.released())?)?;
+    }
+    Ok(judges)
+}
+
+// The same, with what was told of each row.
+fn judged_orders(
+    alloc: Global,
+    books: &[KeptBook],
+    rows: Vec<OrderRow>,
+    told: &[bool],
+) -> Result<BTreeMap<OrderKey, OrderWords>, Fail<u32>>
+    requires few { length books.now ≤ most_books }
+    requires released { AllByRecursion (λ b. IsRelease b.released) books.now }
+    requires told { AllZip (IsJudged (map (λ b. b.released) books.now)) rows.items told.now }
     ensures right { IfOk result (λ orders.
         first_wrong (is_order_row (book_rows 1 books.now)) [] rows.items ≡ None) }
     ensures rows { IfOk result (λ orders. map order_row orders.entries ≡ rows.items) }
@@ -47,7 +96,9 @@ pub(crate) fn orders_of(
     let mut orders = BTreeMap::new(alloc);
     let mut rest = VecDeque::from_vec(rows);
     while let Some(row) = rest.pop_front() {
-        match order_from(alloc, books, &orders, &row) {
+        let place = orders.len();
+        let accepted = told[place];
+        match order_from(alloc, books, &orders, &row, accepted) {
             Ok(read) => {
                 orders.insert(read.key, read.order)?;
             }
@@ -64,9 +115,11 @@ fn order_from(
     books: &[KeptBook],
     orders: &BTreeMap<OrderKey, OrderWords>,
     row: &OrderRow,
+    accepted: bool,
 ) -> Result<KeyedOrder, Fail<()>>
     requires few { length books.now ≤ most_books }
     requires released { AllByRecursion (λ b. IsRelease b.released) books.now }
+    requires judged { IsJudged (map (λ b. b.released) books.now) row.now accepted }
     ensures right { IfOk result (λ read.
         is_order_row (book_rows 1 books.now) (map order_row orders.now.entries) row.now ≡ true) }
     ensures row { IfOk result (λ read. order_row (read.key, read.order) ≡ row.now) }
@@ -95,45 +148,10 @@ fn order_from(
                 day: row.day as u32,
                 codes: codes_of(alloc, row.codes.as_slice())?,
             };
-            if !is_accepted(alloc, books, &order)? {
+            if !accepted {
                 return Err(Fail::Refused(()));
             }
             Ok(KeyedOrder { key, order })
         }
     }
-}
-
-// Whether the book of an order is there and accepts it.
-fn is_accepted(alloc: Global, books: &[KeptBook], order: &OrderWords) -> Result<bool, Memory>
-    ensures { IfOk result (λ accepted. accepted ≡ accepted_by (book_at books.now order.now.book) order.now) }
-{
-    match book_at(books, order.book) {
-        None => Ok(false),
-        Some(book) => accepts(
-            alloc,
-            book.released.released(),
-            order.day,
-            order.codes.as_slice(),
-        ),
-    }
-}
-
-// The codes of a row, or a refusal where one is no code's name.
-fn codes_of(alloc: Global, text: &[u8]) -> Result<CodeList, Fail<()>>
-    ensures codes { IfOk result (λ codes. codes ≡ codes_in text.now) }
-    ensures named { IfOk result (λ codes. list_all is_code_name (codes_in text.now) ≡ true) }
-    ensures wrong { IfRefused result (λ none. list_all is_code_name (codes_in text.now) ≡ false) }
-{
-    if text.is_empty() {
-        return Ok(CodeList::new(alloc));
-    }
-    let spaces = text.iter().filter(|b| **b == b' ').count();
-    let mut codes = Vec::with_capacity(alloc, spaces + 1)?;
-    for name in text.split(|b| *b == b' ') {
-        match CodeName::of(name) {
-            Some(code) => codes.push(code)?,
-            None => return Err(Fail::Refused(())),
-        }
-    }
-    Ok(CodeList::of(codes))
 }

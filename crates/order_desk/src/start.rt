@@ -15,7 +15,7 @@ use crate::book_rows::books_of;
 use crate::draft_rows::drafts_of;
 use crate::order_rows::orders_of;
 use crate::withdrawn_rows::withdraw_all;
-use crate::{Desk, Draft, KeptBook, OrderKey};
+use crate::{Desk, Draft, Hands, KeptBook, OneHand, OrderKey};
 use desk_words::OrderWords;
 use keeper::{Keeper, Rows};
 use pb_base::{Fail, Id};
@@ -71,8 +71,32 @@ impl<P: Keeper> Desk<P> {
         ensures left { IfErr result (λ n. IsLeft (P.told keeper) (P.told n.keeper) n.why) }
         ensures later_count { IfErr result (λ n. IsLater (P.failures keeper) (P.failures n.keeper)) }
     {
+        Desk::start_by(alloc, &OneHand, keeper, name)
+    }
+
+    /// The same start, in which these hands judge the orders.
+    pub fn start_by<H: Hands>(
+        alloc: Global,
+        hands: &H,
+        keeper: P,
+        name: &str,
+    ) -> Result<Desk<P>, NotStarted<P>>
+        requires ready { H.AreReady hands.now }
+        requires named { P.may_begin keeper name.now }
+        ensures rows { IfOk result (λ desk. IfSome (P.told keeper)
+            (λ rows. rows_of desk.tables ≡ migrated (begun rows))) }
+        ensures right { IfOk result (λ desk.
+            IfSome (P.told keeper) (λ rows. first_bad (begun rows) ≡ None)) }
+        ensures valid { IfOk result (λ desk. IsValid desk.tables) }
+        ensures count { IfOk result (λ desk. desk.faults.count ≡ (P.failures keeper).count) }
+        ensures later { IfOk result (λ desk. IsLater (P.failures keeper) desk.faults) }
+        ensures cause { IfErr result (λ n.
+            IsCause (P.told keeper) (P.failures keeper) (P.failures n.keeper) n.why) }
+        ensures left { IfErr result (λ n. IsLeft (P.told keeper) (P.told n.keeper) n.why) }
+        ensures later_count { IfErr result (λ n. IsLater (P.failures keeper) (P.failures n.keeper)) }
+    {
         let mut keeper = keeper;
-        match read_from(alloc, &mut keeper, name) {
+        match read_from(alloc, hands, &mut keeper, name) {
             Ok(tables) => Ok(Desk::of(keeper, tables)),
             Err(why) => Err(NotStarted { why, keeper }),
         }
@@ -80,12 +104,14 @@ impl<P: Keeper> Desk<P> {
 }
 
 // The tables of the keeper's rows, which it has begun and migrated.
-fn read_from<P: Keeper>(
+fn read_from<P: Keeper, H: Hands>(
     alloc: Global,
+    hands: &H,
     keeper: &mut P,
     name: &str,
 ) -> Result<ReadTables, Fail<StartFault>>
-    requires { P.may_begin keeper.old name.now }
+    requires ready { H.AreReady hands.now }
+    requires named { P.may_begin keeper.old name.now }
     ensures rows { IfOk result (λ read. IfSome (P.told keeper.old)
         (λ rows. rows_of (tables_in read) ≡ migrated (begun rows))) }
     ensures right { IfOk result (λ read.
@@ -104,7 +130,7 @@ fn read_from<P: Keeper>(
         Err(error) => Err(failed(error, before, keeper.faults())),
         Ok(rows) => {
             let form = rows.form;
-            match tables_of(alloc, rows) {
+            match tables_of(alloc, hands, rows) {
                 Err(Fail::Refused(BadPlace { table, place })) => {
                     Err(Fail::Refused(StartFault::BadRow { table, place }))
                 }
@@ -152,7 +178,8 @@ fn failed(error: OutError, before: u64, after: u64) -> Fail<StartFault>
 }
 
 // The tables of the rows, or the first row that isn't right.
-fn tables_of(alloc: Global, rows: Rows) -> Result<ReadTables, Fail<BadPlace>>
+fn tables_of<H: Hands>(alloc: Global, hands: &H, rows: Rows) -> Result<ReadTables, Fail<BadPlace>>
+    requires { H.AreReady hands.now }
     ensures right { IfOk result (λ read. first_bad (kept_of rows) ≡ None) }
     ensures rows { IfOk result (λ read. rows_of (tables_in read) ≡ migrated (kept_of rows)) }
     ensures valid { IfOk result (λ read. IsValid (tables_in read)) }
@@ -176,7 +203,7 @@ fn tables_of(alloc: Global, rows: Rows) -> Result<ReadTables, Fail<BadPlace>>
         Ok(books) => books,
         Err(fail) => return Err(in_table(2, fail)),
     };
-    let orders = match orders_of(alloc, &books, orders) {
+    let orders = match orders_of(alloc, hands, &books, orders) {
         Ok(orders) => orders,
         Err(fail) => return Err(in_table(3, fail)),
     };

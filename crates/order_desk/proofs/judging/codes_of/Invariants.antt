@@ -1,7 +1,7 @@
 use Rattle.std.proofs.Common.{◌≡◌, map, true}
 use Rattle.std.specs.List.{list_all}
 use Rattle.pb_base.specs.Names.{is_code_name}
-use Rattle.order_desk.proofs.order_rows.codes_of.Given as goal
+use Rattle.order_desk.proofs.judging.codes_of.Given as goal
 
 -- the codes are those that were taken
 abbrev pub invariant-loop-name : goal.invariant-loop-name

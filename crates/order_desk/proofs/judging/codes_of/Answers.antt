@@ -5,7 +5,7 @@ use Rattle.std.proofs.lemmas.Iterator.Consumers.{YieldsList-at, YieldsList-turn,
 use Rattle.std.proofs.lemmas.List.Folds.{list_all_at}
 use Rattle.pb_base.specs.Names.{is_code_name}
 use Rattle.order_desk.proofs.OrderRows.{codes_split}
-use Rattle.order_desk.proofs.order_rows.codes_of.Goals as goal
+use Rattle.order_desk.proofs.judging.codes_of.Goals as goal
 
 pub returns-in-None-of-clause-wrong : goal.returns-in-None-of-clause-wrong
 returns-in-None-of-clause-wrong c =
