@@ -3,6 +3,7 @@ pub mod UsageLaws
 pub mod ToldLaws
 pub mod SliceLaws
 pub mod BookLaws
+pub mod SharedLaws
 pub mod SolverLaws
 pub mod AgainLaws
 pub mod LeftLaws

@@ -3,4 +3,5 @@ pub mod Notes
 pub mod Left
 pub mod Outcomes
 pub mod Answering
+pub mod Checkable
 pub mod Core

@@ -9,17 +9,18 @@ ghost use Rattle.derivation.specs.Limits.{AreWithin, asked_of, slices_within};
 ghost use Rattle.derivation.specs.Written.{IsBegun};
 ghost use Rattle.derivation.specs.declared.slice_proof.SliceProof.{SliceProof};
 ghost use Rattle.book_model.specs.declared.record.Slice.{Slice};
+ghost use Rattle.findings.specs.Checkable.{IsCheckable};
 ghost use Rattle.findings.specs.Notes.{InParts, IsReport, SliceNotes, verdict_of};
 ghost use Rattle.slice_hints.specs.Found.{KnowsUsages};
 ghost use Rattle.findings.specs.Answering.{IsShownIn, ShowsUnlessStopped, inquiry, stops};
 ghost use Rattle.derivation.specs.Accepted.{IsAccepted};
 ghost use Rattle.pb_base.specs.declared.limits.TheConstants.{MOST_BUDGET, MOST_QUESTIONS};
 
-use crate::core_report::report_slice;
 use crate::earlier::Earlier;
 use crate::laws::book_laws;
 use crate::report::{Ask, Note, Report, Verdict};
 use crate::slice::{SliceCheck, check_slice};
+use crate::slice_reports::{joined, reports_of};
 use crate::task::{Effort, SliceTask};
 use book_model::{Book, LimitFault, Slice};
 use derivation::{SliceProof, begin_cert, end_cert, put_proof, slices_within};
@@ -99,48 +100,15 @@ fn report_slices(
     slices: &[Slice],
     effort: Effort,
 ) -> Result<Vec<Note>, Memory>
-    requires steady { All (IsSteady book.now) slices.now }
-    requires order { All IsOrdered slices.now }
-    requires few { AreWithin book.now slices.now }
+    requires slices { All (IsCheckable book.now) slices.now }
     requires some { 0 < effort.budget }
     requires budget { effort.budget ≤ MOST_BUDGET }
     ensures { IfOk result (λ notes.
         InParts (SliceNotes (inquiry book.now effort)) slices.now notes.items) }
 {
-    let mut all = Vec::new(alloc);
-    let mut earlier = Earlier::none(alloc);
-    report_each(alloc, book, slices, effort, &mut earlier, &mut all)?;
-    Ok(all)
-}
-
-// Appends the notes of slices.
-fn report_each(
-    alloc: Global,
-    book: &Book,
-    slices: &[Slice],
-    effort: Effort,
-    earlier: &mut Earlier,
-    all: &mut Vec<Note>,
-) -> Result<(), Memory>
-    requires steady { All (IsSteady book.now) slices.now }
-    requires order { All IsOrdered slices.now }
-    requires few { AreWithin book.now slices.now }
-    requires some { 0 < effort.budget }
-    requires budget { effort.budget ≤ MOST_BUDGET }
-    requires none { all.old.items ≡ [] }
-    requires earlier { All (KnowsUsages book.now) earlier.old.sets.items }
-    ensures { OnOk result
-        (InParts (SliceNotes (inquiry book.now effort)) slices.now all.new.items) }
-{
-    for slice in slices.iter() {
-        let task = SliceTask {
-            slice: *slice,
-            effort,
-        };
-        let mut notes = report_slice(alloc, book, task, earlier)?;
-        all.append(&mut notes)?;
-    }
-    Ok(())
+    let reports = reports_of(alloc, book, slices, effort)?;
+    let notes = joined(alloc, reports)?;
+    Ok(notes)
 }
 
 // What a check of slices tells: their notes, and where none of these keeps the book from its release, a certificate with a proof

@@ -17,10 +17,13 @@ mod pairs;
 mod questions;
 mod refuting;
 mod report;
+mod report_by;
 mod slice;
 mod slice_core;
+mod slice_reports;
 mod task;
 
 pub use check::{Checked, check_book, report_book};
 pub use laws::report_laws;
 pub use report::{Ask, Note, Report, Verdict, verdict_of};
+pub use report_by::report_book_by;

@@ -1,9 +1,9 @@
 -- The rules that are asked can be asked: they are over the codes of the book, and small.
-use Rattle.std.proofs.Common.{inl, inr, ◌≡◌, ℕ, suc, ◌+◌, ◌*◌, ◌^◌, ◌<◌, ◌≤◌, Bool, true, false, cond, List, [], ◌∷◌, ◌++◌, length, map, sym, ap, subst, arith, All, length-append}
-use Rattle.std.specs.List.{AllByRecursion, filter, flat_map}
+use Rattle.std.proofs.Common.{inl, inr, ◌≡◌, ℕ, suc, ◌+◌, ◌*◌, ◌^◌, ◌≤◌, Bool, true, List, [], ◌∷◌, length, map, sym, ap, subst, arith, All, length-append}
+use Rattle.std.specs.List.{AllByRecursion, filter}
 use Rattle.std.proofs.lemmas.Bool.{and_from, cases_Bool, cond-true, cond-false}
 use Rattle.std.proofs.lemmas.List.Elements.{All-from_recursion, recursion_from_All}
-use Rattle.pb_base.specs.Node.{size, size_with}
+use Rattle.pb_base.specs.Node.{size_with}
 use Rattle.pb_base.specs.Rule.{Rule, code, negation, both, either, always, never, codes_below, nodes}
 use Rattle.book_model.specs.Book.{IsBook, RuleFits, VariantFits}
 use Rattle.book_model.specs.Contents.{Contents}

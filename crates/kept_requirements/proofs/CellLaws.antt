@@ -1,6 +1,6 @@
 -- What is answered of the rules that are asked makes right cells, and the rows of all slices make the notes of each requirement.
 use Rattle.std.specs.Prelude.{IfOk}
-use Rattle.std.proofs.Common.{inl, inr, Result, Ok, Err, ◌≡◌, ℕ, zero, suc, ◌+◌, ◌<◌, ◌≤◌, Bool, true, false, cond, List, [], ◌∷◌, ◌++◌, Option, Some, None, length, map, take, drop, get_or, refl, sym, ap, subst, ◌∙◌, arith, append_assoc}
+use Rattle.std.proofs.Common.{inl, inr, Result, Ok, Err, ◌≡◌, ℕ, zero, suc, ◌+◌, ◌<◌, ◌≤◌, List, [], ◌∷◌, ◌++◌, Option, Some, None, length, map, take, drop, get_or, refl, sym, ap, subst, ◌∙◌, arith}
 use Rattle.std.specs.List.{AllZip, slice_get}
 use Rattle.std.specs.Option.{option_to_list}
 use Rattle.std.proofs.lemmas.Bool.{cases_Bool, cond-true, cond-false}
@@ -15,8 +15,8 @@ use Rattle.rules_met.specs.Met.{IsAnswer}
 use Rattle.rules_met.specs.declared.answer.RuleAnswer.{RuleAnswer}
 use Rattle.rules_met.specs.declared.answer.RuleAnswer.TheVariants.{NotMet}
 use Rattle.rules_met.proofs.AnswerLaws.{zip_push}
-use Rattle.kept_requirements.specs.Kept.{asked_rules, broken_rule, claim_count, count_on, first_on, is_asked, last_on, rules_of, rules_on}
-use Rattle.kept_requirements.specs.Notes.{IsCell, IsMeant, IsPart, IsRow, OwnNotes, cell_of, cells_of, lines_of, meant_of, part_of, parts_at, present}
+use Rattle.kept_requirements.specs.Kept.{asked_rules, broken_rule, claim_count, count_on, is_asked, rules_on}
+use Rattle.kept_requirements.specs.Notes.{IsCell, IsMeant, IsPart, IsRow, OwnNotes, cells_of, lines_of, meant_of, part_of, parts_at, present}
 use Rattle.kept_requirements.specs.declared.cells.Part.{Part}
 use Rattle.kept_requirements.specs.declared.note.RequirementNote.{RequirementNote}
 

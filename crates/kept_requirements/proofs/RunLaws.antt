@@ -1,5 +1,5 @@
 -- A note behind others joins the last of them or stands behind it.
-use Rattle.std.proofs.Common.{◌≡◌, Bool, true, false, cond, List, [], ◌∷◌, ◌++◌, refl, sym, ap, ◌∙◌, append_assoc}
+use Rattle.std.proofs.Common.{◌≡◌, true, false, cond, List, [], ◌∷◌, ◌++◌, refl, sym, ap, ◌∙◌, append_assoc}
 use Rattle.std.proofs.lemmas.Bool.{cond-true, cond-false}
 use Rattle.kept_requirements.specs.Notes.{added, extends, extended}
 use Rattle.kept_requirements.specs.declared.note.RequirementNote.{RequirementNote}

@@ -4,7 +4,7 @@
 --     broken_rule b day c      what a set meets just where it doesn't keep the claim
 --     is_asked r s             the requirement has a day in the slice
 --     rules_on b s rs          the rules that are asked on a slice, in the sequence of the requirements
-use Rattle.std.specs.Prelude.{ℕ, Bool, true, false, not, ◌&&◌, ◌||◌, List, [], ◌∷◌, ◌++◌, filter, map, nat_le, slice_get, if◌then◌else◌}
+use Rattle.std.specs.Prelude.{ℕ, Bool, false, not, ◌&&◌, ◌||◌, List, [], ◌∷◌, filter, map, nat_le, slice_get, if◌then◌else◌}
 use Rattle.std.specs.List.{flat_map, list_any}
 use Rattle.std.specs.Option.{option_map_or}
 use Rattle.pb_base.specs.Names.{same_name}

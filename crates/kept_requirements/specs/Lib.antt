@@ -1,2 +1,3 @@
 pub mod Kept
 pub mod Notes
+pub mod Rows

@@ -3,7 +3,7 @@
 --     IsCell b budget s r cell    this is right
 --     lines_of r parts        the notes on a requirement by what is answered of it on the slices where it is asked, in their sequence
 --     IsReport b budget rs notes    the notes of each requirement, in order, by right answers on all slices
-use Rattle.std.specs.Prelude.{◌≡◌, ℕ, suc, ◌+◌, Bool, true, false, not, ◌&&◌, ◌||◌, ◌==◌, List, [], ◌∷◌, ◌++◌, Option, Some, None, Ok, drop, length, slice_index_or, if◌then◌else◌}
+use Rattle.std.specs.Prelude.{◌≡◌, ℕ, ◌+◌, Bool, true, false, not, ◌&&◌, ◌||◌, ◌==◌, List, [], ◌∷◌, ◌++◌, Option, Some, None, Ok, drop, length, slice_index_or, if◌then◌else◌}
 use Rattle.std.specs.List.{AllZip, list_any}
 use Rattle.std.specs.Option.{option_to_list}
 use Rattle.pb_base.specs.InParts.{InParts}

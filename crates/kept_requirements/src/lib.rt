@@ -6,6 +6,7 @@ mod cells;
 mod check;
 mod note;
 mod notes;
+mod rows;
 mod slice;
 
 pub use cells::Part;

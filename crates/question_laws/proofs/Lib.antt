@@ -1,1 +1,3 @@
 pub mod QuestionLaws
+pub mod ReportLaws
+pub mod SupplementReportLaws

@@ -8,7 +8,7 @@ mod not_released;
 mod releasing;
 
 pub use certifying::{CertifiedBook, certify_text};
-pub use checking::{NotChecked, ReportedBook, check_text};
+pub use checking::{NotChecked, ReportedBook, check_text, check_text_by};
 pub use laws::release_laws;
 pub use not_released::NotReleased;
 pub use releasing::try_release;

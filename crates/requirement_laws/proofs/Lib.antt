@@ -2,3 +2,4 @@ pub mod ListLaws
 pub mod LineLaws
 pub mod DayLaws
 pub mod KeptLaws
+pub mod ReportLaws

@@ -11,3 +11,4 @@ mod GroupLaws
 mod SourceLaws
 pub mod ReportLaws
 mod OccursLaws
+mod SliceJoins

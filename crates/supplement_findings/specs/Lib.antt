@@ -6,3 +6,4 @@ pub mod Limits
 pub mod Notes
 pub mod Answering
 pub mod NoteOf
+pub mod Slices

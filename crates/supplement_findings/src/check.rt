@@ -15,23 +15,27 @@ use crate::laws::unasked_never_swap;
 use crate::question::SupplementQuestion;
 use crate::questions::{all_questions, slices_within};
 use crate::report::{SupplementNote, SupplementReport};
-use crate::slice::{SliceTask, check_slice};
+use crate::slices::{SliceWork, joined};
 use crate::touched::all_touched;
 use book_model::{Book, LimitFault, Slice};
-use inquiry::KeptSets;
 use pb_base::{Fail, Memory, Sequence};
+use shared_work::make_all;
 use std::alloc::Global;
+use std::thread::Threads;
 
 /// Asks of every slice of a book which of its supplementing rules break constructible sets and which swap. A question is left
-/// where so many clauses were learnt for it, each of which says what propagation did not. A book that exceeds the limits is
-/// refused with the first of them.
-pub fn check_supplements(
+/// where so many clauses were learnt for it, each of which says what propagation did not. So many workers share the slices, each
+/// with a run of neighbours. A book that exceeds the limits is refused with the first of them.
+pub fn check_supplements<R: Threads + Sync>(
+    rt: &R,
     alloc: Global,
     book: &Book,
     budget: u32,
+    workers: u32,
 ) -> Result<SupplementReport, Fail<LimitFault>>
     requires some { 0 < budget }
     requires most { budget ≤ MOST_BUDGET }
+    requires workers { 0 < workers }
     ensures limits { IfRefused result (λ fault. slices_within book.now ≡ Err fault) }
     ensures report { IfOk result (IsReport (record { book = book.now; budget = budget })) }
     ensures unasked { (day : ℕ) (s t : Supplement) (x : List Bool) → is_asked s t ≡ false
@@ -41,18 +45,29 @@ pub fn check_supplements(
     let all = all_questions(alloc, book)?;
     let slices = slices_within(alloc, book, &all)?;
     let touched = all_touched(alloc, book)?;
-    let notes = check_slices(alloc, book, slices.as_slice(), &all, &touched, budget)?;
+    let notes = check_slices(
+        rt,
+        alloc,
+        book,
+        slices.as_slice(),
+        &all,
+        &touched,
+        budget,
+        workers,
+    )?;
     Ok(SupplementReport::of(notes))
 }
 
 // The notes on slices.
-fn check_slices(
+fn check_slices<R: Threads + Sync>(
+    rt: &R,
     alloc: Global,
     book: &Book,
     slices: &[Slice],
     all: &[SupplementQuestion],
     touched: &[Sequence<u32>],
     budget: u32,
+    workers: u32,
 ) -> Result<Vec<SupplementNote>, Memory>
     requires steady { All (IsSteady book.now) slices.now }
     requires order { All IsOrdered slices.now }
@@ -60,17 +75,16 @@ fn check_slices(
     requires touched { AreTouched (length book.now.codes) book.now.constructs touched.now }
     requires some { 0 < budget }
     requires most { budget ≤ MOST_BUDGET }
+    requires workers { 0 < workers }
     ensures { IfOk result (λ notes. InParts (SliceNotes (inquiry book.now budget)) slices.now notes.items) }
 {
-    let mut notes = Vec::new(alloc);
-    let mut sets = KeptSets::new(alloc);
-    for slice in slices {
-        let task = SliceTask {
-            slice: *slice,
-            budget,
-        };
-        let mut own = check_slice(alloc, book, task, all, touched, &mut sets)?;
-        notes.append(&mut own)?;
-    }
+    let work = SliceWork {
+        book,
+        all,
+        touched,
+        budget,
+    };
+    let each = make_all(rt, alloc, &work, slices, workers)?;
+    let notes = joined(alloc, each)?;
     Ok(notes)
 }

@@ -14,6 +14,7 @@ mod questions;
 mod report;
 mod sets;
 mod slice;
+mod slices;
 mod source;
 mod touched;
 

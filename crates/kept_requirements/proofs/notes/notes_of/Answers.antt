@@ -1,5 +1,4 @@
 use Rattle.std.proofs.Common.{◌≡◌, ◌<◌, length, ap, ◌∙◌, arith}
-use Rattle.pb_base.specs.InParts.{InParts}
 use Rattle.inquiry.proofs.PartLaws.{part_noted}
 use Rattle.kept_requirements.specs.Notes.{OwnNotes, lines_of, parts_at}
 use Rattle.kept_requirements.proofs.CellLaws.{own_notes}

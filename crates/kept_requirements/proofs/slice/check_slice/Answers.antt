@@ -1,9 +1,8 @@
-use Rattle.std.proofs.Common.{List, ◌≡◌, ◌+◌, ◌<◌, length, sym, ap, subst, ◌∙◌, arith, All}
+use Rattle.std.proofs.Common.{List, ◌≡◌, length, sym, ap, subst, ◌∙◌, arith, All}
 use Rattle.std.specs.List.{AllZip}
 use Rattle.pb_base.specs.Rule.{Rule}
 use Rattle.rules_met.specs.Met.{IsAnswer, RuleIsSmall}
 use Rattle.kept_requirements.specs.Kept.{rules_on}
-use Rattle.kept_requirements.specs.Notes.{IsRow}
 use Rattle.kept_requirements.proofs.AskedLaws.{rules_few, rules_small}
 use Rattle.kept_requirements.proofs.CellLaws.{row_through}
 use Rattle.kept_requirements.proofs.slice.check_slice.Goals as goal

@@ -1,19 +1,17 @@
-use Rattle.std.proofs.Common.{◌<◌, length, arith}
-use Rattle.book_model.specs.declared.record.Slice.{Slice}
+use Rattle.std.proofs.Common.{sym, subst}
+use Rattle.pb_base.specs.InParts.{InParts}
 use Rattle.supplement_findings.specs.Answering.{inquiry}
 use Rattle.supplement_findings.specs.Notes.{SliceNotes}
-use Rattle.inquiry.proofs.PartLaws.{part_noted}
+use Rattle.supplement_findings.proofs.SliceJoins.{all_tasks, whole_of_each}
 use Rattle.supplement_findings.proofs.check.check_slices.Goals as goal
 
-pub loop-slice-preserved : goal.loop-slice-preserved
-loop-slice-preserved c =
-    let slices = c.args.slices.now in
-    let k = c.loop-slice.slice-index in
-    let none : Slice = record { first = 0; last = 0 } in
-    let below : k < length slices = omega arith in
-    record {
-      parts =
-          part_noted (SliceNotes (inquiry c.args.book.now c.args.budget)) slices k none c.loop-slice.notes.items c.append.new.self.items c.in_ok-own.own.items below
-          c.loop-slice.invariant.parts c.in_ok-own.ensures.notes c.in_ok-append.ensures.items;
-      counted = c.in_ok-own.ensures.counted;
-    }
+pub make_all-requires-clause-ready : goal.make_all-requires-clause-ready
+make_all-requires-clause-ready g c κs lives = record { whole = c.requires.all; rules = c.requires.touched }
+
+pub make_all-requires-clause-given : goal.make_all-requires-clause-given
+make_all-requires-clause-given g c κs lives = all_tasks c.args.book.now c.args.budget c.args.slices.now c.requires.order c.requires.steady c.requires.some c.requires.most
+
+pub returns : goal.returns
+returns g c =
+    let is_part = SliceNotes (inquiry c.args.book.now c.args.budget) in
+    subst (InParts is_part c.args.slices.now) (sym c.in_ok-notes.ensures) (whole_of_each is_part c.args.slices.now c.in_ok-each.each.items c.in_ok-each.ensures)

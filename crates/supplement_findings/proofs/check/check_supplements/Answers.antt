@@ -8,11 +8,11 @@ use Rattle.supplement_findings.proofs.ReportLaws.{refusal_passed}
 use Rattle.supplement_findings.proofs.check.check_supplements.Goals as goal
 
 pub returns-in_err-slices-clause-limits : goal.returns-in_err-slices-clause-limits
-returns-in_err-slices-clause-limits c =
+returns-in_err-slices-clause-limits g c =
     refusal_passed c.from_residual-in_err-slices.result c.in_err-slices.field-0.0 (slices_within c.args.book.now) c.from_residual-in_err-slices.ensures c.in_err-slices.ensures.answer
 
 pub returns-clause-report : goal.returns-clause-report
-returns-clause-report c =
+returns-clause-report g c =
     let i = inquiry c.args.book.now c.args.budget in
     record {
       slices = c.in_ok-slices.slices;

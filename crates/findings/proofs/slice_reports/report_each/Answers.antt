@@ -1,10 +1,11 @@
 use Rattle.std.proofs.Common.{◌≡◌, List, [], ◌∷◌, ◌++◌, ◌+◌, ◌<◌, get_or, length, take, sym, subst, arith}
+use Rattle.std.specs.List.{AllZip}
 use Rattle.std.proofs.lemmas.List.{take_more}
+use Rattle.std.proofs.lemmas.Slice.Zip.{all_zipped_more}
 use Rattle.book_model.specs.declared.record.Slice.{Slice}
-use Rattle.findings.specs.Notes.{InParts, SliceNotes}
 use Rattle.findings.specs.Answering.{inquiry}
-use Rattle.findings.proofs.ToldLaws.{parts_more}
-use Rattle.findings.proofs.check.report_each.Goals as goal
+use Rattle.findings.specs.Notes.{SliceNotes}
+use Rattle.findings.proofs.slice_reports.report_each.Goals as goal
 
 pub loop-slice-preserved : goal.loop-slice-preserved
 loop-slice-preserved c =
@@ -17,8 +18,8 @@ loop-slice-preserved c =
     let next : take (k + 1) slices ≡ take k slices ++ s ∷ [] = take_more slices k none below in
     record {
       notes =
-          subst (λ (ss : List Slice). InParts (SliceNotes i) ss c.append.new.self.items) (sym next)
-          (subst (InParts (SliceNotes i) (take k slices ++ s ∷ [])) (sym c.in_ok-append.ensures.items)
-          (parts_more (SliceNotes i) (take k slices) s c.loop-slice.all.items c.in_ok-notes.notes.items c.loop-slice.invariant.notes c.in_ok-notes.ensures.notes));
-      earlier = c.in_ok-notes.ensures.earlier;
+          subst (λ (ss : List Slice). AllZip (SliceNotes i) ss c.push.new.self.items) (sym next)
+          (subst (AllZip (SliceNotes i) (take k slices ++ s ∷ [])) (sym c.in_ok-push.ensures.items)
+          (all_zipped_more (SliceNotes i) (take k slices) c.loop-slice.reports.items s c.in_ok-report.report c.loop-slice.invariant.notes c.in_ok-report.ensures.notes));
+      earlier = c.in_ok-report.ensures.earlier;
     }

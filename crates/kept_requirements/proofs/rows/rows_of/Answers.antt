@@ -1,9 +1,7 @@
-use Rattle.std.proofs.Common.{◌<◌, length, subst, sym, arith}
-use Rattle.std.specs.List.{AllZip}
+use Rattle.std.proofs.Common.{◌<◌, length, arith}
 use Rattle.book_model.specs.declared.record.Slice.{Slice}
-use Rattle.kept_requirements.specs.Notes.{IsRow}
 use Rattle.kept_requirements.proofs.CellLaws.{row_next}
-use Rattle.kept_requirements.proofs.check.rows_of.Goals as goal
+use Rattle.kept_requirements.proofs.rows.rows_of.Goals as goal
 
 pub loop-slice-preserved : goal.loop-slice-preserved
 loop-slice-preserved c =

@@ -1,0 +1,7 @@
+use Rattle.std.proofs.Common.{◌≡◌, List}
+use Rattle.findings.specs.Notes.{InParts}
+use Rattle.findings.specs.declared.report.Note.{Note}
+use Rattle.findings.proofs.slice_reports.joined.Given as goal
+
+abbrev pub invariant-loop-report : goal.invariant-loop-report
+invariant-loop-report l = InParts (λ (report own : List Note). report ≡ own) l.yielded l.all.items
