@@ -1,3 +1,4 @@
+pub mod Budget
 pub mod Days
 pub mod Differs
 pub mod Changes

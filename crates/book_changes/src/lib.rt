@@ -7,6 +7,7 @@ mod count;
 mod days;
 mod differs;
 mod run;
+mod run_work;
 mod runs;
 mod text;
 

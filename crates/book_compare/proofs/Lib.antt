@@ -20,3 +20,4 @@ pub mod SameLaws
 pub mod StepRuns
 pub mod TermLaws
 pub mod SourceLaws
+pub mod PackLaws

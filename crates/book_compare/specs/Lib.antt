@@ -13,3 +13,4 @@ pub mod Searched
 pub mod Source
 pub mod CompareText
 pub mod Same
+pub mod Packs

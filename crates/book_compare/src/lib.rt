@@ -7,6 +7,7 @@ mod keys;
 mod note;
 mod notes;
 mod numbering;
+mod packs;
 mod place;
 mod position;
 mod positions;
@@ -16,5 +17,5 @@ mod source;
 mod text;
 
 pub use note::{CompareNote, Outside};
-pub use positions::compare;
+pub use positions::{compare, compare_by};
 pub use text::{any_finding, any_undecided, compare_text, findings_in};

@@ -6,6 +6,9 @@ use pb_base::Id;
 /// them takes at most 402.
 pub(crate) const MOST_OF_POSITION: u32 = 160_801;
 
+/// The most positions that share a solver. Each adds variables that a search has to give a value, also where it asks of another.
+pub(crate) const MOST_TOGETHER: u32 = 16;
+
 /// The position of an id, and a guess where it stands in the books.
 #[derive(Clone, Copy)]
 pub(crate) struct Place {

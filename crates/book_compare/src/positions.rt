@@ -13,6 +13,7 @@ use crate::comparing::Comparing;
 use crate::joint::Joint;
 use crate::note::{CompareNote, Outside};
 use crate::notes::notes_on;
+use crate::packs::notes_by;
 use crate::place::Place;
 use crate::same::same_at;
 use book_model::{Book, active};
@@ -20,6 +21,7 @@ use chosen_parts::place_of_position;
 use pb_base::{Day, Fail, Id, Memory};
 use release::Released;
 use std::alloc::Global;
+use std::thread::Threads;
 
 /// What changes from one book to another on a day: for each position, first those of the first book, then those that only the
 /// second has, a car that gets other parts there, or a note that the search was given up behind so many learnt clauses. A position
@@ -44,6 +46,34 @@ pub fn compare(
     match outside(one, other, day) {
         Some(book) => Err(Fail::Refused(book)),
         None => Ok(compare_on(alloc, one, other, day, budget)?),
+    }
+}
+
+/// The same by so many workers, who share the positions that have to be searched, each with a run of neighbours.
+pub fn compare_by<R: Threads + Sync>(
+    rt: &R,
+    alloc: Global,
+    first: &Released,
+    second: &Released,
+    day: Day,
+    budget: u32,
+    workers: u32,
+) -> Result<Vec<CompareNote>, Fail<Outside>>
+    requires some { 0 < budget }
+    requires most { budget ≤ MOST_BUDGET }
+    requires workers { 0 < workers }
+    ensures notes { IfOk result (λ notes.
+        IsComparison first.now.book second.now.book day budget notes.items) }
+    ensures inside { IfOk result (λ _. outside first.now.book second.now.book day ≡ None) }
+    ensures outside { IfRefused result (λ book. outside first.now.book second.now.book day ≡ Some book) }
+{
+    let one = first.book();
+    let other = second.book();
+    let _codes = one.codes();
+    let _others = other.codes();
+    match outside(one, other, day) {
+        Some(book) => Err(Fail::Refused(book)),
+        None => Ok(compare_on_by(rt, alloc, one, other, day, budget, workers)?),
     }
 }
 
@@ -102,6 +132,51 @@ fn compare_all(
 {
     let places = places_to_search(alloc, comparing)?;
     let notes = notes_on(alloc, comparing, budget, &places)?;
+    Ok(notes)
+}
+
+fn compare_on_by<R: Threads + Sync>(
+    rt: &R,
+    alloc: Global,
+    first: &Book,
+    second: &Book,
+    day: Day,
+    budget: u32,
+    workers: u32,
+) -> Result<Vec<CompareNote>, Memory>
+    requires books { AreBooks first.now second.now day }
+    requires some { 0 < budget }
+    requires most { budget ≤ MOST_BUDGET }
+    requires workers { 0 < workers }
+    ensures { IfOk result (λ notes. IsComparison first.now second.now day budget notes.items) }
+{
+    first.codes().names_law();
+    let joint = Joint::of(alloc, first, second, day)?;
+    let comparing = Comparing {
+        joint,
+        first,
+        second,
+        day,
+    };
+    compare_all_by(rt, alloc, &comparing, budget, workers)
+}
+
+fn compare_all_by<R: Threads + Sync>(
+    rt: &R,
+    alloc: Global,
+    comparing: &Comparing,
+    budget: u32,
+    workers: u32,
+) -> Result<Vec<CompareNote>, Memory>
+    requires ready { IsComparing comparing.now }
+    requires some { 0 < budget }
+    requires most { budget ≤ MOST_BUDGET }
+    requires workers { 0 < workers }
+    ensures { let c = comparing.now in
+        IfOk result (λ notes. IsComparison c.first.now c.second.now c.day budget notes.items) }
+{
+    let places = places_to_search(alloc, comparing)?;
+    let notes = notes_by(rt, alloc, comparing, budget, &places, workers)?;
     Ok(notes)
 }
 

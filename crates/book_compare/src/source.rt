@@ -3,14 +3,11 @@ ghost use Rattle.book_compare.specs.Comparing.{IsComparing};
 ghost use Rattle.book_compare.specs.Source.{form_of};
 
 use crate::comparing::Comparing;
-use crate::place::{MOST_OF_POSITION, Place};
+use crate::place::{MOST_OF_POSITION, MOST_TOGETHER, Place};
 use crate::position::encoded;
 use inquiry::{Coded, Inquiry};
 use pb_base::{CodeSet, Memory};
 use std::alloc::Global;
-
-// The most positions that share a solver. Each adds variables that a search has to give a value, also where it asks of another.
-const MOST_TOGETHER: u32 = 16;
 
 // Each position asks for a car that both books allow and that gets other parts there by the second.
 impl<'a> Inquiry for Comparing<'a> {

@@ -6,15 +6,15 @@ use Rattle.book_changes.specs.Days.{IsJointRun, joint_runs}
 use Rattle.book_changes.proofs.DayLaws.{runs_are}
 use Rattle.book_changes.proofs.runs.changes_on.Goals as goal
 
-pub notes_on-requires-clause-runs : goal.notes_on-requires-clause-runs
-notes_on-requires-clause-runs c =
+pub make_all-requires-clause-given : goal.make_all-requires-clause-given
+make_all-requires-clause-given g c κs lives =
     let one = c.args.first.now.book in
     let other = c.args.second.now.book in
     let runs = c.deref.ensures.value ∙ c.in_ok-runs.ensures ∙ ap (λ (ss : List Slice). joint_runs ss c.as_slice-2.result.now) c.as_slice.ensures ∙ ap (joint_runs c.args.own.now) c.as_slice-2.ensures in
     subst (All (IsJointRun one other)) (sym runs) (runs_are one other c.args.own.now c.args.others.now c.requires.own.each c.requires.others.each)
 
 pub returns : goal.returns
-returns c =
+returns g c =
     let one = c.args.first.now.book in
     let other = c.args.second.now.book in
     let runs = c.deref.ensures.value ∙ c.in_ok-runs.ensures ∙ ap (λ (ss : List Slice). joint_runs ss c.as_slice-2.result.now) c.as_slice.ensures ∙ ap (joint_runs c.args.own.now) c.as_slice-2.ensures in

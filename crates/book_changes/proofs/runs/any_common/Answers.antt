@@ -1,4 +1,0 @@
-use Rattle.book_changes.proofs.runs.any_common.Goals as goal
-
-pub returns-then-is_empty-clause-common : goal.returns-then-is_empty-clause-common
-returns-then-is_empty-clause-common c = c.kept_common.ensures c.args.budget
