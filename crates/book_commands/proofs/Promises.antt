@@ -186,14 +186,14 @@ days_lawful ordered = record {
 pub lawful : (command : BookCommand) → IsLawful (promise_of command)
 unfolding promise_of
 lawful (Order day ordered) = order_lawful day ordered
-lawful (Check budget) = check_lawful budget
+lawful (Check budget workers) = check_lawful budget
 lawful (Prove budget) = proof_lawful budget
 lawful (Verify file) = verify_lawful file
-lawful (Supplements budget) = supplements_lawful budget
-lawful (Compare day file budget) = compare_lawful day file budget
+lawful (Supplements budget workers) = supplements_lawful budget
+lawful (Compare day file budget workers) = compare_lawful day file budget
 lawful (Free day ordered budget) = free_lawful day ordered budget
 lawful (Why day ordered budget) = why_lawful day ordered budget
 lawful (Ask day rule budget) = ask_lawful day rule budget
 lawful (Days ordered) = days_lawful ordered
-lawful (Require file budget) = require_lawful file budget
-lawful (Changes file budget) = changes_lawful file budget
+lawful (Require file budget workers) = require_lawful file budget
+lawful (Changes file budget workers) = changes_lawful file budget

@@ -15,14 +15,14 @@ use Rattle.book_commands.specs.Why.{why_promise}
 
 unfoldable pub promise_of : BookCommand → Promise
 promise_of (Order day ordered) = order_promise day ordered
-promise_of (Check budget) = check_promise budget
+promise_of (Check budget workers) = check_promise budget
 promise_of (Prove budget) = proof_promise budget
 promise_of (Verify file) = verify_promise file
-promise_of (Supplements budget) = supplements_promise budget
-promise_of (Compare day file budget) = compare_promise day file budget
+promise_of (Supplements budget workers) = supplements_promise budget
+promise_of (Compare day file budget workers) = compare_promise day file budget
 promise_of (Free day ordered budget) = free_promise day ordered budget
 promise_of (Why day ordered budget) = why_promise day ordered budget
 promise_of (Ask day rule budget) = ask_promise day rule budget
 promise_of (Days ordered) = days_promise ordered
-promise_of (Require file budget) = require_promise file budget
-promise_of (Changes file budget) = changes_promise file budget
+promise_of (Require file budget workers) = require_promise file budget
+promise_of (Changes file budget workers) = changes_promise file budget

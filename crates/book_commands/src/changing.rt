@@ -1,5 +1,5 @@
 //! What changes from one released book to another.
-ghost use Rattle.std.specs.Prelude.{◌≡◌, IfOk, map};
+ghost use Rattle.std.specs.Prelude.{◌≡◌, ◌<◌, IfOk, map};
 ghost use Rattle.book_commands.specs.ChangesReply.{RepliesToChanges, changes_reply, changes_status};
 ghost use Rattle.book_commands.specs.declared.log.Note.TheVariants.{Change};
 
@@ -12,17 +12,21 @@ use command_words::Budget;
 use pb_base::{Fail, Memory};
 use release::Released;
 use std::alloc::Global;
+use std::thread::Threads;
 
-/// What changes on all days of both terms.
-pub(crate) fn changed_reply(
+/// What changes on all days of both terms, by so many workers.
+pub(crate) fn changed_reply<R: Threads + Sync>(
+    rt: &R,
     alloc: Global,
     first: &Released,
     second: &Released,
     budget: &Budget,
+    workers: u32,
 ) -> Result<RunReply, Memory>
+    requires { 0 < workers }
     ensures { IfOk result (RepliesToChanges first.now.book second.now.book budget.now) }
 {
-    match changes(alloc, first, second, budget.clauses()) {
+    match changes(rt, alloc, first, second, budget.clauses(), workers) {
         Ok(runs) => runs_reply(alloc, first, second, budget, runs),
         Err(Fail::Refused(fault)) => limit_fault_reply(alloc, fault),
         Err(Fail::Memory) => Err(Memory),

@@ -13,20 +13,27 @@ use crate::logged::logged;
 use crate::run_reply::RunReply;
 use crate::run_status::RunStatus;
 use book_model::{Book, LimitFault};
-use command_words::Budget;
+use command_words::{Budget, Workers};
 use findings::{Report, Verdict, verdict_of};
 use pb_base::{Fail, Memory};
 use pb_reports::report_text;
 use release_check::{
-    CertifiedBook, NotChecked, NotReleased, ReportedBook, certify_text, check_text,
+    CertifiedBook, NotChecked, NotReleased, ReportedBook, certify_text, check_text_by,
 };
 use std::alloc::Global;
+use std::thread::Threads;
 
-/// What is wrong with the book of the text, by all questions.
-pub fn check_reply(alloc: Global, text: &[u8], budget: &Budget) -> Result<RunReply, Memory>
+/// What is wrong with the book of the text, by all questions, asked by so many workers.
+pub fn check_reply<R: Threads + Sync>(
+    rt: &R,
+    alloc: Global,
+    text: &[u8],
+    budget: &Budget,
+    workers: &Workers,
+) -> Result<RunReply, Memory>
     ensures { IfOk result (RepliesToCheck (book_of text.now) budget.now) }
 {
-    match check_text(alloc, text, budget.clauses()) {
+    match check_text_by(rt, alloc, text, budget.clauses(), workers.count()) {
         Ok(ReportedBook { book, report }) => {
             // Every book meets the conditions on its records, so a right report of it tells whether it can be released.
             book.codes();

@@ -1,5 +1,5 @@
 //! Compares the books of two texts, on a day or on all days.
-ghost use Rattle.std.specs.Prelude.{◌≡◌, ◌++◌, Some, Err, IfOk, OnOk, map};
+ghost use Rattle.std.specs.Prelude.{◌≡◌, ◌++◌, ◌<◌, Some, Err, IfOk, OnOk, map};
 ghost use Rattle.std.specs.Option.{option_map};
 ghost use Rattle.pb_base.specs.Answers.{IfRefused};
 ghost use Rattle.pb_outside.specs.Files.{FailsToRead};
@@ -16,15 +16,16 @@ use crate::judge::book_fault_reply;
 use crate::log::Note;
 use crate::run_reply::RunReply;
 use crate::run_status::RunStatus;
-use book_compare::{CompareNote, Outside, any_finding, any_undecided, compare, compare_text};
+use book_compare::{CompareNote, Outside, any_finding, any_undecided, compare_by, compare_text};
 use book_text::{BookFault, BookKind};
-use command_words::{Budget, FileName};
+use command_words::{Budget, FileName, Workers};
 use pb_base::limits::MOST_TEXT_BYTES;
 use pb_base::{Body, Day, Fail, Memory, Text};
 use pb_outside::{Files, OutError};
 use release::Released;
 use release_check::{NotReleased, try_release};
 use std::alloc::Global;
+use std::thread::Threads;
 
 /// The days on which two books are compared.
 #[derive(Clone, Copy)]
@@ -35,13 +36,16 @@ pub enum Span {
     AllDays,
 }
 
-/// What changes from the book of the text to the book in the file, on a day. Both texts are read before either is looked at.
-pub fn compare_reply<F: Files>(
+/// What changes from the book of the text to the book in the file, on a day, by so many workers. Both texts are read before either is
+/// looked at.
+pub fn compare_reply<R: Threads + Sync, F: Files>(
+    rt: &R,
     alloc: Global,
     text: &[u8],
     day: Day,
     file: &FileName,
     budget: &Budget,
+    workers: &Workers,
     files: &mut F,
 ) -> Result<RunReply, OutError>
     ensures reply { IfOk result (RepliesToCompare text.now (OnDay day) file.now budget.now
@@ -50,15 +54,26 @@ pub fn compare_reply<F: Files>(
         result ≡ Err OutError.Failed → fails }
     ensures kept { ReadsFiles (F.told files.old) (F.told files.new) }
 {
-    reply_over(alloc, text, Span::OnDay(day), file, budget, files)
+    reply_over(
+        rt,
+        alloc,
+        text,
+        Span::OnDay(day),
+        file,
+        budget,
+        workers.count(),
+        files,
+    )
 }
 
 /// The same on all days of both terms.
-pub fn changes_reply<F: Files>(
+pub fn changes_reply<R: Threads + Sync, F: Files>(
+    rt: &R,
     alloc: Global,
     text: &[u8],
     file: &FileName,
     budget: &Budget,
+    workers: &Workers,
     files: &mut F,
 ) -> Result<RunReply, OutError>
     ensures reply { IfOk result (RepliesToCompare text.now AllDays file.now budget.now
@@ -67,17 +82,29 @@ pub fn changes_reply<F: Files>(
         result ≡ Err OutError.Failed → fails }
     ensures kept { ReadsFiles (F.told files.old) (F.told files.new) }
 {
-    reply_over(alloc, text, Span::AllDays, file, budget, files)
+    reply_over(
+        rt,
+        alloc,
+        text,
+        Span::AllDays,
+        file,
+        budget,
+        workers.count(),
+        files,
+    )
 }
 
-fn reply_over<F: Files>(
+fn reply_over<R: Threads + Sync, F: Files>(
+    rt: &R,
     alloc: Global,
     text: &[u8],
     span: Span,
     file: &FileName,
     budget: &Budget,
+    workers: u32,
     files: &mut F,
 ) -> Result<RunReply, OutError>
+    requires { 0 < workers }
     ensures reply { IfOk result (RepliesToCompare text.now span file.now budget.now
         (F.told files.old) (F.told files.new)) }
     ensures cause { let fails = FailsToRead file.now (F.told files.old) (F.told files.new) in
@@ -85,40 +112,46 @@ fn reply_over<F: Files>(
     ensures kept { ReadsFiles (F.told files.old) (F.told files.new) }
 {
     match files.read(alloc, file.as_str(), MOST_TEXT_BYTES) {
-        Ok(content) => Ok(texts_reply(alloc, text, content, span, budget)?),
+        Ok(content) => Ok(texts_reply(rt, alloc, text, content, span, budget, workers)?),
         Err(error) => Err(error),
     }
 }
 
-fn texts_reply(
+fn texts_reply<R: Threads + Sync>(
+    rt: &R,
     alloc: Global,
     text: &[u8],
     content: Option<Vec<u8>>,
     span: Span,
     budget: &Budget,
+    workers: u32,
 ) -> Result<RunReply, Memory>
+    requires { 0 < workers }
     ensures { let second = option_map (λ bytes. bytes.items) content in
         IfOk result (RepliesToTexts text.now second span budget.now) }
 {
     match released(alloc, text, budget) {
-        Ok(book) => second_reply(alloc, &book, content, span, budget),
+        Ok(book) => second_reply(rt, alloc, &book, content, span, budget, workers),
         Err(Fail::Refused(why)) => kept_back_reply(alloc, why),
         Err(Fail::Memory) => Err(Memory),
     }
 }
 
-fn second_reply(
+fn second_reply<R: Threads + Sync>(
+    rt: &R,
     alloc: Global,
     first: &Released,
     content: Option<Vec<u8>>,
     span: Span,
     budget: &Budget,
+    workers: u32,
 ) -> Result<RunReply, Memory>
+    requires { 0 < workers }
     ensures { let second = option_map (λ bytes. bytes.items) content in
         IfOk result (RepliesToSecond first.now.book second span budget.now) }
 {
     match content {
-        Some(text) => released_reply(alloc, first, &text, span, budget),
+        Some(text) => released_reply(rt, alloc, first, &text, span, budget, workers),
         None => book_fault_reply(
             alloc,
             BookFault {
@@ -129,48 +162,57 @@ fn second_reply(
     }
 }
 
-fn released_reply(
+fn released_reply<R: Threads + Sync>(
+    rt: &R,
     alloc: Global,
     first: &Released,
     text: &[u8],
     span: Span,
     budget: &Budget,
+    workers: u32,
 ) -> Result<RunReply, Memory>
+    requires { 0 < workers }
     ensures { IfOk result (RepliesToSecond first.now.book (Some text.now) span budget.now) }
 {
     match released(alloc, text, budget) {
-        Ok(second) => released_over(alloc, first, &second, span, budget),
+        Ok(second) => released_over(rt, alloc, first, &second, span, budget, workers),
         Err(Fail::Refused(why)) => kept_back_reply(alloc, why),
         Err(Fail::Memory) => Err(Memory),
     }
 }
 
-fn released_over(
+fn released_over<R: Threads + Sync>(
+    rt: &R,
     alloc: Global,
     first: &Released,
     second: &Released,
     span: Span,
     budget: &Budget,
+    workers: u32,
 ) -> Result<RunReply, Memory>
+    requires { 0 < workers }
     ensures { IfOk result (RepliesOver span first.now.book second.now.book budget.now) }
 {
     match span {
-        Span::OnDay(day) => compared_reply(alloc, first, second, day, budget),
-        Span::AllDays => changed_reply(alloc, first, second, budget),
+        Span::OnDay(day) => compared_reply(rt, alloc, first, second, day, budget, workers),
+        Span::AllDays => changed_reply(rt, alloc, first, second, budget, workers),
     }
 }
 
-fn compared_reply(
+fn compared_reply<R: Threads + Sync>(
+    rt: &R,
     alloc: Global,
     first: &Released,
     second: &Released,
     day: Day,
     budget: &Budget,
+    workers: u32,
 ) -> Result<RunReply, Memory>
+    requires { 0 < workers }
     ensures { let which = outside first.now.book second.now.book day in
         IfOk result (RepliesByDay which first.now.book second.now.book day budget.now) }
 {
-    match compare(alloc, first, second, day, budget.clauses()) {
+    match compare_by(rt, alloc, first, second, day, budget.clauses(), workers) {
         Ok(notes) => notes_reply(alloc, notes),
         Err(Fail::Refused(which)) => outside_reply(alloc, which),
         Err(Fail::Memory) => Err(Memory),

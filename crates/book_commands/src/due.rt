@@ -23,12 +23,14 @@ use pb_base::Memory;
 use pb_base::limits::MOST_TEXT_BYTES;
 use pb_outside::{Files, OutError, Source, read_up_to};
 use std::alloc::Global;
+use std::thread::Threads;
 
 // One byte more than a book's text may have shows that it is too large.
 const INPUT_LIMIT: usize = MOST_TEXT_BYTES + 1;
 
-/// Reads the input, and what else the command reads, and gives the reply.
-pub fn due_reply<S: Source, F: Files>(
+/// Reads the input, and what else the command reads, and gives the reply. Threads are used where the words ask for several workers.
+pub fn due_reply<R: Threads + Sync, S: Source, F: Files>(
+    rt: &R,
     alloc: Global,
     command: &BookCommand,
     source: &mut S,
@@ -49,7 +51,7 @@ pub fn due_reply<S: Source, F: Files>(
         }
         Err(OutError::Memory) => return Err(Memory),
     };
-    match command_reply(alloc, command, &input, files) {
+    match command_reply(rt, alloc, command, &input, files) {
         Ok(reply) => Ok(reply),
         Err(OutError::Failed) => RunReply::read_fault(
             alloc,
@@ -62,7 +64,8 @@ pub fn due_reply<S: Source, F: Files>(
 }
 
 #[tactic(auto, unfolding(crate::specs::Promises::promise_of))]
-fn command_reply<F: Files>(
+fn command_reply<R: Threads + Sync, F: Files>(
+    rt: &R,
     alloc: Global,
     command: &BookCommand,
     input: &[u8],
@@ -82,15 +85,30 @@ fn command_reply<F: Files>(
             Ok(why_reply(alloc, input, *day, codes, budget)?)
         }
         BookCommand::Ask { day, rule, budget } => Ok(ask_reply(alloc, input, *day, rule, budget)?),
-        BookCommand::Check { budget } => Ok(check_reply(alloc, input, budget)?),
+        BookCommand::Check { budget, workers } => {
+            Ok(check_reply(rt, alloc, input, budget, workers)?)
+        }
         BookCommand::Prove { budget } => Ok(proof_reply(alloc, input, budget)?),
         BookCommand::Verify { file } => verify_reply(alloc, input, file, files),
-        BookCommand::Supplements { budget } => Ok(supplements_reply(alloc, input, budget)?),
-        BookCommand::Compare { day, file, budget } => {
-            compare_reply(alloc, input, *day, file, budget, files)
+        BookCommand::Supplements { budget, workers } => {
+            Ok(supplements_reply(rt, alloc, input, budget, workers)?)
         }
+        BookCommand::Compare {
+            day,
+            file,
+            budget,
+            workers,
+        } => compare_reply(rt, alloc, input, *day, file, budget, workers, files),
         BookCommand::Days { codes } => Ok(days_reply(alloc, input, codes)?),
-        BookCommand::Require { file, budget } => require_reply(alloc, input, file, budget, files),
-        BookCommand::Changes { file, budget } => changes_reply(alloc, input, file, budget, files),
+        BookCommand::Require {
+            file,
+            budget,
+            workers,
+        } => require_reply(rt, alloc, input, file, budget, workers, files),
+        BookCommand::Changes {
+            file,
+            budget,
+            workers,
+        } => changes_reply(rt, alloc, input, file, budget, workers, files),
     }
 }

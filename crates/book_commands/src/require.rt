@@ -16,7 +16,7 @@ use crate::run_reply::RunReply;
 use crate::run_status::RunStatus;
 use book_model::Book;
 use book_text::{BookKind, read_book};
-use command_words::{Budget, FileName};
+use command_words::{Budget, FileName, Workers};
 use kept_requirements::{RequirementNote, any_fails, any_undecided, check_requirements};
 use pb_base::limits::MOST_TEXT_BYTES;
 use pb_base::{Fail, Memory};
@@ -24,13 +24,17 @@ use pb_outside::{Files, OutError};
 use requirement_text::{requirement_fault_text, requirement_text};
 use requirements::{Requirement, RequirementFault, RequirementKind, read_requirements};
 use std::alloc::Global;
+use std::thread::Threads;
 
-/// Whether the cars of the book of the text keep the requirements in the file. Both texts are read before either is looked at.
-pub fn require_reply<F: Files>(
+/// Whether the cars of the book of the text keep the requirements in the file, by so many workers. Both texts are read before either
+/// is looked at.
+pub fn require_reply<R: Threads + Sync, F: Files>(
+    rt: &R,
     alloc: Global,
     text: &[u8],
     file: &FileName,
     budget: &Budget,
+    workers: &Workers,
     files: &mut F,
 ) -> Result<RunReply, OutError>
     ensures reply { IfOk result (RepliesToRequire text.now file.now budget.now (F.told files.old) (F.told files.new)) }
@@ -39,38 +43,42 @@ pub fn require_reply<F: Files>(
     ensures kept { ReadsFiles (F.told files.old) (F.told files.new) }
 {
     match files.read(alloc, file.as_str(), MOST_TEXT_BYTES) {
-        Ok(content) => Ok(texts_reply(alloc, text, content, budget)?),
+        Ok(content) => Ok(texts_reply(rt, alloc, text, content, budget, workers)?),
         Err(error) => Err(error),
     }
 }
 
-fn texts_reply(
+fn texts_reply<R: Threads + Sync>(
+    rt: &R,
     alloc: Global,
     text: &[u8],
     content: Option<Vec<u8>>,
     budget: &Budget,
+    workers: &Workers,
 ) -> Result<RunReply, Memory>
     ensures { let stated = option_map (λ bytes. bytes.items) content in
         IfOk result (RepliesToTexts (book_of text.now) stated budget.now) }
 {
     match read_book(alloc, text) {
-        Ok(book) => content_reply(alloc, &book, content, budget),
+        Ok(book) => content_reply(rt, alloc, &book, content, budget, workers),
         Err(Fail::Refused(fault)) => book_fault_reply(alloc, fault),
         Err(Fail::Memory) => Err(Memory),
     }
 }
 
-fn content_reply(
+fn content_reply<R: Threads + Sync>(
+    rt: &R,
     alloc: Global,
     book: &Book,
     content: Option<Vec<u8>>,
     budget: &Budget,
+    workers: &Workers,
 ) -> Result<RunReply, Memory>
     ensures { let stated = option_map (λ bytes. bytes.items) content in
         IfOk result (RepliesOnBook book.now stated budget.now) }
 {
     match content {
-        Some(text) => stated_reply(alloc, book, &text, budget),
+        Some(text) => stated_reply(rt, alloc, book, &text, budget, workers),
         None => fault_reply(
             alloc,
             RequirementFault {
@@ -81,32 +89,43 @@ fn content_reply(
     }
 }
 
-fn stated_reply(
+fn stated_reply<R: Threads + Sync>(
+    rt: &R,
     alloc: Global,
     book: &Book,
     text: &[u8],
     budget: &Budget,
+    workers: &Workers,
 ) -> Result<RunReply, Memory>
     ensures { IfOk result (RepliesOnBook book.now (Some text.now) budget.now) }
 {
     match read_requirements(alloc, text, book) {
-        Ok(requirements) => checked_reply(alloc, book, &requirements, budget),
+        Ok(requirements) => checked_reply(rt, alloc, book, &requirements, budget, workers),
         Err(Fail::Refused(fault)) => fault_reply(alloc, fault),
         Err(Fail::Memory) => Err(Memory),
     }
 }
 
-fn checked_reply(
+fn checked_reply<R: Threads + Sync>(
+    rt: &R,
     alloc: Global,
     book: &Book,
     requirements: &[Requirement],
     budget: &Budget,
+    workers: &Workers,
 ) -> Result<RunReply, Memory>
     requires fit { All (RequirementFits (length book.now.codes)) requirements.now }
     requires few { length requirements.now < 2 ^ 31 }
     ensures { IfOk result (IsCheckReply book.now requirements.now budget.now) }
 {
-    match check_requirements(alloc, book, requirements, budget.clauses()) {
+    match check_requirements(
+        rt,
+        alloc,
+        book,
+        requirements,
+        budget.clauses(),
+        workers.count(),
+    ) {
         Ok(notes) => notes_reply(alloc, book, budget, notes),
         Err(Fail::Refused(fault)) => limit_fault_reply(alloc, fault),
         Err(Fail::Memory) => Err(Memory),

@@ -14,28 +14,42 @@ use crate::run_reply::RunReply;
 use crate::run_status::RunStatus;
 use book_model::Book;
 use book_text::read_book;
-use command_words::Budget;
+use command_words::{Budget, Workers};
 use pb_base::{Fail, Memory};
 use pb_reports::supplement_text;
 use std::alloc::Global;
+use std::thread::Threads;
 use supplement_findings::{SupplementReport, any_finding, any_undecided, check_supplements};
 
-/// Which supplementing rules of the book of the text break constructible sets, and which keep each other from firing.
-pub fn supplements_reply(alloc: Global, text: &[u8], budget: &Budget) -> Result<RunReply, Memory>
+/// Which supplementing rules of the book of the text break constructible sets, and which keep each other from firing, asked by so
+/// many workers.
+pub fn supplements_reply<R: Threads + Sync>(
+    rt: &R,
+    alloc: Global,
+    text: &[u8],
+    budget: &Budget,
+    workers: &Workers,
+) -> Result<RunReply, Memory>
     ensures { IfOk result (RepliesToSupplements (book_of text.now) budget.now) }
 {
     match read_book(alloc, text) {
-        Ok(book) => checked_reply(alloc, &book, budget),
+        Ok(book) => checked_reply(rt, alloc, &book, budget, workers),
         Err(Fail::Refused(fault)) => book_fault_reply(alloc, fault),
         Err(Fail::Memory) => Err(Memory),
     }
 }
 
-fn checked_reply(alloc: Global, book: &Book, budget: &Budget) -> Result<RunReply, Memory>
+fn checked_reply<R: Threads + Sync>(
+    rt: &R,
+    alloc: Global,
+    book: &Book,
+    budget: &Budget,
+    workers: &Workers,
+) -> Result<RunReply, Memory>
     ensures { IfOk result
         (RepliesWithin (slices_within book.now) (IsSupplementReply (inquiry book.now budget.now))) }
 {
-    match check_supplements(alloc, book, budget.clauses()) {
+    match check_supplements(rt, alloc, book, budget.clauses(), workers.count()) {
         Ok(report) => report_reply(alloc, book, report),
         Err(Fail::Refused(fault)) => limit_fault_reply(alloc, fault),
         Err(Fail::Memory) => Err(Memory),

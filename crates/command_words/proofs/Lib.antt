@@ -5,5 +5,6 @@ pub mod OptionWalk
 pub mod FormReads
 pub mod Tops
 pub mod Laws
+pub mod SeveralWords
 pub mod Meanings
 pub mod Grammars

@@ -7,10 +7,12 @@ use Rattle.std.proofs.lemmas.Slice.Eq.{bytes_eq-Decides}
 use Rattle.pb_base.specs.Names.{same_name}
 use Rattle.command_words.specs.Parts.{Words, is_plain}
 use Rattle.command_words.specs.Prepared.{behind_plain, from_option, plain_front, prepared, prepared_behind}
-use Rattle.command_words.specs.Meaning.{Asks, by_form, of_cars, AsksByForm, AsksNothing, Means, MeansByForm, ask_task, ask_word, asked, behind_ask}
+use Rattle.command_words.specs.Meaning.{Asks, by_form, of_cars, of_several, AsksByForm, AsksNothing, AsksOfSeveral, Means, MeansByForm, MeansSeveral, ask_task, ask_word, asked, behind_ask, task_with, workers_cut}
+use Rattle.command_words.specs.Several.{workers_place}
 use Rattle.command_words.specs.Grammar.{is_prepared, parsed, taken}
 use Rattle.command_words.specs.declared.task.Task.{Task}
 use Rattle.command_words.proofs.Laws.{Goes, HasTaken, goes, never, prepares, some_same}
+use Rattle.command_words.proofs.SeveralWords.{first_stays, none_apart, none_in_form, pair_same}
 
 -- a task word doesn't begin with `-`
 asks_plain : (name : List ℕ) (budget : Option (List ℕ)) (operands : Words) (task : Task) → asked name budget operands ≡ Some task → is_plain name ≡ true
@@ -118,6 +120,61 @@ made_means words list (Err wanting) is e = tt
 pub unprepared_means : (words : Words) → prepared words ≡ None → MeansByForm words None
 unprepared_means words none = unprepared words none
 
+-- ---- words that have the option of several workers
+
+-- words of a form don't
+no_option : (words : Words) (task : Task) (place : ℕ) → AsksByForm words task → workers_place words ≡ Some place → ⊥
+no_option words task place f stands =
+    let none = ap workers_place f.words_are ∙ none_in_form f.name f.behind f.budget f.operands f.parts in
+    let clash : None ≡ Some place = sym none ∙ stands in
+    cc
+
+one_place : (words : Words) (place : ℕ) (task : Task) (f : AsksOfSeveral words task) → workers_place words ≡ Some place → f.place ≡ place
+one_place words place task f stands = let same : Some f.place ≡ Some place = sym f.stands ∙ stands in cc
+
+pub uncut_means : (words : Words) (place : ℕ) → workers_place words ≡ Some place → workers_cut words place ≡ None → MeansSeveral words None
+uncut_means words place stands none task f =
+    none_apart (f.workers, f.others) (sym none ∙ ap (workers_cut words) (sym (one_place words place task f stands)) ∙ f.cut)
+
+-- what is cut out, and what is left
+record IsCut (workers n : ℕ) (others rest : Words) : Type 0 where
+  number : workers ≡ n
+  words : others ≡ rest
+
+same_cut : (p q : ℕ × Words) → Some p ≡ Some q → IsCut p.0 q.0 p.1 q.1
+same_cut p q e =
+    let same = pair_same p q e in
+    record { number = ap (λ (r : ℕ × Words). r.0) same; words = ap (λ (r : ℕ × Words). r.1) same }
+
+module _ (words : Words) (place n : ℕ) (rest : Words) (stands : workers_place words ≡ Some place) (cut : workers_cut words place ≡ Some (n, rest)) where
+  cut_is : (task : Task) (f : AsksOfSeveral words task) → IsCut f.workers n f.others rest
+  cut_is task f = same_cut (f.workers, f.others) (n, rest) (sym f.cut ∙ ap (workers_cut words) (one_place words place task f stands) ∙ cut)
+
+  unasked : MeansByForm rest None → MeansSeveral words None
+  unasked none task f = none f.one (subst (λ (ws : Words). AsksByForm ws f.one) (cut_is task f).words f.asks)
+
+  unshared : (one : Task) → AsksByForm rest one → task_with n one ≡ None → MeansSeveral words None
+  unshared one asks none task f =
+      let same : f.one ≡ one = one_by_form rest f.one one (subst (λ (ws : Words). AsksByForm ws f.one) (cut_is task f).words f.asks) asks in
+      let clash : None ≡ Some task =
+      sym none ∙ ap (task_with n) (sym same) ∙ ap (λ (k : ℕ). task_with k f.one) (sym (cut_is task f).number) ∙ f.several in
+      cc
+
+  by_command : (one : Task) (found : Option Task) → AsksByForm rest one → task_with n one ≡ found → MeansSeveral words found
+  by_command one None asks is = unshared one asks is
+  by_command one (Some task) asks is =
+      record { place = place; stands = stands; workers = n; others = rest; cut = cut; one = one; asks = asks; several = is }
+
+  -- by what the words without the option ask for
+  several_found : (one : Option Task) → MeansByForm rest one → MeansSeveral words (option_and_then (task_with n) one)
+  several_found None means = unasked means
+  several_found (Some one) means = by_command one (task_with n one) means refl
+
+pub single_means : (words : Words) (place n : ℕ) (rest others : Words) (one found : Option Task) → workers_place words ≡ Some place → workers_cut words place ≡ Some (n, rest)
+    → others ≡ rest → MeansByForm others one → found ≡ option_and_then (task_with n) one → MeansSeveral words found
+single_means words place n rest others one found stands cut same means is =
+    subst (MeansSeveral words) (sym is) (several_found words place n rest stands cut one (subst (λ (ws : Words). MeansByForm ws one) same means))
+
 -- ---- words that begin with `ask`
 
 -- they are of no other form
@@ -145,18 +202,40 @@ no_ask words behind none is =
     let clash : None ≡ Some behind = sym none ∙ ap behind_ask is ∙ found in
     cc
 
-no_task : (words : Words) → behind_ask words ≡ None → MeansByForm words None → AsksNothing words
-no_task words none means task (by_form f) = means task f
-no_task words none means task (of_cars f) = no_ask words f.behind none f.words_are
+no_task : (words : Words) → behind_ask words ≡ None → workers_place words ≡ None → MeansByForm words None → AsksNothing words
+no_task words none single means task (by_form f) = means task f
+no_task words none single means task (of_cars f) = no_ask words f.behind none f.words_are
+no_task words none single means task (of_several f) = let clash : None ≡ Some f.place = sym single ∙ f.stands in cc
 
-by_found : (words : Words) (found : Option Task) → behind_ask words ≡ None → MeansByForm words found → Means words found
-by_found words None none means = no_task words none means
-by_found words (Some task) none means = by_form means
+by_found : (words : Words) (found : Option Task) → behind_ask words ≡ None → workers_place words ≡ None → MeansByForm words found → Means words found
+by_found words None none single means = no_task words none single means
+by_found words (Some task) none single means = by_form means
 
 -- what words mean that don't begin with `ask`
-pub form_means : {E : Type 0} (words : Words) (made : Result (Option Task) E) → behind_ask words ≡ None → IfOk made (MeansByForm words) → IfOk made (Means words)
-form_means words (Ok found) none means = by_found words found none means
-form_means words (Err wanting) none means = tt
+pub form_means : {E : Type 0} (words : Words) (made : Result (Option Task) E) → behind_ask words ≡ None → workers_place words ≡ None → IfOk made (MeansByForm words)
+    → IfOk made (Means words)
+form_means words (Ok found) none single means = by_found words found none single means
+form_means words (Err wanting) none single means = tt
+
+no_several : (words : Words) (place : ℕ) → behind_ask words ≡ None → workers_place words ≡ Some place → MeansSeveral words None → AsksNothing words
+no_several words place none stands means task (by_form f) = no_option words task place f stands
+no_several words place none stands means task (of_cars f) = no_ask words f.behind none f.words_are
+no_several words place none stands means task (of_several f) = means task f
+
+by_several : (words : Words) (place : ℕ) (found : Option Task) → behind_ask words ≡ None → workers_place words ≡ Some place → MeansSeveral words found → Means words found
+by_several words place None none stands means = no_several words place none stands means
+by_several words place (Some task) none stands means = of_several means
+
+pub several_means : {E : Type 0} (words : Words) (place : ℕ) (made : Result (Option Task) E) → behind_ask words ≡ None → workers_place words ≡ Some place
+    → IfOk made (MeansSeveral words) → IfOk made (Means words)
+several_means words place (Ok found) none stands means = by_several words place found none stands means
+several_means words place (Err wanting) none stands means = tt
+
+-- no option makes several workers of `ask`
+never_several : (behind : Words) (task : Task) → AsksOfSeveral (ask_word ∷ behind) task → ⊥
+never_several behind task f =
+    let first = first_stays ask_word behind f.place f.workers f.others f.stands f.cut in
+    never_by_form first.rest f.one (subst (λ (ws : Words). AsksByForm ws f.one) first.is f.asks)
 
 no_cars_task : (words behind : Words) → words ≡ ask_word ∷ behind → None ≡ ask_task behind → AsksNothing words
 no_cars_task words behind is asks task (by_form f) = never_by_form behind task (subst (λ (w : Words). AsksByForm w task) is f)
@@ -164,6 +243,7 @@ no_cars_task words behind is asks task (of_cars f) =
     let rests : f.behind ≡ behind = rest_of f.behind behind (sym f.words_are ∙ is) in
     let clash : None ≡ Some task = asks ∙ ap ask_task (sym rests) ∙ f.asks in
     cc
+no_cars_task words behind is asks task (of_several f) = never_several behind task (subst (λ (w : Words). AsksOfSeveral w task) is f)
 
 cars_found : (words behind : Words) (found : Option Task) → words ≡ ask_word ∷ behind → found ≡ ask_task behind → Means words found
 cars_found words behind None is asks = no_cars_task words behind is asks
@@ -184,6 +264,15 @@ one_task words a b (of_cars f) (of_cars g) =
     let rests : f.behind ≡ g.behind = rest_of f.behind g.behind (sym f.words_are ∙ g.words_are) in
     let tasks : Some a ≡ Some b = sym f.asks ∙ ap ask_task rests ∙ g.asks in
     cc
+one_task words a b (by_form f) (of_several g) = absurd (no_option words a g.place f g.stands)
+one_task words a b (of_several f) (by_form g) = absurd (no_option words b f.place g f.stands)
+one_task words a b (of_cars f) (of_several g) = absurd (never_several f.behind b (subst (λ (w : Words). AsksOfSeveral w b) f.words_are g))
+one_task words a b (of_several f) (of_cars g) = absurd (never_several g.behind a (subst (λ (w : Words). AsksOfSeveral w a) g.words_are f))
+one_task words a b (of_several f) (of_several g) =
+    let cut = cut_is words g.place g.workers g.others g.stands g.cut a f in
+    let one : f.one ≡ g.one = one_by_form g.others f.one g.one (subst (λ (ws : Words). AsksByForm ws f.one) cut.words f.asks) g.asks in
+    let tasks : Some a ≡ Some b = sym f.several ∙ ap (λ (k : ℕ). task_with k f.one) cut.number ∙ ap (task_with g.workers) one ∙ g.several in
+    cc
 
 pub record IsAsked (words : Words) : Type 0 where
   pub task : Task
@@ -193,12 +282,31 @@ by_task : (words : Words) (found : Option Task) → Means words found → IsAske
 by_task words None means = inr means
 by_task words (Some task) means = inl (record { task = task; asks = means })
 
-by_list : (words : Words) (found : Option Words) → behind_ask words ≡ None → prepared words ≡ found → IsAsked words ⊎ AsksNothing words
-by_list words None other is = by_task words None (by_found words None other (unprepared words is))
-by_list words (Some list) other is = by_task words (parsed list) (by_found words (parsed list) other (list_means words list (parsed list) is refl))
+-- what words of a form mean
+record IsMeant (words : Words) : Type 0 where
+  found : Option Task
+  means : MeansByForm words found
+
+meant_by : (words : Words) (list : Option Words) → prepared words ≡ list → IsMeant words
+meant_by words None is = record { found = None; means = unprepared words is }
+meant_by words (Some list) is = record { found = parsed list; means = list_means words list (parsed list) is refl }
+
+by_cut : (words : Words) (place : ℕ) (found : Option (ℕ × Words)) → behind_ask words ≡ None → workers_place words ≡ Some place → workers_cut words place ≡ found
+    → IsAsked words ⊎ AsksNothing words
+by_cut words place None other stands is = by_task words None (by_several words place None other stands (uncut_means words place stands is))
+by_cut words place (Some p) other stands is =
+    let one = meant_by p.1 (prepared p.1) refl in
+    by_task words (option_and_then (task_with p.0) one.found)
+    (by_several words place (option_and_then (task_with p.0) one.found) other stands (several_found words place p.0 p.1 stands is one.found one.means))
+
+by_place : (words : Words) (place : Option ℕ) → behind_ask words ≡ None → workers_place words ≡ place → IsAsked words ⊎ AsksNothing words
+by_place words None other is =
+    let one = meant_by words (prepared words) refl in
+    by_task words one.found (by_found words one.found other is one.means)
+by_place words (Some place) other is = by_cut words place (workers_cut words place) other is refl
 
 by_front : (words : Words) (found : Option Words) → behind_ask words ≡ found → IsAsked words ⊎ AsksNothing words
-by_front words None is = by_list words (prepared words) is refl
+by_front words None is = by_place words (workers_place words) is refl
 by_front words (Some behind) is = by_task words (ask_task behind) (cars_found words behind (ask_task behind) (begins words behind is) refl)
 
 -- words ask for a task, or for nothing

@@ -4,6 +4,7 @@ pub mod Service
 pub mod Rejudging
 pub mod Impact
 pub mod AskWords
+pub mod Several
 pub mod Meaning
 pub mod Prepared
 pub mod Grammar

@@ -1,35 +1,38 @@
 -- What the words of a command line ask for.
 --     order DAY CODE..              what the order of these codes on this day comes to
---     check [--budget N]            what is wrong with the book
+--     check [--budget N] [--workers N]          what is wrong with the book
 --     prove [--budget N]            a certificate that the book can be released, or what keeps it from its release
 --     verify CERTFILE               the check of the certificate in this file
 --     desk STORE                    the order desk over the rows that this store keeps
 --     serve STORE PORT WORKERS LINKS    the order desk over the rows that this store keeps, at this port, for so many links
 --     sample START CODES ORDERS     the release of the generated book of this size, and what its orders come to
---     supplements [--budget N]      what completion does with sets that break no rule
---     compare DAY FILE [--budget N]    what changes on this day from the book to the one in this file
+--     supplements [--budget N] [--workers N]    what completion does with sets that break no rule
+--     compare DAY FILE [--budget N] [--workers N]    what changes on this day from the book to the one in this file
 --     rejudge STORE BOOK WORKERS    the orders that this store keeps, judged again by the book of this number
 --     free DAY CODE.. [--budget N]    what can still be chosen on this day beside these codes
 --     why DAY CODE.. [--budget N]     what an order of these codes on this day comes to, and how it would be accepted
 --     days CODE..                   what an order of these codes comes to on every day of the book's term
 --     impact STORE FILE WORKERS     the orders that this store keeps, judged again by the book that this file is
---     require FILE [--budget N]     whether the cars of the book keep the requirements in this file
---     changes FILE [--budget N]     what changes on all days from the book to the one in this file
+--     require FILE [--budget N] [--workers N]    whether the cars of the book keep the requirements in this file
+--     changes FILE [--budget N] [--workers N]    what changes on all days from the book to the one in this file
 --     ask DAY RULE [--budget N]     whether a car of this day meets the rule, and what is to blame if none does
--- A budget is the most clauses that may be learnt for one question. `ask` has words of its own (AskWords).
-use Rattle.std.specs.Prelude.{◌≡◌, ◌++◌, ◌==◌, ◌&&◌, ℕ, ◌%◌, List, [], ◌∷◌, Option, None, Some, codes, length, nat_le, if◌then◌else◌}
+-- A budget is the most clauses that may be learnt for one question. `ask` has words of its own (AskWords). The option of several
+-- workers is cut out of the words, and the others are read as if it weren't there (Several).
+use Rattle.std.specs.Prelude.{◌≡◌, ◌++◌, ◌==◌, ◌&&◌, ℕ, ◌%◌, List, [], ◌∷◌, Option, None, Some, codes, drop, length, nat_le, take, if◌then◌else◌}
 use Rattle.std.specs.Option.{option_map, option_and_then}
 use Rattle.std.specs.List.{list_all}
 use Rattle.pb_base.specs.Names.{same_name, is_code_name}
 use Rattle.pb_base.specs.Digits.{number_within, short_number}
 use Rattle.command_words.specs.Parts.{Words, HasParts, dashes}
 use Rattle.command_words.specs.AskWords.{behind_short, operands_of, option_value, short_front}
+use Rattle.command_words.specs.Several.{is_value, workers_place, workers_value}
 use Rattle.command_words.specs.Size.{Size}
 use Rattle.command_words.specs.Service.{Service}
 use Rattle.command_words.specs.Rejudging.{Rejudging}
 use Rattle.command_words.specs.Impact.{Impact as ImpactWords}
 use Rattle.command_words.specs.declared.task.Task.{Task}
 use Rattle.command_words.specs.declared.task.Task.TheVariants.{Book, Desk, Serve, Rejudge, Impact, Sample}
+use Rattle.command_words.specs.declared.task.BookCommand.{BookCommand}
 use Rattle.command_words.specs.declared.task.BookCommand.TheVariants.{Order, Check, Prove, Verify, Supplements, Compare, Free, Why, Ask, Days, Require, Changes}
 use Rattle.pb_base.specs.declared.limits.TheConstants.{MOST_BUDGET, DEFAULT_BUDGET, MOST_TEXT_BYTES}
 
@@ -56,13 +59,13 @@ budget_alone budget [] = budget_of budget
 budget_alone budget (word ∷ words) = None
 
 abbrev pub check_of : Option (List ℕ) → Words → Option Task
-check_of budget operands = option_map (λ n. Book (Check n)) (budget_alone budget operands)
+check_of budget operands = option_map (λ n. Book (Check n 1)) (budget_alone budget operands)
 
 abbrev pub prove_of : Option (List ℕ) → Words → Option Task
 prove_of budget operands = option_map (λ n. Book (Prove n)) (budget_alone budget operands)
 
 abbrev pub supplements_of : Option (List ℕ) → Words → Option Task
-supplements_of budget operands = option_map (λ n. Book (Supplements n)) (budget_alone budget operands)
+supplements_of budget operands = option_map (λ n. Book (Supplements n 1)) (budget_alone budget operands)
 
 abbrev pub only_one : Option (List ℕ) → Words → Option (List ℕ)
 only_one None (word ∷ []) = Some word
@@ -102,7 +105,7 @@ sample_of budget operands = None
 
 -- a day is 1 to 5 digits
 abbrev pub compare_of : Option (List ℕ) → Words → Option Task
-compare_of budget (day ∷ file ∷ []) = option_and_then (λ on. option_map (λ n. Book (Compare on file n)) (budget_of budget)) (short_number day)
+compare_of budget (day ∷ file ∷ []) = option_and_then (λ on. option_map (λ n. Book (Compare on file n 1)) (budget_of budget)) (short_number day)
 compare_of budget operands = None
 
 abbrev pub rejudging : List ℕ → ℕ → ℕ → Rejudging
@@ -137,11 +140,11 @@ impact_of None (store ∷ file ∷ workers ∷ []) = option_map (λ w. Impact (i
 impact_of budget operands = None
 
 abbrev pub require_of : Option (List ℕ) → Words → Option Task
-require_of budget (file ∷ []) = option_map (λ n. Book (Require file n)) (budget_of budget)
+require_of budget (file ∷ []) = option_map (λ n. Book (Require file n 1)) (budget_of budget)
 require_of budget operands = None
 
 abbrev pub changes_of : Option (List ℕ) → Words → Option Task
-changes_of budget (file ∷ []) = option_map (λ n. Book (Changes file n)) (budget_of budget)
+changes_of budget (file ∷ []) = option_map (λ n. Book (Changes file n 1)) (budget_of budget)
 changes_of budget operands = None
 
 -- the command words but `ask`
@@ -214,10 +217,51 @@ pub record AsksOfCars (words : Words) (task : Task) : Type 0 where
   pub words_are : words ≡ ask_word ∷ behind
   pub asks : ask_task behind ≡ Some task
 
+-- how many workers share the work, and the words without that option
+abbrev pub workers_cut : Words → ℕ → Option (ℕ × Words)
+workers_cut words place =
+    if is_value words place then None
+    else option_and_then (λ p. option_map (λ n. (n, take place words ++ p.1)) (number_in 1 16 p.0)) (workers_value (drop place words))
+
+-- the same by so many workers, which not every command has
+abbrev pub command_with : ℕ → BookCommand → Option BookCommand
+command_with workers (Check budget one) = Some (Check budget workers)
+command_with workers (Supplements budget one) = Some (Supplements budget workers)
+command_with workers (Compare day file budget one) = Some (Compare day file budget workers)
+command_with workers (Require file budget one) = Some (Require file budget workers)
+command_with workers (Changes file budget one) = Some (Changes file budget workers)
+command_with workers (Order day ordered) = None
+command_with workers (Prove budget) = None
+command_with workers (Verify file) = None
+command_with workers (Free day ordered budget) = None
+command_with workers (Why day ordered budget) = None
+command_with workers (Ask day rule budget) = None
+command_with workers (Days ordered) = None
+
+abbrev pub task_with : ℕ → Task → Option Task
+task_with workers (Book command) = option_map Book (command_with workers command)
+task_with workers (Desk store) = None
+task_with workers (Serve service) = None
+task_with workers (Rejudge asked) = None
+task_with workers (Impact asked) = None
+task_with workers (Sample size) = None
+
+-- the words have the option, and without it they ask for what one worker does
+pub record AsksOfSeveral (words : Words) (task : Task) : Type 0 where
+  pub place : ℕ
+  pub stands : workers_place words ≡ Some place
+  pub workers : ℕ
+  pub others : Words
+  pub cut : workers_cut words place ≡ Some (workers, others)
+  pub one : Task
+  pub asks : AsksByForm others one
+  pub several : task_with workers one ≡ Some task
+
 -- the words ask for the task
 pub data Asks (words : Words) (task : Task) : Type 0 where
   by_form : AsksByForm words task → Asks words task
   of_cars : AsksOfCars words task → Asks words task
+  of_several : AsksOfSeveral words task → Asks words task
 
 -- the words are of no form
 abbrev pub AsksNothing : Words → Type 0
@@ -232,6 +276,11 @@ Means words (Some task) = Asks words task
 abbrev pub MeansByForm : Words → Option Task → Type 0
 MeansByForm words None = (task : Task) → AsksByForm words task → ⊥
 MeansByForm words (Some task) = AsksByForm words task
+
+-- the same of words that have the option of several workers
+abbrev pub MeansSeveral : Words → Option Task → Type 0
+MeansSeveral words None = (task : Task) → AsksOfSeveral words task → ⊥
+MeansSeveral words (Some task) = AsksOfSeveral words task
 
 -- what stands behind `ask`, where the words begin so
 abbrev pub behind_ask : Words → Option Words

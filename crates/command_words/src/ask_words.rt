@@ -163,7 +163,7 @@ fn option_value<'a>(option: &'a str, words: &'a [String]) -> Option<(&'a [u8], &
     Some((value, words))
 }
 
-fn next_word(words: &[String]) -> Option<(&[u8], &[String])>
+pub(crate) fn next_word(words: &[String]) -> Option<(&[u8], &[String])>
     ensures { option_map (λ p. (p.0.now, texts_of p.1.now)) result ≡ next_word (texts_of words.now) }
 {
     let (word, behind) = words.split_first()?;

@@ -13,6 +13,7 @@ use crate::rejudging::Rejudging;
 use crate::sample_size::SampleSize;
 use crate::service::Service;
 use crate::task::{BookCommand, Task};
+use crate::workers::Workers;
 use pb_base::limits::{DEFAULT_BUDGET, MOST_BUDGET};
 use pb_base::{CodeList, CodeName, Memory, number_within, short_number};
 use std::alloc::Global;
@@ -122,7 +123,8 @@ fn check_of(budget: Option<&str>, operands: &[&str]) -> Option<Task>
     ensures { result ≡ check_of (lent_option budget.entry) (lent operands.now) }
 {
     let budget = budget_alone(budget, operands)?;
-    Some(Task::Book(BookCommand::Check { budget }))
+    let workers = Workers::of(1);
+    Some(Task::Book(BookCommand::Check { budget, workers }))
 }
 
 fn prove_of(budget: Option<&str>, operands: &[&str]) -> Option<Task>
@@ -136,7 +138,8 @@ fn supplements_of(budget: Option<&str>, operands: &[&str]) -> Option<Task>
     ensures { result ≡ supplements_of (lent_option budget.entry) (lent operands.now) }
 {
     let budget = budget_alone(budget, operands)?;
-    Some(Task::Book(BookCommand::Supplements { budget }))
+    let workers = Workers::of(1);
+    Some(Task::Book(BookCommand::Supplements { budget, workers }))
 }
 
 // The budget, where there are no operands.
@@ -165,6 +168,14 @@ pub(crate) fn budget_in(text: &[u8]) -> Option<Budget>
 {
     let clauses = bytes_in(text, 1, MOST_BUDGET)?;
     Some(Budget::of(clauses))
+}
+
+/// How many workers, as an option gives it.
+pub(crate) fn workers_in(text: &[u8]) -> Option<Workers>
+    ensures { result ≡ number_in 1 16 text.now }
+{
+    let count = bytes_in(text, 1, 16)?;
+    Some(Workers::of(count))
 }
 
 fn verify_of(alloc: Global, budget: Option<&str>, operands: &[&str]) -> Result<Option<Task>, Memory>
@@ -264,7 +275,13 @@ fn compare_of(
     match (short_number(day.as_bytes()), budget_of(budget)) {
         (Some(day), Some(budget)) => {
             let file = FileName::of(alloc, file)?;
-            Ok(Some(Task::Book(BookCommand::Compare { day, file, budget })))
+            let workers = Workers::of(1);
+            Ok(Some(Task::Book(BookCommand::Compare {
+                day,
+                file,
+                budget,
+                workers,
+            })))
         }
         _ => Ok(None),
     }
@@ -284,7 +301,12 @@ fn require_of(
         return Ok(None);
     };
     let file = FileName::of(alloc, file)?;
-    Ok(Some(Task::Book(BookCommand::Require { file, budget })))
+    let workers = Workers::of(1);
+    Ok(Some(Task::Book(BookCommand::Require {
+        file,
+        budget,
+        workers,
+    })))
 }
 
 fn changes_of(
@@ -301,7 +323,12 @@ fn changes_of(
         return Ok(None);
     };
     let file = FileName::of(alloc, file)?;
-    Ok(Some(Task::Book(BookCommand::Changes { file, budget })))
+    let workers = Workers::of(1);
+    Ok(Some(Task::Book(BookCommand::Changes {
+        file,
+        budget,
+        workers,
+    })))
 }
 
 fn rejudge_of(

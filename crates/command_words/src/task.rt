@@ -7,6 +7,7 @@ use crate::rejudging::Rejudging;
 use crate::rule_word::RuleWord;
 use crate::sample_size::SampleSize;
 use crate::service::Service;
+use crate::workers::Workers;
 use pb_base::{CodeList, Day};
 
 /// What the words of a command line ask for.
@@ -52,9 +53,10 @@ pub enum BookCommand {
         rule: RuleWord,
         budget: Budget,
     },
-    /// What is wrong with the book, by all questions, each with this budget.
+    /// What is wrong with the book, by all questions, each with this budget, by so many workers.
     Check {
         budget: Budget,
+        workers: Workers,
     },
     /// A certificate that nothing keeps the book from its release, or what does, with this budget for each question.
     Prove {
@@ -64,28 +66,32 @@ pub enum BookCommand {
     Verify {
         file: FileName,
     },
-    /// What the supplementing rules of the book do, with this budget for each question.
+    /// What the supplementing rules of the book do, with this budget for each question, by so many workers.
     Supplements {
         budget: Budget,
+        workers: Workers,
     },
-    /// What changes on this day from the book to the one in this file, with this budget for each question.
+    /// What changes on this day from the book to the one in this file, with this budget for each question, by so many workers.
     Compare {
         day: Day,
         file: FileName,
         budget: Budget,
+        workers: Workers,
     },
     /// What the order of these codes comes to on every day of the book's term.
     Days {
         codes: CodeList,
     },
-    /// Whether the cars of the book keep the requirements in this file, with this budget for each question.
+    /// Whether the cars of the book keep the requirements in this file, with this budget for each question, by so many workers.
     Require {
         file: FileName,
         budget: Budget,
+        workers: Workers,
     },
-    /// What changes on all days from the book to the one in this file, with this budget for each question.
+    /// What changes on all days from the book to the one in this file, with this budget for each question, by so many workers.
     Changes {
         file: FileName,
         budget: Budget,
+        workers: Workers,
     },
 }

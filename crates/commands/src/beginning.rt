@@ -65,7 +65,7 @@ fn do_task<R: Threads + Sync, S: Source, K: Sink, F: Files, P: Keeper, D: Door, 
 {
     match task {
         Task::Book(command) => {
-            let status = answer(alloc, &command, &mut world.channels);
+            let status = answer(rt, alloc, &command, &mut world.channels);
             Begun::Ended(RunEnd { status, world })
         }
         Task::Desk { store } => Begun::Ended(run_store(alloc, &store, world, gate)),
@@ -80,7 +80,8 @@ fn do_task<R: Threads + Sync, S: Source, K: Sink, F: Files, P: Keeper, D: Door, 
 }
 
 // Whatever the keeper tells, which is not touched.
-fn answer<S: Source, K: Sink, F: Files, D: Door>(
+fn answer<R: Threads + Sync, S: Source, K: Sink, F: Files, D: Door>(
+    rt: &R,
     alloc: Global,
     command: &BookCommand,
     channels: &mut Channels<S, K, F, D>,
@@ -88,7 +89,13 @@ fn answer<S: Source, K: Sink, F: Files, D: Door>(
     ensures { (kept : KeeperTold) → let sees = channels_seen S.input K.output F.told D.told D.faultless kept in
         AnswersBook command.now (sees channels.old) (sees channels.new) result }
 {
-    let reply = due_reply(alloc, command, &mut channels.source, &mut channels.files);
+    let reply = due_reply(
+        rt,
+        alloc,
+        command,
+        &mut channels.source,
+        &mut channels.files,
+    );
     tell_made(reply, &mut channels.sink, &mut channels.log)
 }
 
