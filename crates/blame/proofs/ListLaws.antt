@@ -48,6 +48,14 @@ module _ {X : Type 0} where
   all_among P (x ∷ xs) ys all (inl h) = all_among P xs ys all.1 h
   all_among P (x ∷ xs) ys all (inr h) = subst (AllByRecursion P) (sym h.1) (all.0, all_among P xs h.0 all.1 h.2)
 
+  -- what all elements pass, some of them pass
+  pub list_all-among : (p : X → Bool) (xs ys : List X) → Among xs ys → list_all p xs ≡ true → list_all p ys ≡ true
+  list_all-among p [] ys h all = ap (list_all p) h
+  list_all-among p (x ∷ xs) ys (inl h) all = list_all-among p xs ys h (and_parts (p x) (list_all p xs) all).1
+  list_all-among p (x ∷ xs) ys (inr h) all =
+      let parts = and_parts (p x) (list_all p xs) all in
+      ap (list_all p) h.1 ∙ and_from (p x) (list_all p h.0) parts.0 (list_all-among p xs h.0 h.2 parts.1)
+
   -- what all elements pass, all but one pass
   pub list_all-remove : (p : X → Bool) (xs : List X) (place : ℕ) → list_all p xs ≡ true → list_all p (remove xs place) ≡ true
   list_all-remove p [] zero h = refl

@@ -11,12 +11,12 @@ use Rattle.book_model.specs.Contents.{Contents}
 use Rattle.clausify.proofs.ItemLaws.{length_from_good}
 use Rattle.item_search.specs.declared.outcome.Outcome.{Outcome}
 use Rattle.item_search.specs.declared.outcome.Outcome.TheVariants as outcome
-use Rattle.blame.specs.Blame.{AreFew, IsNone, IsMetBy, IsMet, IsBlame, IsLooked, IsSettled, IsCar, IsNoCar}
+use Rattle.blame.specs.Blame.{AreBlamed, AreFew, IsNone, IsMetBy, IsMet, IsBlame, IsLooked, IsSettled, IsCar, IsNoCar}
 use Rattle.blame.specs.Entries.{meets_entry, meets_all, all_entries, Among, EntryFits}
 use Rattle.blame.specs.declared.entries.Entry.{Entry}
 use Rattle.blame.specs.declared.blamed.Blamed.{Blamed}
 use Rattle.blame.proofs.EntryLaws.{good_from_all, chosen_from_all, all_from_good}
-use Rattle.blame.proofs.ListLaws.{among_self, among_among, among_without, length-among, all_among, list_all-remove, remove-remove}
+use Rattle.blame.proofs.ListLaws.{among_self, among_among, among_without, length-among, all_among, list_all-among, list_all-remove, remove-remove}
 
 pub fit_among : (b : Contents) (day : ℕ) (all m : List Entry) → All (EntryFits b day) all → Among all m → All (EntryFits b day) m
 fit_among b day all m fit among =
@@ -145,3 +145,17 @@ moved_among all slice m seen same also among = subst (Among all) (sym also) (sub
 pub no_car_by : (b : Contents) (day : ℕ) (f : Rule) (chosen : List ℕ) (all : List Entry) → all ≡ all_entries b day chosen → IsNone b day f all → IsNoCar b day chosen f
 no_car_by b day f chosen all is none x good there =
     none x (length_from_good b day x good) (subst (λ (m : List Entry). meets_all b day x m ≡ true) (sym is) (all_from_good b day chosen x good there))
+
+-- where none meets some of them
+none_among : (b : Contents) (day : ℕ) (f : Rule) (all m : List Entry) → Among all m → IsNone b day f m → IsNone b day f all
+none_among b day f all m among none x counted met = none x counted (list_all-among (meets_entry b day x) all m among met)
+
+pub blamed_by : (b : Contents) (day : ℕ) (f : Rule) (chosen : List ℕ) (all first : List Entry) (m : Blamed) → all ≡ all_entries b day chosen → Among all first
+    → Among first m.entries.items → IsBlame b day f m.entries.items m.needed.items → AreBlamed b day chosen f m
+blamed_by b day f chosen all first m is among among_first blame =
+    let some : Among all m.entries.items = among_among all first m.entries.items among among_first in
+    record {
+      no_car = no_car_by b day f chosen all is (none_among b day f all m.entries.items some blame.none);
+      among = subst (λ (es : List Entry). Among es m.entries.items) is some;
+      blame = blame;
+    }

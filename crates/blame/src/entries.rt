@@ -1,6 +1,6 @@
 //! What may be to blame that no car meets a rule.
 ghost use Rattle.std.specs.Prelude.{◌≡◌, ◌++◌, ◌<◌, ◌^◌, IfOk, OnOk, length, map};
-ghost use Rattle.blame.specs.Entries.{all_entries, supplement_entries, construct_entries};
+ghost use Rattle.blame.specs.Entries.{all_entries, supplement_entries, construct_entries, Among};
 
 use book_model::{Book, active};
 use pb_base::{Day, Memory};
@@ -62,4 +62,17 @@ fn push_chosen(all: &mut Vec<Entry>, chosen: &[u32]) -> Result<(), Memory>
         all.push(Entry::Chosen(*code))?;
     }
     Ok(())
+}
+
+/// The entries that are marked.
+pub(crate) fn marked(alloc: Global, all: &[Entry], marks: &[bool]) -> Result<Vec<Entry>, Memory>
+    ensures { IfOk result (λ m. Among all.now m.items) }
+{
+    let mut used = Vec::new(alloc);
+    for (place, entry) in all.iter().enumerate() {
+        if marks.get(place) == Some(&true) {
+            used.push(*entry)?;
+        }
+    }
+    Ok(used)
 }

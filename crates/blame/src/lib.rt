@@ -5,6 +5,7 @@ mod blamed;
 mod coding;
 mod entries;
 mod looking;
+mod near;
 mod shrinking;
 mod telling;
 mod used;

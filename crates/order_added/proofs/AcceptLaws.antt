@@ -1,28 +1,33 @@
--- Whether an order is accepted, by its codes and the rules alone.
-use Rattle.std.proofs.Common.{◌≡◌, ℕ, Bool, true, false, List, [], Option, Some, None, Ok, Err, length, refl, sym, ap, ◌∙◌}
-use Rattle.std.specs.List.{list_any}
+-- Whether an order passes, by its codes and the rules alone.
+use Rattle.std.proofs.Common.{◌≡◌, ℕ, zero, suc, ◌+◌, Bool, true, false, ◌<◌, cond, List, [], ◌∷◌, Option, Some, None, Ok, Err, length, get_or, refl, sym, ap, subst, ◌∙◌, arith}
+use Rattle.std.specs.List.{list_any, position_from}
 use Rattle.std.specs.Option.{option_map, is_none}
-use Rattle.std.specs.Prelude.{◌&&◌, if◌then◌else◌}
+use Rattle.std.specs.Prelude.{◌&&◌, ◌||◌, not, Result, if◌then◌else◌}
+use Rattle.std.proofs.lemmas.Bool.{false_from_ne_true, false≢true}
 use Rattle.std.proofs.lemmas.List.{length-map}
 use Rattle.pb_base.specs.Names.{same_name}
 use Rattle.pb_base.specs.NamedSet.{first_fault, named, set_of_names}
 use Rattle.pb_base.specs.Results.{unless}
 use Rattle.pb_base.specs.declared.named_set.NameFault.{NameFault}
 use Rattle.book_model.specs.Activity.{is_within}
+use Rattle.book_model.specs.Good.{breaks}
+use Rattle.book_model.specs.declared.record.Construct.{Construct}
 use Rattle.book_model.specs.Contents.{Contents}
 use Rattle.book_model.specs.Parts.{PartsLine, parts}
 use Rattle.parts_usage.specs.Broken.{first_broken_of}
 use Rattle.parts_usage.specs.Fault.{fault_of_name, order_fault}
-use Rattle.parts_usage.specs.Outcome.{judged, outcome_of_set}
+use Rattle.parts_usage.specs.Outcome.{judged, outcome_of, outcome_of_set}
 use Rattle.parts_usage.specs.Unfit.{first_unfit_of}
 use Rattle.parts_usage.specs.declared.fault.OrderFault.{OrderFault}
 use Rattle.parts_usage.specs.declared.fault.OrderFault.TheVariants.{DayOutsideTerm}
+use Rattle.parts_usage.specs.declared.judgement.Outcome.{Outcome}
 use Rattle.parts_usage.specs.declared.judgement.Outcome.TheVariants as outcome
 use Rattle.parts_usage.specs.declared.unfit.Unfit.{Unfit}
 use Rattle.supplement.specs.Completing.{Completing}
 use Rattle.supplement.specs.Completion.{completion_of}
 use Rattle.supplement.specs.declared.completed.Completed.{Completed}
-use Rattle.order_added.specs.Accepted.{is_acceptance, is_accepted, unless_fault, ordered_of, is_buildable}
+use Rattle.order_added.specs.Accepted.{is_acceptance, is_accepted, is_unbroken, is_constructible, unless_fault, ordered_of}
+use Rattle.order_added.specs.Judging.{Judging, passes, is_buildable}
 
 -- the codes of an order
 
@@ -63,30 +68,84 @@ length-ordered b day names set h = ap length (ordered_is b day names set h).is �
 
 -- what it comes to
 
-judged_accepted : (broken : Option ℕ) (unfit : Option Unfit) (y : List Bool) (list : List PartsLine) → is_acceptance (Ok (judged broken unfit (outcome.Accepted y list))) ≡ (is_none broken && is_none unfit)
-judged_accepted None None y list = refl
-judged_accepted None (Some u) y list = refl
-judged_accepted (Some rule) None y list = refl
-judged_accepted (Some rule) (Some u) y list = refl
+judged_passes : (positions : Bool) (broken : Option ℕ) (unfit : Option Unfit) (y : List Bool) (list : List PartsLine)
+    → (if positions then is_acceptance (Ok (judged broken unfit (outcome.Accepted y list))) else is_unbroken (Ok (judged broken unfit (outcome.Accepted y list))))
+    ≡ (is_none broken && (not positions || is_none unfit))
+judged_passes true None None y list = refl
+judged_passes true None (Some u) y list = refl
+judged_passes true (Some rule) None y list = refl
+judged_passes true (Some rule) (Some u) y list = refl
+judged_passes false None None y list = refl
+judged_passes false None (Some u) y list = refl
+judged_passes false (Some rule) None y list = refl
+judged_passes false (Some rule) (Some u) y list = refl
 
-pub faulty : (b : Contents) (day : ℕ) (names : List (List ℕ)) → ordered_of b day names ≡ None → is_accepted b day names ≡ false
-unfolding is_accepted
-faulty b day names h = by (order_fault b day names) h
+pub faulty : (j : Judging) (names : List (List ℕ)) → ordered_of j.book j.day names ≡ None → passes j names ≡ false
+unfolding passes is_accepted is_constructible
+faulty j names h = by j.positions (order_fault j.book j.day names) h
   where
-    by : (fault : Option OrderFault) → unless_fault fault (named b.codes names) ≡ None
-        → is_acceptance (unless fault (Ok (outcome_of_set b day (completion_of b day (named b.codes names)).set))) ≡ false
-    by None none = absurd (cc)
-    by (Some fault) none = refl
+    by : (positions : Bool) (fault : Option OrderFault) → unless_fault fault (named j.book.codes names) ≡ None
+        → (if positions then is_acceptance (unless fault (Ok (outcome_of_set j.book j.day (completion_of j.book j.day (named j.book.codes names)).set)))
+        else is_unbroken (unless fault (Ok (outcome_of_set j.book j.day (completion_of j.book j.day (named j.book.codes names)).set))))
+        ≡ false
+    by positions None none = absurd (cc)
+    by true (Some fault) none = refl
+    by false (Some fault) none = refl
 
-pub accepted_by : (b : Contents) (day : ℕ) (names : List (List ℕ)) (w : Completing) (ordered : List Bool) (done : Completed)
-    → w ≡ record { book = b; day = day } → ordered_of b day names ≡ Some ordered → done ≡ completion_of w.book w.day ordered
-    → is_buildable b day done.set ≡ is_accepted b day names
-unfolding is_accepted
-accepted_by b day names w ordered done is h completed =
-    let o = ordered_is b day names ordered h in
-    let y : List Bool = (completion_of b day (named b.codes names)).set in
-    let same : done ≡ completion_of b day (named b.codes names) =
-    completed ∙ ap (λ (k : Completing). completion_of k.book k.day ordered) is ∙ ap (completion_of b day) o.is in
-    ap (λ (d : Completed). is_buildable b day d.set) same
-    ∙ sym (judged_accepted (first_broken_of b day y) (first_unfit_of b day y) y (parts b day y))
-    ∙ sym (ap (λ fault. is_acceptance (unless fault (Ok (outcome_of_set b day y)))) o.faultless)
+-- a judge's completer is that of its book and day
+pub same_completing : (b : Contents) (day : ℕ) (positions : Bool) (w : Completing) (j : Judging) → w ≡ record { book = b; day = day }
+    → record { book = b; day = day; positions = positions } ≡ j → w ≡ record { book = j.book; day = j.day }
+same_completing b day positions w j is view = subst (λ (k : Judging). w ≡ record { book = k.book; day = k.day }) view is
+
+pub passes_by : (j : Judging) (names : List (List ℕ)) (w : Completing) (ordered : List Bool) (done : Completed)
+    → w ≡ record { book = j.book; day = j.day } → ordered_of j.book j.day names ≡ Some ordered → done ≡ completion_of w.book w.day ordered
+    → is_buildable j done.set ≡ passes j names
+unfolding passes is_accepted is_constructible
+passes_by j names w ordered done is h completed =
+    let o = ordered_is j.book j.day names ordered h in
+    let y : List Bool = (completion_of j.book j.day (named j.book.codes names)).set in
+    let same : done ≡ completion_of j.book j.day (named j.book.codes names) =
+    completed ∙ ap (λ (k : Completing). completion_of k.book k.day ordered) is ∙ ap (completion_of j.book j.day) o.is in
+    ap (λ (d : Completed). is_buildable j d.set) same
+    ∙ sym (judged_passes j.positions (first_broken_of j.book j.day y) (first_unfit_of j.book j.day y) y (parts j.book j.day y))
+    ∙ sym (ap (λ fault. if j.positions then is_acceptance (unless fault (Ok (outcome_of_set j.book j.day y))) else is_unbroken (unless fault (Ok (outcome_of_set j.book j.day y)))) o.faultless)
+
+-- what is accepted breaks no rule
+
+unbroken_of : (o : Result Outcome OrderFault) → is_acceptance o ≡ true → is_unbroken o ≡ true
+unbroken_of (Ok (outcome.Accepted set list)) h = refl
+unbroken_of (Ok (outcome.Refused rule)) h = absurd (false≢true h)
+unbroken_of (Ok (outcome.Unfit position count)) h = refl
+unbroken_of (Err fault) h = absurd (false≢true h)
+
+module _ (b : Contents) (day : ℕ) (j : Judging) where
+  pub passes_when : j ≡ record { book = b; day = day; positions = true } → (names : List (List ℕ)) → passes j names ≡ is_accepted b day names
+  unfolding passes
+  passes_when is names = ap (λ (k : Judging). if k.positions then is_accepted k.book k.day names else is_constructible k.book k.day names) is
+
+  pub unbroken_when : j ≡ record { book = b; day = day; positions = false } → (names : List (List ℕ)) → is_accepted b day names ≡ true → passes j names ≡ true
+  unfolding passes is_accepted is_constructible
+  unbroken_when is names accepted =
+      ap (λ (k : Judging). if k.positions then is_acceptance (outcome_of k.book k.day names) else is_unbroken (outcome_of k.book k.day names)) is
+      ∙ unbroken_of (outcome_of b day names) accepted
+
+  pub refused_when : j ≡ record { book = b; day = day; positions = false } → (names : List (List ℕ)) → passes j names ≡ false → is_accepted b day names ≡ false
+  refused_when is names broken = false_from_ne_true (is_accepted b day names) (λ accepted. false≢true (sym broken ∙ unbroken_when is names accepted))
+
+-- a rule that is broken at some place
+module _ (day : ℕ) (y : List Bool) (c : Construct) where
+  broken_from : (rules : List Construct) (place i : ℕ) → place < length rules → breaks day y (get_or rules place c) ≡ true
+      → is_none (position_from (breaks day y) i rules) ≡ false
+  broken_from [] place i within broken = absurd (omega arith)
+  broken_from (d ∷ ds) zero i within broken = ap (λ (t : Bool). is_none (cond t (Some i) (position_from (breaks day y) (i + 1) ds))) broken
+  broken_from (d ∷ ds) (suc place) i within broken = by (breaks day y d) (broken_from ds place (i + 1) (omega arith) broken)
+    where
+      by : (t : Bool) → is_none (position_from (breaks day y) (i + 1) ds) ≡ false → is_none (cond t (Some i) (position_from (breaks day y) (i + 1) ds)) ≡ false
+      by true later = refl
+      by false later = later
+
+  pub broken_at : (b : Contents) (rules : List Construct) (place : ℕ) → rules ≡ b.constructs → place < length rules → c ≡ get_or rules place c → breaks day y c ≡ true
+      → is_none (first_broken_of b day y) ≡ false
+  broken_at b rules place same within is broken =
+      subst (λ (ds : List Construct). is_none (position_from (breaks day y) 0 ds) ≡ false) same
+      (broken_from rules place 0 within (sym (ap (breaks day y) is) ∙ broken))

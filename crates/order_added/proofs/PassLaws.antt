@@ -1,11 +1,13 @@
 -- What passes over the added codes come to.
-use Rattle.std.proofs.Common.{◌≡◌, ℕ, zero, suc, ◌+◌, ◌<◌, ◌≤◌, Bool, true, false, List, [], ◌∷◌, ◌++◌, length, take, drop, refl, sym, ap, subst, ◌∙◌, inl, inr, arith, length-append, length-take-le}
+use Rattle.std.proofs.Common.{◌≡◌, ℕ, zero, suc, ◌+◌, ◌<◌, ◌≤◌, Bool, true, false, List, [], ◌∷◌, ◌++◌, length, take, drop, refl, sym, ap, subst, ◌∙◌, inl, inr, arith, append-nil, length-append, length-take-le}
 use Rattle.std.specs.List.{remove}
 use Rattle.std.proofs.lemmas.Bool.{cases_eq}
 use Rattle.std.proofs.lemmas.List.Edits.{length-remove}
 use Rattle.book_model.specs.Contents.{Contents}
 use Rattle.order_added.specs.Accepted.{is_accepted}
-use Rattle.order_added.specs.Added.{Among, IsPassed, IsStep, NeededFrom, IsAdded}
+use Rattle.order_added.specs.Added.{Among, IsAdded}
+use Rattle.order_added.specs.Judging.{Judging, passes, IsFew, IsPassed, IsStep, NeededFrom}
+use Rattle.order_added.proofs.AcceptLaws.{passes_when, refused_when}
 
 module _ {X : Type 0} where
   pub among_self : (xs : List X) → Among xs xs
@@ -56,102 +58,123 @@ module _ {X : Type 0} where
   cut_in_range xs at end order within =
       omega (arith, length-append (take at xs) (drop end xs), length-take-le at xs (omega (arith, order, within)))
 
-module _ (b : Contents) (day : ℕ) (ordered : List (List ℕ)) where
+module _ (j : Judging) (ordered : List (List ℕ)) where
   -- nothing was tried yet
-  pub passed_none : (added : List (List ℕ)) (first count : ℕ) → length added ≡ first → length added ≡ count → IsPassed b day ordered count first added false
+  pub passed_none : (added : List (List ℕ)) (first count : ℕ) → length added ≡ first → length added ≡ count → IsPassed j ordered count first added false
   passed_none added first count start same = (same, λ place from within. absurd (omega arith))
 
-  at_most : (removed : Bool) (count first : ℕ) (added : List (List ℕ)) → IsPassed b day ordered count first added removed → length added ≤ count
+  at_most : (removed : Bool) (count first : ℕ) (added : List (List ℕ)) → IsPassed j ordered count first added removed → length added ≤ count
   at_most true count first added h = omega arith
   at_most false count first added h = omega (arith, h.0)
 
   -- one more was taken out
   pub passed_out : (removed : Bool) (count first at : ℕ) (old new : List (List ℕ)) → at < length old → new ≡ remove old at
-      → IsPassed b day ordered count first old removed → IsPassed b day ordered count at new true
+      → IsPassed j ordered count first old removed → IsPassed j ordered count at new true
   passed_out removed count first at old new within is h =
       omega (arith, at_most removed count first old h, length-remove old at within, ap length is)
 
   -- one more is needed
   pub passed_needed : (removed : Bool) (count first at : ℕ) (old new : List (List ℕ)) → first ≡ at + 1 → new ≡ old
-      → is_accepted b day (ordered ++ remove old at) ≡ false → IsPassed b day ordered count first old removed → IsPassed b day ordered count at new removed
+      → passes j (ordered ++ remove old at) ≡ false → IsPassed j ordered count first old removed → IsPassed j ordered count at new removed
   passed_needed true count first at old new next is needed h = omega (arith, h, ap length is)
   passed_needed false count first at old new next is needed h = (
     ap length is ∙ h.0,
-    λ place from within. subst (λ (names : List (List ℕ)). is_accepted b day (ordered ++ remove names place) ≡ false) (sym is)
+    λ place from within. subst (λ (names : List (List ℕ)). passes j (ordered ++ remove names place) ≡ false) (sym is)
         (elim (cases_eq place at) [
-          | inl same ↦ ap (λ k. is_accepted b day (ordered ++ remove old k)) same ∙ needed
+          | inl same ↦ ap (λ k. passes j (ordered ++ remove old k)) same ∙ needed
           | inr other ↦ h.1 place (omega arith) (omega (arith, ap length is))
         ]),
   )
 
-  pub added_by : (added : List (List ℕ)) → is_accepted b day (ordered ++ added) ≡ true → NeededFrom b day ordered 0 added → IsAdded b day ordered added
-  added_by added accepted needed = record { accepted = accepted; needed = λ place within. needed place (omega arith) within }
+  pub few_by : (added : List (List ℕ)) → passes j (ordered ++ added) ≡ true → NeededFrom j ordered 0 added → IsFew j ordered added
+  few_by added passed needed = record { passes_with = passed; needed = λ place within. needed place (omega arith) within }
+
+-- what is told of a judge's codes is so of accepted orders
+module _ (b : Contents) (day : ℕ) (ordered added : List (List ℕ)) where
+  pub added_few : (j : Judging) → j ≡ record { book = b; day = day; positions = true } → IsFew j ordered added → IsAdded b day ordered added
+  added_few j is few = record {
+    accepted = sym (passes_when b day j is (ordered ++ added)) ∙ few.passes_with;
+    needed = λ place within. sym (passes_when b day j is (ordered ++ remove added place)) ∙ few.needed place within;
+  }
+
+  pub added_none : added ≡ [] → is_accepted b day ordered ≡ true → IsAdded b day ordered added
+  added_none none accepted = record {
+    accepted = ap (λ (names : List (List ℕ)). is_accepted b day (ordered ++ names)) none ∙ ap (is_accepted b day) (append-nil ordered) ∙ accepted;
+    needed = λ place within. absurd (omega (arith, ap length none));
+  }
+
+  -- those that it needs to break no rule, where it is accepted with them
+  pub added_unbroken : is_accepted b day (ordered ++ added) ≡ true → IsFew (record { book = b; day = day; positions = false }) ordered added → IsAdded b day ordered added
+  added_unbroken accepted few = record {
+    accepted = accepted;
+    needed = λ place within. refused_when b day (record { book = b; day = day; positions = false }) refl (ordered ++ remove added place) (few.needed place within);
+  }
 
 -- a pass on its way down
-pub record Passing (b : Contents) (day : ℕ) (ordered before : List (List ℕ)) (at : ℕ) (added : List (List ℕ)) (removed : Bool) : Type 0 where
+pub record Passing (j : Judging) (ordered before : List (List ℕ)) (at : ℕ) (added : List (List ℕ)) (removed : Bool) : Type 0 where
   pub in_range : at ≤ length added
-  pub accepted : is_accepted b day (ordered ++ added) ≡ true
+  pub passed_with : passes j (ordered ++ added) ≡ true
   pub among : Among before added
-  pub passed : IsPassed b day ordered (length before) at added removed
+  pub passed : IsPassed j ordered (length before) at added removed
 
-pub passing_begun : (b : Contents) (day : ℕ) (ordered added : List (List ℕ)) (first : ℕ) → first ≡ length added → is_accepted b day (ordered ++ added) ≡ true
-    → Passing b day ordered added first added false
-passing_begun b day ordered added first start accepted = record {
+pub passing_begun : (j : Judging) (ordered added : List (List ℕ)) (first : ℕ) → first ≡ length added → passes j (ordered ++ added) ≡ true
+    → Passing j ordered added first added false
+passing_begun j ordered added first start passed_with = record {
   in_range = omega (arith, start);
-  accepted = accepted;
+  passed_with = passed_with;
   among = among_self added;
-  passed = passed_none b day ordered added first (length added) (sym start) refl;
+  passed = passed_none j ordered added first (length added) (sym start) refl;
 }
 
-pub passing_more : (b : Contents) (day : ℕ) (ordered before old new : List (List ℕ)) (first at : ℕ) (removed after : Bool) → first ≡ at + 1
-    → Passing b day ordered before first old removed → IsStep b day ordered at old new removed after → Passing b day ordered before at new after
-passing_more b day ordered before old new first at removed after next h step =
+pub passing_more : (j : Judging) (ordered before old new : List (List ℕ)) (first at : ℕ) (removed after : Bool) → first ≡ at + 1
+    → Passing j ordered before first old removed → IsStep j ordered at old new removed after → Passing j ordered before at new after
+passing_more j ordered before old new first at removed after next h step =
     let there : at < length old = omega (arith, h.in_range, next) in
     elim step.cases [
       | inl out ↦ record {
         in_range = omega (arith, there, length-remove old at there, ap length out.0);
-        accepted = step.accepted;
+        passed_with = step.passes_still;
         among = among_one before old new at there out.0 h.among;
-        passed = subst (IsPassed b day ordered (length before) at new) (sym out.1) (passed_out b day ordered removed (length before) first at old new there out.0 h.passed);
+        passed = subst (IsPassed j ordered (length before) at new) (sym out.1) (passed_out j ordered removed (length before) first at old new there out.0 h.passed);
       }
       | inr stays ↦ record {
         in_range = omega (arith, there, ap length stays.0);
-        accepted = step.accepted;
+        passed_with = step.passes_still;
         among = subst (Among before) (sym stays.0) h.among;
-        passed = subst (IsPassed b day ordered (length before) at new) (sym stays.1) (passed_needed b day ordered removed (length before) first at old new next stays.0 stays.2 h.passed);
+        passed = subst (IsPassed j ordered (length before) at new) (sym stays.1) (passed_needed j ordered removed (length before) first at old new next stays.0 stays.2 h.passed);
       }
     ]
 
 -- and all passes
-pub record Needing (b : Contents) (day : ℕ) (ordered others added : List (List ℕ)) (more : Bool) : Type 0 where
-  pub accepted : is_accepted b day (ordered ++ added) ≡ true
+pub record Needing (j : Judging) (ordered others added : List (List ℕ)) (more : Bool) : Type 0 where
+  pub passed_with : passes j (ordered ++ added) ≡ true
   pub among : Among others added
-  pub needed : more ≡ false → NeededFrom b day ordered 0 added
+  pub needed : more ≡ false → NeededFrom j ordered 0 added
 
-needed_after : (b : Contents) (day : ℕ) (ordered : List (List ℕ)) (count : ℕ) (added : List (List ℕ)) (more : Bool) → IsPassed b day ordered count 0 added more
-    → more ≡ false → NeededFrom b day ordered 0 added
-needed_after b day ordered count added true h none = absurd (cc)
-needed_after b day ordered count added false h none = h.1
+needed_after : (j : Judging) (ordered : List (List ℕ)) (count : ℕ) (added : List (List ℕ)) (more : Bool) → IsPassed j ordered count 0 added more
+    → more ≡ false → NeededFrom j ordered 0 added
+needed_after j ordered count added true h none = absurd (cc)
+needed_after j ordered count added false h none = h.1
 
-pub needing_more : (b : Contents) (day : ℕ) (ordered others old new : List (List ℕ)) (before more : Bool) → Needing b day ordered others old before
-    → is_accepted b day (ordered ++ new) ≡ true → Among old new → IsPassed b day ordered (length old) 0 new more → Needing b day ordered others new more
-needing_more b day ordered others old new before more h accepted among passed = record {
-  accepted = accepted;
+pub needing_more : (j : Judging) (ordered others old new : List (List ℕ)) (before more : Bool) → Needing j ordered others old before
+    → passes j (ordered ++ new) ≡ true → Among old new → IsPassed j ordered (length old) 0 new more → Needing j ordered others new more
+needing_more j ordered others old new before more h passed_with among passed = record {
+  passed_with = passed_with;
   among = among_among others old new h.among among;
-  needed = needed_after b day ordered (length old) new more passed;
+  needed = needed_after j ordered (length old) new more passed;
 }
 
 -- what is left while runs are taken out, of which the next ends at a place
-pub record Cutting (b : Contents) (day : ℕ) (ordered before added : List (List ℕ)) (end : ℕ) : Type 0 where
-  pub accepted : is_accepted b day (ordered ++ added) ≡ true
+pub record Cutting (j : Judging) (ordered before added : List (List ℕ)) (end : ℕ) : Type 0 where
+  pub passed_with : passes j (ordered ++ added) ≡ true
   pub among : Among before added
   pub in_range : end ≤ length added
 
-pub cutting_begun : (b : Contents) (day : ℕ) (ordered added : List (List ℕ)) (end : ℕ) → end ≤ length added → is_accepted b day (ordered ++ added) ≡ true
-    → Cutting b day ordered added added end
-cutting_begun b day ordered added end within accepted = record { accepted = accepted; among = among_self added; in_range = within }
+pub cutting_begun : (j : Judging) (ordered added : List (List ℕ)) (end : ℕ) → end ≤ length added → passes j (ordered ++ added) ≡ true
+    → Cutting j ordered added added end
+cutting_begun j ordered added end within passed_with = record { passed_with = passed_with; among = among_self added; in_range = within }
 
-pub cutting_more : (b : Contents) (day : ℕ) (ordered before old new : List (List ℕ)) (end at : ℕ) → Cutting b day ordered before old end
-    → is_accepted b day (ordered ++ new) ≡ true → Among old new → at ≤ length new → Cutting b day ordered before new at
-cutting_more b day ordered before old new end at h accepted among within =
-    record { accepted = accepted; among = among_among before old new h.among among; in_range = within }
+pub cutting_more : (j : Judging) (ordered before old new : List (List ℕ)) (end at : ℕ) → Cutting j ordered before old end
+    → passes j (ordered ++ new) ≡ true → Among old new → at ≤ length new → Cutting j ordered before new at
+cutting_more j ordered before old new end at h passed_with among within =
+    record { passed_with = passed_with; among = among_among before old new h.among among; in_range = within }

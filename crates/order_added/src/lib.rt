@@ -1,8 +1,9 @@
 //! Codes that are added to an order so that it is accepted, none of them without need.
 #![tactic(auto)]
 
-mod accepting;
 mod adding;
+mod demanding;
+mod judge;
 mod runs;
 
 pub use adding::add;

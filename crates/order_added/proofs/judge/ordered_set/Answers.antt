@@ -4,7 +4,7 @@ use Rattle.pb_base.specs.NamedSet.{set_of_names}
 use Rattle.book_model.specs.Activity.{is_within}
 use Rattle.book_model.specs.Contents.{Contents}
 use Rattle.order_added.proofs.AcceptLaws.{outside, well_named, misnamed}
-use Rattle.order_added.proofs.accepting.ordered_set.Goals as goal
+use Rattle.order_added.proofs.judge.ordered_set.Goals as goal
 
 pub returns-then-not-active : goal.returns-then-not-active
 returns-then-not-active c =

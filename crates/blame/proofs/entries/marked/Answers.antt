@@ -3,8 +3,8 @@ use Rattle.blame.specs.Entries.{Among}
 use Rattle.blame.specs.declared.entries.Entry.{Entry}
 use Rattle.blame.specs.declared.entries.Entry.TheVariants.{Chosen}
 use Rattle.blame.proofs.ListLaws.{pushed_next, passed_next}
-use Rattle.blame.proofs.telling.marked.Goals as goal
-use Rattle.blame.proofs.telling.marked.Goals.{then-eq+in_ok-push, else-eq}
+use Rattle.blame.proofs.entries.marked.Goals as goal
+use Rattle.blame.proofs.entries.marked.Goals.{then-eq+in_ok-push, else-eq}
 
 pub loop-place-preserved : goal.loop-place-preserved
 loop-place-preserved c =

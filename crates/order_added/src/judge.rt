@@ -1,0 +1,133 @@
+//! Whether an order is accepted, without its parts list.
+ghost use Rattle.std.specs.Prelude.{◌≡◌, IfOk, Some, true, false, length};
+ghost use Rattle.order_added.specs.Accepted.{ordered_of};
+ghost use Rattle.order_added.specs.Judging.{passes, is_buildable};
+
+use crate::demanding::Demanding;
+use book_model::{Book, active};
+use parts_usage::{first_broken, first_unfit};
+use pb_base::{CodeName, CodeSet, Day, Fail, Memory};
+use std::alloc::Global;
+use std::marker::Model;
+use supplement::Completer;
+
+/// Judges orders of one book and day.
+#[derive(Drop)]
+pub(crate) struct Judge<'a> {
+    book: &'a Book,
+    day: Day,
+    completer: Completer<'a>,
+    demanding: Demanding,
+    positions: bool,
+}
+
+impl<'a> Model for Judge<'a> {
+    ghost use Rattle.std.specs.Prelude.{◌≡◌};
+    ghost use Rattle.order_added.specs.Judging.{Judging, judging_code};
+
+    ghost Value = { Judging };
+
+    ghost coded = { judging_code };
+
+    ghost view = { λ j. record { book = j.book.now; day = j.day; positions = j.positions } };
+
+    ghost invariant = { λ j. j.completer ≡ record { book = j.book.now; day = j.day } };
+}
+
+impl<'a> Judge<'a> {
+    /// By the rules and the positions, as an order is judged that is placed.
+    pub(crate) fn new(alloc: Global, book: &'a Book, day: Day) -> Result<Judge<'a>, Memory>
+        ensures { IfOk result (λ j. j ≡ record { book = book.now; day = day; positions = true }) }
+    {
+        let completer = Completer::new(alloc, book, day)?;
+        Ok(Judge {
+            book,
+            day,
+            completer,
+            demanding: Demanding::none(alloc),
+            positions: true,
+        })
+    }
+
+    /// By the rules alone. Whatever breaks none of them fits each position, but for a book that can't be released.
+    pub(crate) fn by_rules(alloc: Global, book: &'a Book, day: Day) -> Result<Judge<'a>, Memory>
+        ensures { IfOk result (λ j. j ≡ record { book = book.now; day = day; positions = false }) }
+    {
+        let completer = Completer::new(alloc, book, day)?;
+        let demanding = Demanding::of(alloc, book)?;
+        Ok(Judge {
+            book,
+            day,
+            completer,
+            demanding,
+            positions: false,
+        })
+    }
+
+    /// Whether an order of these codes passes. The rules that may be broken by the want of codes that were just taken out are tried
+    /// first.
+    pub(crate) fn passes(
+        &self,
+        alloc: Global,
+        names: &[CodeName],
+        taken: &[CodeName],
+    ) -> Result<bool, Memory>
+        ensures { IfOk result (λ passed. passed ≡ passes self.now names.now) }
+    {
+        let found = ordered_set(alloc, self.book, self.day, names)?;
+        match found {
+            Some(ordered) => self.passes_ordered(alloc, names, taken, ordered),
+            None => Ok(false),
+        }
+    }
+
+    // The same of an order without a fault, with the set of its codes.
+    fn passes_ordered(
+        &self,
+        alloc: Global,
+        names: &[CodeName],
+        taken: &[CodeName],
+        ordered: CodeSet,
+    ) -> Result<bool, Memory>
+        requires { ordered_of self.now.book self.now.day names.now ≡ Some ordered }
+        ensures { IfOk result (λ passed. passed ≡ passes self.now names.now) }
+    {
+        let completed = self.completer.complete(alloc, ordered)?;
+        let passed = self.is_buildable(taken, &completed.set);
+        Ok(passed)
+    }
+
+    // Whether a completed set breaks no rule and fits each position, where these count.
+    fn is_buildable(&self, taken: &[CodeName], set: &CodeSet) -> bool
+        requires { length set.now ≡ length self.now.book.codes }
+        ensures { result ≡ is_buildable self.now set.now }
+    {
+        if self.demanding.breaks_one(self.book, self.day, taken, set) {
+            return false;
+        }
+        if first_broken(self.book, self.day, set).is_some() {
+            return false;
+        }
+        !self.positions || first_unfit(self.book, self.day, set).is_none()
+    }
+}
+
+// The set of the codes that an order for this day names; None where the order has a fault.
+fn ordered_set(
+    alloc: Global,
+    book: &Book,
+    day: Day,
+    names: &[CodeName],
+) -> Result<Option<CodeSet>, Memory>
+    ensures { IfOk result (λ found. found ≡ ordered_of book.now day names.now) }
+{
+    let term = book.term();
+    if !active(term.first, term.last, day) {
+        return Ok(None);
+    }
+    match CodeSet::of_names(alloc, book.codes(), names) {
+        Ok(set) => Ok(Some(set)),
+        Err(Fail::Refused(_)) => Ok(None),
+        Err(Fail::Memory) => Err(Memory),
+    }
+}
