@@ -47,6 +47,10 @@ impl<S: Source, K: Sink> Sink for Halves<'_, '_, S, K> {
         self.sink.write(piece)
     }
 
+    fn write_both(&mut self, first: &[u8], second: &[u8]) -> Result<(), OutError> {
+        self.sink.write_both(first, second)
+    }
+
     fn write_faults(&self) -> u64 {
         self.sink.write_faults()
     }

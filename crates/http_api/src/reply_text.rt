@@ -7,7 +7,8 @@ ghost use Rattle.desk_words.specs.declared.reply.Reply.{Reply};
 use desk_words::{
     FullOf, Missing, Reply, put_book_fault, put_limit_fault, put_number, put_order_fault,
 };
-use pb_base::{Id, Memory, Text};
+use pb_base::{Body, Id, Memory, Text};
+use std::alloc::Global;
 
 /// Puts the line of a reply, where it has one.
 pub fn put_line(text: &mut Text, reply: &Reply) -> Result<(), Memory>
@@ -41,19 +42,19 @@ pub fn put_line(text: &mut Text, reply: &Reply) -> Result<(), Memory>
     }
 }
 
-/// What stands behind the line of a reply.
-pub fn rest_of(reply: &Reply) -> &[u8]
-    ensures { result.now ≡ rest_of reply.now }
+/// What stands behind the line of a reply. It is moved out of the reply.
+pub fn rest_of(alloc: Global, reply: Reply) -> Body
+    ensures { result ≡ rest_of reply }
 {
     match reply {
-        Reply::Raw(text) => text.as_slice(),
-        Reply::Cert(text) => text.as_slice(),
-        Reply::Report(text) => text.as_slice(),
-        Reply::Placed { text, .. } => text.as_slice(),
-        Reply::OrderIs { text, .. } => text.as_slice(),
-        Reply::Found(text) => text.as_slice(),
-        Reply::Undecided(text) => text.as_slice(),
-        _ => &[],
+        Reply::Raw(text) => text,
+        Reply::Cert(text) => text,
+        Reply::Report(text) => text,
+        Reply::Placed { text, .. } => text,
+        Reply::OrderIs { text, .. } => text,
+        Reply::Found(text) => text,
+        Reply::Undecided(text) => text,
+        _ => Body::new(alloc),
     }
 }
 

@@ -1,12 +1,14 @@
 //! Responses, byte for byte.
-ghost use Rattle.std.specs.Prelude.{◌≡◌, ◌++◌, IfOk, false, true};
-ghost use Rattle.http_api.specs.Response.{CanDeny, IsDeniedResponse, bad_line, bad_response, denied_line, denied_response, is_raw, plain_response, response, response_of};
+ghost use Rattle.std.specs.Prelude.{◌≡◌, ◌++◌, [], IfOk, false, if◌then◌else◌, length, true};
+ghost use Rattle.http_api.specs.Response.{CanDeny, IsDeniedResponse, bad_line, bad_response, denied_line, denied_response, head_of, is_raw, plain_response, response, response_of};
+ghost use Rattle.http_api.specs.ReplyText.{line_of};
 ghost use Rattle.desk_words.specs.declared.reply.Reply.TheVariants.{Memory as WantOfMemory};
 
 use crate::denied::Denied;
 use crate::opening::{Methods, Opening};
 use crate::path::path_of;
 use crate::reply_text::{put_line, rest_of};
+use crate::response_pieces::Response;
 use crate::routes::Routes;
 use crate::status::Status;
 use desk_words::Reply;
@@ -21,19 +23,26 @@ const LINE_ROOM: usize = 64;
 const ROOM: usize = 256;
 
 /// The response of a reply. It says that the connection closes where `close` is true, and leaves the bytes of the body out where `bare` is true.
-pub fn response_of(alloc: Global, reply: &Reply, close: bool, bare: bool) -> Result<Body, Memory>
-    ensures { IfOk result (λ body. body ≡ response_of reply.now close bare) }
+pub fn response_of(alloc: Global, reply: Reply, close: bool, bare: bool) -> Result<Response, Memory>
+    ensures { IfOk result (λ response. response ≡ response_of reply close bare) }
 {
-    // The head comes first and says how long the body is, so the line is written apart.
-    let mut line = Text::with_room(alloc, LINE_ROOM)?;
-    put_line(&mut line, reply)?;
     let opening = Opening {
-        status: Status::of(reply),
-        raw: is_raw(reply),
+        status: Status::of(&reply),
+        raw: is_raw(&reply),
         methods: Methods::Untold,
         close,
     };
-    response(alloc, opening, line.bytes(), rest_of(reply), bare)
+    let line = line_of(alloc, &reply)?;
+    response(alloc, opening, line.bytes(), rest_of(alloc, reply), bare)
+}
+
+// The line of a reply. The head comes first and says how long the body is, so the line is written apart.
+fn line_of(alloc: Global, reply: &Reply) -> Result<Text, Memory>
+    ensures { IfOk result (λ line. line ≡ line_of reply.now) }
+{
+    let mut line = Text::with_room(alloc, LINE_ROOM)?;
+    put_line(&mut line, reply)?;
+    Ok(line)
 }
 
 /// The response of a message that asks for nothing. `path` is the message's target; a wrong method is told the methods of its path.
@@ -110,7 +119,7 @@ fn denied_with(
         methods,
         close,
     };
-    response(alloc, opening, denied_line(denied), b"", bare)
+    plain(alloc, opening, denied_line(denied), bare)
 }
 
 fn denied_line(denied: Denied) -> &'static [u8]
@@ -134,7 +143,7 @@ pub fn bad_response(alloc: Global, refusal: Refusal) -> Result<Body, Memory>
         methods: Methods::Untold,
         close: true,
     };
-    response(alloc, opening, bad_line(refusal), b"", false)
+    plain(alloc, opening, bad_line(refusal), false)
 }
 
 fn bad_line(refusal: Refusal) -> &'static [u8]
@@ -184,19 +193,42 @@ fn response(
     alloc: Global,
     opening: Opening,
     line: &[u8],
+    rest: Body,
+    bare: bool,
+) -> Result<Response, Memory>
+    ensures { IfOk result (λ r. r ≡ response opening (line.now ++ rest) bare) }
+{
+    match front(alloc, opening, line, rest.as_slice(), bare) {
+        Ok(front) if bare => Ok(Response::whole(alloc, front)),
+        Ok(front) => Ok(Response::of(front, rest)),
+        Err(Memory) => Err(Memory),
+    }
+}
+
+// The response whose body is a line alone.
+fn plain(alloc: Global, opening: Opening, line: &[u8], bare: bool) -> Result<Body, Memory>
+    ensures { IfOk result (λ body. body ≡ response opening line.now bare) }
+{
+    front(alloc, opening, line, &[], bare)
+}
+
+// The head of a response whose body is a line with what stands behind it, and the line unless the body is left out.
+fn front(
+    alloc: Global,
+    opening: Opening,
+    line: &[u8],
     rest: &[u8],
     bare: bool,
 ) -> Result<Body, Memory>
-    ensures { IfOk result (λ body. body ≡ response opening (line.now ++ rest.now) bare) }
+    ensures { let head = head_of opening (length (line.now ++ rest.now)) in
+        IfOk result (λ body. body ≡ head ++ (if bare then [] else line.now)) }
 {
-    let length = line.len() + rest.len();
-    let mut text = Text::with_room(alloc, ROOM + rest.len())?;
-    opening.put(&mut text, length)?;
+    let mut text = Text::with_room(alloc, ROOM)?;
+    opening.put(&mut text, line.len() + rest.len())?;
     if bare {
         return Ok(text.into_body());
     }
     text.put(line)?;
-    text.put(rest)?;
     Ok(text.into_body())
 }
 

@@ -30,5 +30,5 @@ pub use memory_source::MemorySource;
 pub use named_file::NamedFile;
 pub use sink::Sink;
 pub use source::Source;
-pub use streams::{StreamSink, StreamSource};
+pub use streams::{StreamSink, StreamSource, behind};
 pub use whole::read_up_to;

@@ -1,5 +1,5 @@
 //! A link in memory.
-ghost use Rattle.std.specs.Prelude.{◌≡◌, ◌≢◌, ◌≤◌, ◌↔◌, [], IsTrue, Some, IfOk, OnOk, OnErr};
+ghost use Rattle.std.specs.Prelude.{◌≡◌, ◌≢◌, ◌≤◌, ◌↔◌, ◌++◌, [], IsTrue, Some, IfOk, OnOk, OnErr};
 ghost use Rattle.pb_outside.specs.Faults.{Fails, IsLater};
 ghost use Rattle.pb_outside.specs.FaultPlan.{is_to_fail, faults_of, after_call};
 ghost use Rattle.pb_outside.specs.MemorySink.{refuses, after_write, after_refusal};
@@ -99,6 +99,24 @@ impl Sink for MemoryLink {
         ensures refused { OnErr result (self.new.writes ≡ after_refusal self.old.writes) }
     {
         self.sink.write(piece)
+    }
+
+    fn write_both(&mut self, first: &[u8], second: &[u8]) -> Result<(), OutError>
+        ensures whole { let before = sink_told_by self.old.writes in
+            OnOk result (Takes (first.now ++ second.now) before (sink_told_by self.new.writes)) }
+        ensures cause { let before = sink_told_by self.old.writes in
+            OnErr result (Refuses (first.now ++ second.now) before (sink_told_by self.new.writes)) }
+        ensures no_memory { result ≢ Err OutError.Memory }
+        ensures other_end { self.new.reads ≡ self.old.reads }
+
+        // As the sink alone.
+        ensures fails { let piece = first.now ++ second.now in
+            (result ≡ Err OutError.Failed) ↔ IsTrue (refuses self.old.writes piece) }
+        ensures written { let piece = first.now ++ second.now in
+            OnOk result (self.new.writes ≡ after_write self.old.writes piece) }
+        ensures refused { OnErr result (self.new.writes ≡ after_refusal self.old.writes) }
+    {
+        self.sink.write_both(first, second)
     }
 
     fn write_faults(&self) -> u64 {

@@ -1,5 +1,5 @@
 //! A sink in memory.
-ghost use Rattle.std.specs.Prelude.{◌≡◌, ◌≢◌, ◌↔◌, [], IsTrue, IfOk, OnOk, OnErr};
+ghost use Rattle.std.specs.Prelude.{◌≡◌, ◌≢◌, ◌↔◌, ◌++◌, [], IsTrue, IfOk, OnOk, OnErr};
 ghost use Rattle.pb_outside.specs.MemorySink.{told_by, refuses, after_write, after_refusal};
 ghost use Rattle.pb_outside.specs.Sink.{Takes, Refuses};
 
@@ -84,6 +84,37 @@ impl Sink for MemorySink {
             unreachable!();
         }
         self.room -= piece.len();
+        Ok(())
+    }
+
+    fn write_both(&mut self, first: &[u8], second: &[u8]) -> Result<(), OutError>
+        ensures whole { let piece = first.now ++ second.now in
+            OnOk result (Takes piece (told_by self.old) (told_by self.new)) }
+        ensures cause { let piece = first.now ++ second.now in
+            OnErr result (Refuses piece (told_by self.old) (told_by self.new)) }
+        ensures no_memory { result ≢ Err OutError.Memory }
+
+        // As one write of both.
+        ensures fails { let piece = first.now ++ second.now in
+            (result ≡ Err OutError.Failed) ↔ IsTrue (refuses self.old piece) }
+        ensures written { OnOk result (self.new ≡ after_write self.old (first.now ++ second.now)) }
+        ensures refused { OnErr result (self.new ≡ after_refusal self.old) }
+    {
+        if self.plan.begin_call() {
+            return Err(OutError::Failed);
+        }
+        let length = first.len() + second.len();
+        if length > self.room {
+            self.plan.count_fault();
+            return Err(OutError::Failed);
+        }
+        if self.taken.extend_from_slice(first).is_err() {
+            unreachable!();
+        }
+        if self.taken.extend_from_slice(second).is_err() {
+            unreachable!();
+        }
+        self.room -= length;
         Ok(())
     }
 

@@ -1,11 +1,11 @@
 //! Adapters over readers and writers: standard input and output, opened files and connections. They tell what the reader
 //! or the writer tells, and those of the system tell nothing.
-ghost use Rattle.std.specs.Prelude.{◌≡◌, [], None, false};
+ghost use Rattle.std.specs.Prelude.{◌≡◌, ◌+◌, ◌≤◌, ◌++◌, [], None, drop, false, length};
 ghost use Rattle.pb_outside.specs.Source.{no_input};
 ghost use Rattle.pb_outside.specs.Sink.{no_output};
 
 use crate::{Ends, FaultCount, OutError, Sink, Source};
-use std::io::{Read, Write};
+use std::io::{IoSlice, Read, Write};
 
 // How many bytes one read asks for at most. So many are cleared for each read, and a reader seldom has more.
 const CHUNK: usize = 8_192;
@@ -61,6 +61,18 @@ impl<R: Read> Source for StreamSource<R> {
     }
 }
 
+/// What is left of two pieces, one behind the other, behind so many bytes of both.
+pub fn behind<'a>(first: &'a [u8], second: &'a [u8], count: usize) -> (&'a [u8], &'a [u8])
+    requires { count ≤ length first.now + length second.now }
+    ensures { result.0.now ++ result.1.now ≡ drop count (first.now ++ second.now) }
+{
+    if count < first.len() {
+        (&first[count..], second)
+    } else {
+        (&[], &second[count - first.len()..])
+    }
+}
+
 /// A sink over a writer. Each error of the writer is a fault, and so is a write that takes nothing.
 #[derive(Drop)]
 pub struct StreamSink<W: Write> {
@@ -96,6 +108,24 @@ impl<W: Write> Sink for StreamSink<W> {
             match self.writer.write(rest) {
                 Ok(0) => return self.faults.fail(),
                 Ok(count) => rest = &rest[count..],
+                Err(_) => return self.faults.fail(),
+            }
+        }
+        if self.writer.flush().is_err() {
+            return self.faults.fail();
+        }
+        Ok(())
+    }
+
+    fn write_both(&mut self, first: &[u8], second: &[u8]) -> Result<(), OutError> {
+        let (mut front, mut rest) = (first, second);
+        while !front.is_empty() || !rest.is_empty() {
+            match self
+                .writer
+                .write_vectored(&[IoSlice::new(front), IoSlice::new(rest)])
+            {
+                Ok(0) => return self.faults.fail(),
+                Ok(count) => (front, rest) = behind(front, rest, count),
                 Err(_) => return self.faults.fail(),
             }
         }

@@ -9,9 +9,9 @@ ghost use Rattle.session.specs.Steps.{text_of};
 
 use answering::{Gate, Turns, answer_call};
 use desk_words::Call;
-use http_api::{Denied, Routes, response_of};
+use http_api::{Denied, Response, Routes, response_of};
 use http_wire::{Head, Message};
-use pb_base::{Body, Fail, Memory};
+use pb_base::{Fail, Memory};
 use std::alloc::Global;
 
 /// Answers a message. Its effect stands also where there is no memory for the response.
@@ -21,7 +21,7 @@ pub(crate) fn answer<T: Turns, G: Gate>(
     turns: &mut T,
     gate: &G,
     message: &Message,
-) -> Result<Body, Memory>
+) -> Result<Response, Memory>
     requires { length message.now.body ≤ MOST_TEXT_BYTES }
     ensures { let text = text_of message.now.head result in
         AnswersMessage message.now (T.hand turns.old) text (T.hand turns.new) }
@@ -39,26 +39,24 @@ fn answer_asked<T: Turns, G: Gate>(
     gate: &G,
     call: Call,
     head: &Head,
-) -> Result<Body, Memory>
+) -> Result<Response, Memory>
     requires { IsCall call.what }
     ensures { let text = text_of head.now result in
         AnswersAsked (Ok call) head.now (T.hand turns.old) text (T.hand turns.new) }
 {
     let reply = answer_call(alloc, turns, gate, call);
-    response_of(alloc, &reply, head.close, is_bare(head))
+    response_of(alloc, reply, head.close, is_bare(head))
 }
 
-fn deny(alloc: Global, routes: &Routes, denied: Denied, head: &Head) -> Result<Body, Memory>
+fn deny(alloc: Global, routes: &Routes, denied: Denied, head: &Head) -> Result<Response, Memory>
     requires { CanDeny denied head.now.target }
     ensures { IfOk result (IsDeniedResponse denied head.now.target head.now.close (is_bare head.now)) }
 {
-    routes.denied_response(
-        alloc,
-        denied,
-        head.target.as_slice(),
-        head.close,
-        is_bare(head),
-    )
+    let target = head.target.as_slice();
+    match routes.denied_response(alloc, denied, target, head.close, is_bare(head)) {
+        Ok(bytes) => Ok(Response::whole(alloc, bytes)),
+        Err(Memory) => Err(Memory),
+    }
 }
 
 /// Whether the response to a message has no body, as that to HEAD.

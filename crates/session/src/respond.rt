@@ -6,17 +6,17 @@ ghost use Rattle.session.specs.Steps.{EndsAnswered, text_of};
 
 use crate::answer::is_bare;
 use crate::end::{SessionEnd, WriteFault};
-use crate::write::write;
-use http_api::memory_response;
+use crate::write::write_both;
+use http_api::{Response, memory_response};
 use http_wire::Head;
-use pb_base::{Body, Memory};
+use pb_base::Memory;
 use pb_outside::Link;
 
 /// Writes the response to a message. Behind a message that closes the session ends.
 pub(crate) fn respond<L: Link>(
     link: &mut L,
     head: &Head,
-    made: Result<Body, Memory>,
+    made: Result<Response, Memory>,
 ) -> Result<(), SessionEnd>
     ensures open { OnOk result (head.now.close ≡ false) }
     ensures whole { OnOk result (Takes (text_of head.now made) (L.output link.old) (L.output link.new)) }
@@ -35,7 +35,7 @@ pub(crate) fn respond<L: Link>(
 fn write_response<L: Link>(
     link: &mut L,
     head: &Head,
-    made: Result<Body, Memory>,
+    made: Result<Response, Memory>,
 ) -> Result<(), WriteFault>
     ensures whole { OnOk result (Takes (text_of head.now made) (L.output link.old) (L.output link.new)) }
     ensures cut { let text = text_of head.now made in
@@ -44,7 +44,10 @@ fn write_response<L: Link>(
     ensures same_names { L.names link.new ≡ L.names link.old }
 {
     match made {
-        Ok(response) => write(link, response.as_slice()),
-        Err(Memory) => write(link, memory_response(head.close, is_bare(head))),
+        Ok(response) => {
+            let (front, rest) = response.pieces();
+            write_both(link, front, rest)
+        }
+        Err(Memory) => write_both(link, memory_response(head.close, is_bare(head)), &[]),
     }
 }

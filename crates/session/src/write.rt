@@ -1,5 +1,5 @@
 //! Writing to a link.
-ghost use Rattle.std.specs.Prelude.{◌≡◌, OnOk, IfErr};
+ghost use Rattle.std.specs.Prelude.{◌≡◌, ◌++◌, OnOk, IfErr};
 ghost use Rattle.pb_outside.specs.Sink.{Takes};
 ghost use Rattle.session.specs.Responses.{closing_memory_response};
 ghost use Rattle.session.specs.Session.{WriteFails};
@@ -9,7 +9,7 @@ use crate::end::{SessionEnd, WriteFault};
 use http_api::memory_response;
 use pb_outside::{Link, OutError};
 
-/// Writes a piece.
+/// Writes a piece that is no response.
 pub(crate) fn write<L: Link>(link: &mut L, piece: &[u8]) -> Result<(), WriteFault>
     ensures whole { OnOk result (Takes piece.now (L.output link.old) (L.output link.new)) }
     ensures cut { IfErr result (WriteFails piece.now (L.output link.old) (L.output link.new)) }
@@ -27,13 +27,35 @@ pub(crate) fn write<L: Link>(link: &mut L, piece: &[u8]) -> Result<(), WriteFaul
     }
 }
 
-/// Writes the last piece of a session that is to end so.
+/// Writes the two pieces of a response, one behind the other, by one write. A link may count responses so.
+pub(crate) fn write_both<L: Link>(
+    link: &mut L,
+    first: &[u8],
+    second: &[u8],
+) -> Result<(), WriteFault>
+    ensures whole { OnOk result (Takes (first.now ++ second.now) (L.output link.old) (L.output link.new)) }
+    ensures cut { IfErr result (WriteFails (first.now ++ second.now) (L.output link.old) (L.output link.new)) }
+    ensures other_end { L.input link.new ≡ L.input link.old }
+    ensures same_names { L.names link.new ≡ L.names link.old }
+{
+    let before = link.write_faults();
+    match link.write_both(first, second) {
+        Ok(()) => Ok(()),
+        Err(OutError::Failed) => Err(WriteFault {
+            before,
+            after: link.write_faults(),
+        }),
+        Err(OutError::Memory) => unreachable!(),
+    }
+}
+
+/// Writes the last response of a session that is to end so.
 pub(crate) fn end_with<L: Link>(link: &mut L, piece: &[u8], end: SessionEnd) -> SessionEnd
     ensures ends { EndsWith end piece.now result (L.output link.old) (L.output link.new) }
     ensures other_end { L.input link.new ≡ L.input link.old }
     ensures same_names { L.names link.new ≡ L.names link.old }
 {
-    match write(link, piece) {
+    match write_both(link, piece, &[]) {
         Ok(()) => end,
         Err(fault) => SessionEnd::WriteFault(fault),
     }

@@ -100,6 +100,11 @@ impl Sink for LockStep {
         Ok(())
     }
 
+    fn write_both(&mut self, first: &[u8], second: &[u8]) -> Result<(), OutError> {
+        self.write(first)?;
+        self.write(second)
+    }
+
     fn write_faults(&self) -> u64 {
         0
     }
