@@ -32,7 +32,7 @@ fn only_port<'a, R: Net<Listener = TcpListener, Stream = TcpStream> + Sync, W: W
 }
 
 // Reads what a link gives, to its end.
-fn read_all<C: Clock + Drop>(alloc: Global, link: &mut TcpLink<C>) -> Result<Vec<u8>, OutError> {
+fn read_all<W: Watch + Drop>(alloc: Global, link: &mut TcpLink<W>) -> Result<Vec<u8>, OutError> {
     let mut bytes = Vec::new(alloc);
     for _ in 0..100_000 {
         if link.read(&mut bytes, 8_192)? == 0 {
@@ -146,6 +146,7 @@ struct StopsAt<'a, R: Clock> {
     clock: &'a R,
     asked: AtomicU64,
     most: u64,
+    answered: AtomicU64,
 }
 
 impl<R: Clock> Clock for StopsAt<'_, R> {
@@ -171,6 +172,10 @@ impl<R: Clock> Watch for StopsAt<'_, R> {
 
     fn note_given(&self) {}
 
+    fn note_answered(&self) {
+        self.answered.fetch_add(1, Ordering::SeqCst);
+    }
+
     fn note_ended(&self, _: bool) {}
 
     fn note_refused(&self) {}
@@ -183,15 +188,22 @@ fn a_port_that_waits_is_over_once_it_is_stopped(rt: HostRuntime) -> Result<(), F
         clock: &rt,
         asked: AtomicU64::new(0),
         most: 3,
+        answered: AtomicU64::new(0),
     };
     let mut door = TcpDoor::new(alloc, &rt, &watch);
     let mut port = only_port(alloc, &mut door, 0, 9)?;
     let client = TcpStream::connect(&rt, port.address()?)?;
     client.shutdown(Shutdown::Write)?;
     match port.next()? {
-        Some(link) => port.done(link),
+        Some(mut link) => {
+            link.write(b"wait")?;
+            link.write_both(b"po", b"ng")?;
+            port.done(link);
+        }
         None => panic!(rt; "a connection waits"),
     }
+    // One piece alone is no response.
+    assert_eq!(rt; watch.answered.load(Ordering::SeqCst), 1);
     // Nobody comes any more, and some are left to be given.
     assert!(rt; port.next()?.is_none());
     assert_eq!(rt; port.faults(), 0);

@@ -1,2 +1,3 @@
 mod Crossing
 pub mod Fresh
+mod Named

@@ -1,6 +1,7 @@
 //! The program: it does what its words ask, mostly of a book that it reads from standard input.
 #![tactic(auto)]
 
+mod counted;
 mod store;
 mod watching;
 
@@ -8,6 +9,7 @@ ghost use Rattle.std.specs.Prelude.{◌≡◌};
 ghost use Rattle.std.specs.Process.{exit_status};
 ghost use Rattle.book_commands.specs.Numbers.{status_number};
 
+use crate::counted::Counted;
 use crate::store::{FileStore, Store};
 use crate::watching::watch_of;
 use answering::NoGate;
@@ -29,14 +31,17 @@ fn main(rt: HostRuntime) -> ExitCode {
         log: RunLog::new(alloc),
     };
     let world = World {
-        keeper: Store::Unopened(rt),
+        keeper: Counted {
+            store: Store::Unopened(rt),
+            orders: watch.orders(),
+        },
         channels,
     };
     let RunEnd { status, world } = match begin_given(&rt, alloc, words, world, &NoGate) {
         Begun::Ended(end) => end,
         Begun::Awaited(service, left) => run_service(&rt, alloc, &service, left, &NoGate),
     };
-    closed(rt, status, world.keeper)
+    closed(rt, status, world.keeper.store)
 }
 
 // The status, as the system takes it.

@@ -6,27 +6,27 @@ ghost use Rattle.pb_door.specs.LinkTold.{IsUnwritten, link_told};
 ghost use Rattle.tcp_door.specs.Untold.{untold};
 
 use crate::patience::{Progress, before_read, bound_waits, end_connection, is_late, write_whole};
+use crate::watch::Watch;
 use pb_outside::{Ends, FaultCount, Link, OutError, Sink, Source, StreamSource};
 use std::net::TcpStream;
-use std::time::Clock;
 
 /// A connection over TCP. It tells how often reading and writing have failed, and none of its bytes. A peer that sends
 /// nothing for 30 seconds, takes nothing for as long, or takes more than 120 seconds for the head and the body of one
 /// message, is a fault of this connection.
 #[derive(Drop)]
-pub struct TcpLink<C: Clock + Drop> {
+pub struct TcpLink<W: Watch + Drop> {
     stream: TcpStream,
-    clock: C,
+    watch: W,
     progress: Progress,
     read_faults: FaultCount,
     write_faults: FaultCount,
 }
 
-impl<C: Clock + Drop> TcpLink<C> {
+impl<W: Watch + Drop> TcpLink<W> {
     /// A connection that was just made.
-    pub(crate) fn new(stream: TcpStream, clock: C) -> TcpLink<C>
-        ensures { let input = ⟦<TcpLink<C> as Ends>⟧.input result in
-            link_told input (⟦<TcpLink<C> as Ends>⟧.output result) ≡ untold 0 0 }
+    pub(crate) fn new(stream: TcpStream, watch: W) -> TcpLink<W>
+        ensures { let input = ⟦<TcpLink<W> as Ends>⟧.input result in
+            link_told input (⟦<TcpLink<W> as Ends>⟧.output result) ≡ untold 0 0 }
     {
         // Without it a short response may wait for the peer to confirm the one before. Where it can't be set nothing
         // else changes.
@@ -34,7 +34,7 @@ impl<C: Clock + Drop> TcpLink<C> {
         bound_waits(&stream);
         TcpLink {
             stream,
-            clock,
+            watch,
             progress: Progress::Awaited,
             read_faults: FaultCount::new(),
             write_faults: FaultCount::new(),
@@ -45,16 +45,16 @@ impl<C: Clock + Drop> TcpLink<C> {
     pub(crate) fn close(self) {
         let TcpLink {
             stream,
-            clock,
+            watch,
             progress: _,
             read_faults: _,
             write_faults: _,
         } = self;
-        end_connection(stream, &clock);
+        end_connection(stream, &watch);
     }
 }
 
-impl<C: Clock + Drop> Ends for TcpLink<C> {
+impl<W: Watch + Drop> Ends for TcpLink<W> {
     ghost use Rattle.std.specs.Prelude.{None, false};
 
     ghost input = { λ l.
@@ -65,10 +65,10 @@ impl<C: Clock + Drop> Ends for TcpLink<C> {
     ghost names = { λ _. [] };
 }
 
-impl<C: Clock + Drop> Source for TcpLink<C> {
+impl<W: Watch + Drop> Source for TcpLink<W> {
     fn read(&mut self, into: &mut Vec<u8>, max: usize) -> Result<usize, OutError> {
-        self.progress = before_read(&self.clock, self.progress);
-        let late = is_late(&self.clock, self.progress);
+        self.progress = before_read(&self.watch, self.progress);
+        let late = is_late(&self.watch, self.progress);
         let mut source = StreamSource::new(&self.stream);
         let count = read_in_time(late, &mut source, &mut self.read_faults, into, max)?;
         if matches!(self.progress, Progress::Awaited) {
@@ -113,10 +113,19 @@ fn read_in_time<S: Source>(
     }
 }
 
-impl<C: Clock + Drop> Sink for TcpLink<C> {
+impl<W: Watch + Drop> Sink for TcpLink<W> {
     fn write(&mut self, piece: &[u8]) -> Result<(), OutError> {
         self.progress = Progress::Awaited;
-        if write_whole(&self.stream, &self.clock, piece) {
+        if write_whole(&self.stream, &self.watch, &[], piece) {
+            return Ok(());
+        }
+        self.write_faults.fail()
+    }
+
+    fn write_both(&mut self, first: &[u8], second: &[u8]) -> Result<(), OutError> {
+        self.progress = Progress::Awaited;
+        if write_whole(&self.stream, &self.watch, first, second) {
+            self.watch.note_answered();
             return Ok(());
         }
         self.write_faults.fail()
@@ -127,4 +136,4 @@ impl<C: Clock + Drop> Sink for TcpLink<C> {
     }
 }
 
-impl<C: Clock + Drop> Link for TcpLink<C> {}
+impl<W: Watch + Drop> Link for TcpLink<W> {}

@@ -1,8 +1,8 @@
 //! How long a caller may take. The times are bounds on one connection, so that a silent or slow caller ends its own
 //! connection and no other.
 
-use pb_outside::{Sink, StreamSink};
-use std::io::Read;
+use pb_outside::behind;
+use std::io::{IoSlice, Read};
 use std::net::{Shutdown, TcpStream};
 use std::time::{Clock, Duration, Instant};
 
@@ -73,17 +73,40 @@ fn took<C: Clock>(clock: &C, begin: Instant, seconds: u64) -> bool {
     }
 }
 
-/// Writes a piece whole. False where the stream refused it, or where it took too long.
-pub(crate) fn write_whole<C: Clock>(stream: &TcpStream, clock: &C, piece: &[u8]) -> bool {
-    if piece.len() <= PART {
-        return StreamSink::new(stream).write(piece).is_ok();
+/// Writes two pieces whole, one behind the other, the first with what fits beside it of the second by one call of the
+/// system. The first is short, as the head of a response. False where the stream refused a part, or where it took too long.
+pub(crate) fn write_whole<C: Clock>(
+    stream: &TcpStream,
+    clock: &C,
+    first: &[u8],
+    second: &[u8],
+) -> bool {
+    let (front, rest) = second.split_at(second.len().min(PART));
+    if rest.is_empty() {
+        return write_parts(stream, first, front);
     }
     let Ok(begin) = Instant::now(clock) else {
-        return StreamSink::new(stream).write(piece).is_ok();
+        return write_parts(stream, first, second);
     };
-    for part in piece.chunks(PART) {
-        if took(clock, begin, LONGEST_RESPONSE) || StreamSink::new(stream).write(part).is_err() {
+    if !write_parts(stream, first, front) {
+        return false;
+    }
+    for part in rest.chunks(PART) {
+        if took(clock, begin, LONGEST_RESPONSE) || !write_parts(stream, &[], part) {
             return false;
+        }
+    }
+    true
+}
+
+// Writes two parts, one behind the other, without a look at the clock. False where the stream refused a byte.
+fn write_parts(stream: &TcpStream, first: &[u8], second: &[u8]) -> bool {
+    let (mut front, mut rest) = (first, second);
+    while !front.is_empty() || !rest.is_empty() {
+        match stream.write_vectored(&[IoSlice::new(front), IoSlice::new(rest)]) {
+            Ok(0) => return false,
+            Ok(count) => (front, rest) = behind(front, rest, count),
+            Err(_) => return false,
         }
     }
     true

@@ -7,7 +7,7 @@ use std::time::{Clock, Duration, Instant};
 use std::{eprintln, fs, io, rt};
 
 /// Is stopped while a file of a given name is there. It says on standard error when the door listens, and from then on how
-/// many connections there were.
+/// many connections, responses and orders there were.
 #[derive(Drop)]
 pub struct SystemWatch<'a, R: rt::Files + Clock + Eprint> {
     system: &'a R,
@@ -21,6 +21,8 @@ pub struct SystemWatch<'a, R: rt::Files + Clock + Eprint> {
     ended: AtomicU64,
     failed: AtomicU64,
     refused: AtomicU64,
+    answered: AtomicU64,
+    orders: AtomicU64,
 }
 
 impl<'a, R: rt::Files + Clock + Eprint> SystemWatch<'a, R> {
@@ -37,7 +39,14 @@ impl<'a, R: rt::Files + Clock + Eprint> SystemWatch<'a, R> {
             ended: AtomicU64::new(0),
             failed: AtomicU64::new(0),
             refused: AtomicU64::new(0),
+            answered: AtomicU64::new(0),
+            orders: AtomicU64::new(0),
         }
+    }
+
+    /// How many orders were kept. The door doesn't know of orders, so who keeps them counts them here.
+    pub fn orders(&self) -> &AtomicU64 {
+        &self.orders
     }
 
     // Writes the counts if they are due. Only one port finds them due.
@@ -65,11 +74,13 @@ impl<'a, R: rt::Files + Clock + Eprint> SystemWatch<'a, R> {
         let ended = self.ended.load(Ordering::SeqCst);
         let given = self.given.load(Ordering::SeqCst);
         let _told = eprintln!(self.system;
-            "links {} open {} failed {} refused {}",
+            "links {} open {} failed {} refused {} requests {} orders {}",
             given,
             given.saturating_sub(ended),
             self.failed.load(Ordering::SeqCst),
-            self.refused.load(Ordering::SeqCst)
+            self.refused.load(Ordering::SeqCst),
+            self.answered.load(Ordering::SeqCst),
+            self.orders.load(Ordering::SeqCst)
         );
     }
 }
@@ -110,6 +121,10 @@ impl<R: rt::Files + Clock + Eprint> Watch for SystemWatch<'_, R> {
 
     fn note_given(&self) {
         self.given.fetch_add(1, Ordering::SeqCst);
+    }
+
+    fn note_answered(&self) {
+        self.answered.fetch_add(1, Ordering::SeqCst);
     }
 
     fn note_ended(&self, failed: bool) {

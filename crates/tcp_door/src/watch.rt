@@ -19,6 +19,9 @@ pub trait Watch: Clock {
     /// A connection came.
     fn note_given(&self);
 
+    /// Two pieces were written whole, as each response is. A `100 Continue` is one piece and isn't told.
+    fn note_answered(&self);
+
     /// A connection ended. Reading or writing may have failed on it.
     fn note_ended(&self, failed: bool);
 
@@ -39,6 +42,10 @@ impl<W: Watch> Watch for &W {
 
     fn note_given(&self) {
         (**self).note_given();
+    }
+
+    fn note_answered(&self) {
+        (**self).note_answered();
     }
 
     fn note_ended(&self, failed: bool) {
