@@ -16,6 +16,7 @@ long     one who sends his request a byte a second, for longer than a message ma
 many     200 connections at once, each with an order; and 100 that are open at once, which speak one after the other.
 large    one who has a large book checked and released.
 descriptors  a service that may have too few open files for its workers: who can't be taken waits, and the service doesn't end.
+counts   what a service tells of itself on standard error after eight requests and two orders, one of them sent three times.
 deep     bodies with lists deep in one another, since a worker has a stack of its own.
 
 It isn't part of the gate. It needs the built program and python3, and ends by itself. The status is 1 where something doesn't
@@ -394,6 +395,31 @@ def try_large(program, given):
     return over(program, trial)
 
 
+def counts(said):
+    """The counts of the last line that a service wrote, by their words."""
+    words = [line for line in said.splitlines() if line.startswith("links ")][-1].split()
+    return dict(zip(words[::2], map(int, words[1::2])))
+
+
+def try_counts(program, given):
+    with tempfile.TemporaryDirectory(dir=work_place()) as folder:
+        settings = {**os.environ, "PARTSBOOK_COUNTS": "1"}
+        with Service(program, os.path.join(folder, "desk.db"), WORKERS, 2 * WORKERS, settings=settings) as service:
+            with service.client() as client:
+                client.release()
+                answers = [client.place(number)[0] for number in (1, 2, 2)]
+                must("an order that is sent again is known", answers == [201, 201, 200], answers)
+                client.link.request("PUT", "/orders/2", CODES, {"X-Caller": "HALL1", "Expect": "100-continue"})
+                must("the answer behind a 100 Continue", client.link.getresponse().read().decode() == ACCEPTED)
+            # A port tells what is due once a second while it waits.
+            time.sleep(3)
+            status, out, said = service.use_up()
+    must("it ends as behind its last link", (status, out) == (0, "drafts 1 books 1 orders 2\n"), status, out, said)
+    told = counts(said)
+    must("requests and orders", (told["requests"], told["orders"]) == (8, 2), said)
+    return f"told of {told['requests']} requests and {told['orders']} orders"
+
+
 def try_descriptors(program, given):
     with tempfile.TemporaryDirectory(dir=work_place()) as folder:
         store = os.path.join(folder, "desk.db")
@@ -416,7 +442,7 @@ def try_descriptors(program, given):
                 must("who waited is answered", hear(link).endswith(b"no such path\n"))
             status, out, said = service.use_up()
     must("it ends as behind its last link", (status, out) == (0, "drafts 0 books 0 orders 0\n"), status, out, said)
-    refused = max((int(line.split()[-1]) for line in said.splitlines() if line.startswith("links ")), default=0)
+    refused = counts(said)["refused"]
     must("it says that it couldn't take a link", refused > 0, said)
     return f"with {most} descriptors two silent clients kept a third waiting, who was taken when they had gone: {refused} tries in vain"
 
@@ -445,7 +471,8 @@ def try_deep(program, given):
 def main():
     subjects = {
         "slow": try_slow, "unread": try_unread, "silent": try_silent, "gone": try_gone, "closing": try_closing, "all": try_all, "long": try_long,
-        "many": try_many, "large": try_large, "descriptors": try_descriptors, "deep": try_deep,
+        "many": try_many, "large": try_large, "counts": try_counts,
+        "descriptors": try_descriptors, "deep": try_deep,
     }
     reader = argparse.ArgumentParser(usage="tests/hostile-serve.py [PROGRAM [SUBJECT..]]")
     reader.add_argument("program", nargs="?", default=PROGRAM)

@@ -14,6 +14,7 @@ PAGE = TOP / "docs" / "WRONG-BODIES.md"
 
 # What the changed code would do. An edit that has no line here is shown by its name alone.
 WOULD = {
+    "runs_told_in_another_order": "with several workers the slices of a book would be told in another order",
     "a_requirement_asked_on_its_first_slice_alone": "a requirement that fails later would be told as kept",
     "idle_that_is_not_told": "a requirement about cars that there are none of would be told as kept",
     "a_run_joined_over_days_that_differ": "days on which a requirement is kept would be told as days on which it fails",
