@@ -4,6 +4,7 @@ use book_text::read_book;
 use pb_base::CodeSet;
 use std::alloc::Global;
 use std::test::Fail;
+use std::thread::Threads;
 use supplement_findings::{
     SupplementNote, SupplementQuestion, SupplementReport, check_supplements,
 };
@@ -55,17 +56,25 @@ pub(crate) fn book_of(alloc: Global, text: &[u8]) -> Result<Book, Fail> {
 }
 
 // The report on a book that keeps the limits.
-fn report_of(alloc: Global, book: &Book) -> Result<SupplementReport, Fail> {
-    let Ok(report) = check_supplements(alloc, book, 10_000) else {
+fn report_of<R: Threads + Sync>(
+    rt: &R,
+    alloc: Global,
+    book: &Book,
+) -> Result<SupplementReport, Fail> {
+    let Ok(report) = check_supplements(rt, alloc, book, 10_000, 1) else {
         return Err(Fail::from("no report"));
     };
     Ok(report)
 }
 
 // The same of a book's text.
-fn report_on(alloc: Global, text: &[u8]) -> Result<SupplementReport, Fail> {
+fn report_on<R: Threads + Sync>(
+    rt: &R,
+    alloc: Global,
+    text: &[u8],
+) -> Result<SupplementReport, Fail> {
     let book = book_of(alloc, text)?;
-    report_of(alloc, &book)
+    report_of(rt, alloc, &book)
 }
 
 // Whether the codes of a set are just these.
@@ -96,7 +105,7 @@ fn is_shown(note: &SupplementNote, asked: SupplementQuestion, codes: &[u32]) -> 
 
 #[test]
 fn where_no_set_breaks_there_are_days_alone(rt: HostRuntime) -> Result<(), Fail> {
-    let report = report_on(rt.alloc(), ENGINE)?;
+    let report = report_on(&rt, rt.alloc(), ENGINE)?;
     let notes = report.as_slice();
     assert!(rt; notes.len() == 1);
     assert!(rt; is_of_days(&notes[0], 1, 1000));
@@ -105,7 +114,7 @@ fn where_no_set_breaks_there_are_days_alone(rt: HostRuntime) -> Result<(), Fail>
 
 #[test]
 fn a_rule_that_breaks_is_found(rt: HostRuntime) -> Result<(), Fail> {
-    let report = report_on(rt.alloc(), BROKEN)?;
+    let report = report_on(&rt, rt.alloc(), BROKEN)?;
     let notes = report.as_slice();
     assert!(rt; notes.len() == 2);
     assert!(rt; is_of_days(&notes[0], 1, 1000));
@@ -115,7 +124,7 @@ fn a_rule_that_breaks_is_found(rt: HostRuntime) -> Result<(), Fail> {
 
 #[test]
 fn rules_that_swap_are_found(rt: HostRuntime) -> Result<(), Fail> {
-    let report = report_on(rt.alloc(), SWAPPED)?;
+    let report = report_on(&rt, rt.alloc(), SWAPPED)?;
     let notes = report.as_slice();
     let asked = SupplementQuestion::Swaps {
         first: 0,

@@ -4,6 +4,7 @@ use book_model::{Book, LimitFault};
 use pb_base::{Fail as Refusal, Memory, Text};
 use std::alloc::Global;
 use std::test::Fail;
+use std::thread::Threads;
 use supplement_findings::check_supplements;
 
 // 450 rules, with this letter and a number for an id.
@@ -31,8 +32,12 @@ fn large_book(alloc: Global) -> Result<Book, Fail> {
 }
 
 // The limit that a book exceeds.
-fn exceeded(alloc: Global, book: &Book) -> Result<Option<LimitFault>, Memory> {
-    match check_supplements(alloc, book, 1) {
+fn exceeded<R: Threads + Sync>(
+    rt: &R,
+    alloc: Global,
+    book: &Book,
+) -> Result<Option<LimitFault>, Memory> {
+    match check_supplements(rt, alloc, book, 1, 1) {
         Ok(_) => Ok(None),
         Err(Refusal::Refused(fault)) => Ok(Some(fault)),
         Err(Refusal::Memory) => Err(Memory),
@@ -42,7 +47,7 @@ fn exceeded(alloc: Global, book: &Book) -> Result<Option<LimitFault>, Memory> {
 #[test]
 fn too_many_pairs_are_refused_with_their_number(rt: HostRuntime) -> Result<(), Fail> {
     let book = large_book(rt.alloc())?;
-    let fault = exceeded(rt.alloc(), &book)?;
+    let fault = exceeded(&rt, rt.alloc(), &book)?;
     let wanted = LimitFault::Questions {
         slice: 0,
         count: 203_400,
