@@ -7,13 +7,15 @@ ghost use Rattle.pb_outside.specs.Sink.{no_output};
 use crate::{Ends, FaultCount, OutError, Sink, Source};
 use std::io::{IoSlice, Read, Write};
 
-// How many bytes one read asks for at most. So many are cleared for each read, and a reader seldom has more.
+// How many bytes one read asks for at most.
 const CHUNK: usize = 8_192;
 
 /// A source over a reader. Each error of the reader is a fault.
 #[derive(Drop)]
 pub struct StreamSource<R: Read> {
     reader: R,
+    // What each read is made into. It is cleared once.
+    chunk: [u8; CHUNK],
     faults: FaultCount,
 }
 
@@ -25,6 +27,7 @@ impl<R: Read> StreamSource<R> {
     {
         StreamSource {
             reader,
+            chunk: [0; CHUNK],
             faults: FaultCount::new(),
         }
     }
@@ -41,9 +44,9 @@ impl<R: Read> Ends for StreamSource<R> {
 
 impl<R: Read> Source for StreamSource<R> {
     fn read(&mut self, into: &mut Vec<u8>, max: usize) -> Result<usize, OutError> {
-        let mut chunk = [0; CHUNK];
         let most = max.min(CHUNK);
         into.reserve(most)?;
+        let chunk = &mut self.chunk[..];
         match self.reader.read(&mut chunk[..most]) {
             Ok(count) => {
                 // There is room, so no byte that was read is lost.
