@@ -45,7 +45,7 @@ fn read_all<W: Watch + Drop>(alloc: Global, link: &mut TcpLink<W>) -> Result<Vec
 #[test]
 fn links_come_and_go(rt: HostRuntime) -> Result<(), Fail> {
     let alloc = rt.alloc();
-    let watch = SystemWatch::new(&rt, None, 0);
+    let watch = SystemWatch::new(&rt, None, 0, 0);
     let mut door = TcpDoor::new(alloc, &rt, &watch);
     let mut port = only_port(alloc, &mut door, 0, 2)?;
     let address = port.address()?;
@@ -78,7 +78,7 @@ fn links_come_and_go(rt: HostRuntime) -> Result<(), Fail> {
 #[test]
 fn a_door_listens_at_the_port_that_is_asked_for(rt: HostRuntime) -> Result<(), Fail> {
     let alloc = rt.alloc();
-    let watch = SystemWatch::new(&rt, None, 0);
+    let watch = SystemWatch::new(&rt, None, 0, 0);
     let mut door = TcpDoor::new(alloc, &rt, &watch);
     let number = only_port(alloc, &mut door, 0, 1)?.address()?.port();
     let port = only_port(alloc, &mut door, number, 1)?;
@@ -125,7 +125,7 @@ fn refuse_early<W: Watch + Copy + Drop + Send>(
 #[test]
 fn an_early_refusal_reaches_a_client_that_sends_on(rt: HostRuntime) -> Result<(), Fail> {
     let alloc = rt.alloc();
-    let watch = SystemWatch::new(&rt, None, 0);
+    let watch = SystemWatch::new(&rt, None, 0, 0);
     let mut door = TcpDoor::new(alloc, &rt, &watch);
     let mut port = only_port(alloc, &mut door, 0, 1)?;
     let address = port.address()?;
@@ -213,9 +213,9 @@ fn a_port_that_waits_is_over_once_it_is_stopped(rt: HostRuntime) -> Result<(), F
 #[test]
 fn a_file_stops_a_door(rt: HostRuntime) -> Result<(), Fail> {
     let alloc = rt.alloc();
-    let there = SystemWatch::new(&rt, Some(String::from_str(alloc, "/")?), 0);
+    let there = SystemWatch::new(&rt, Some(String::from_str(alloc, "/")?), 0, 0);
     assert!(rt; there.is_stopped());
-    let absent = SystemWatch::new(&rt, Some(String::from_str(alloc, "/no such file")?), 0);
+    let absent = SystemWatch::new(&rt, Some(String::from_str(alloc, "/no such file")?), 0, 0);
     assert!(rt; !absent.is_stopped());
     Ok(())
 }

@@ -1,6 +1,7 @@
 //! What stops a service, and how often it tells its counts.
 
 use command_words::{Task, task_of};
+use desk_run::MOST_STEPS;
 use std::alloc::Global;
 use std::rt::Runtime;
 use std::{env, io};
@@ -16,7 +17,7 @@ pub(crate) fn watch_of<'a, R: Runtime>(
     alloc: Global,
     words: &io::Result<Vec<String>>,
 ) -> SystemWatch<'a, R> {
-    SystemWatch::new(rt, stop_file(alloc, words), interval(rt))
+    SystemWatch::new(rt, stop_file(alloc, words), interval(rt), MOST_STEPS)
 }
 
 // The name of the file by which the service is stopped that the words ask for. Without memory for it there is none.

@@ -79,7 +79,7 @@ fn answer_at<R: Clock + Net<Listener = TcpListener, Stream = TcpStream>>(
 fn a_request_is_answered_at_the_port_that_is_asked_for(rt: HostRuntime) -> Result<(), Fail> {
     let alloc = rt.alloc();
     let port = free_port(&rt)?;
-    let watch = SystemWatch::new(&rt, None, 0);
+    let watch = SystemWatch::new(&rt, None, 0, 0);
     let mut door = TcpDoor::new(alloc, &rt, &watch);
     let (rt, door) = (&rt, &mut door);
     let (served, answer) = thread::join(

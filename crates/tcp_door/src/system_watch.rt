@@ -7,7 +7,7 @@ use std::time::{Clock, Duration, Instant};
 use std::{eprintln, fs, io, rt};
 
 /// Is stopped while a file of a given name is there. It says on standard error when the door listens, and from then on how
-/// many connections, responses and orders there were.
+/// many connections, responses and orders there were, and how many steps are left at least.
 #[derive(Drop)]
 pub struct SystemWatch<'a, R: rt::Files + Clock + Eprint> {
     system: &'a R,
@@ -15,6 +15,8 @@ pub struct SystemWatch<'a, R: rt::Files + Clock + Eprint> {
     // How many seconds lie between two lines at least. It writes nothing where this is 0.
     interval: u64,
     begun: Option<Instant>,
+    // How many steps those who answer may make in all.
+    steps: u64,
     // How many seconds after `begun` the next line is due.
     due: AtomicU64,
     given: AtomicU64,
@@ -27,12 +29,19 @@ pub struct SystemWatch<'a, R: rt::Files + Clock + Eprint> {
 
 impl<'a, R: rt::Files + Clock + Eprint> SystemWatch<'a, R> {
     /// `stop` is the name of the file; where there is none, nothing stops it. `interval` is the least number of seconds
-    /// between two lines on standard error; it writes none where this is 0.
-    pub fn new(system: &'a R, stop: Option<String>, interval: u64) -> SystemWatch<'a, R> {
+    /// between two lines on standard error; it writes none where this is 0. `steps` is how many steps those who answer may
+    /// make in all, at most two for each response and for each connection that fails or is open.
+    pub fn new(
+        system: &'a R,
+        stop: Option<String>,
+        interval: u64,
+        steps: u64,
+    ) -> SystemWatch<'a, R> {
         SystemWatch {
             system,
             stop,
             interval,
+            steps,
             begun: Instant::now(system).ok(),
             due: AtomicU64::new(interval),
             given: AtomicU64::new(0),
@@ -73,14 +82,19 @@ impl<'a, R: rt::Files + Clock + Eprint> SystemWatch<'a, R> {
     fn tell(&self) {
         let ended = self.ended.load(Ordering::SeqCst);
         let given = self.given.load(Ordering::SeqCst);
+        let failed = self.failed.load(Ordering::SeqCst);
+        let open = given.saturating_sub(ended);
+        let answered = self.answered.load(Ordering::SeqCst);
+        let asked = answered.saturating_add(failed).saturating_add(open);
         let _told = eprintln!(self.system;
-            "links {} open {} failed {} refused {} requests {} orders {}",
+            "links {} open {} failed {} refused {} requests {} orders {} steps {}",
             given,
-            given.saturating_sub(ended),
-            self.failed.load(Ordering::SeqCst),
+            open,
+            failed,
             self.refused.load(Ordering::SeqCst),
-            self.answered.load(Ordering::SeqCst),
-            self.orders.load(Ordering::SeqCst)
+            answered,
+            self.orders.load(Ordering::SeqCst),
+            self.steps.saturating_sub(asked.saturating_mul(2))
         );
     }
 }
