@@ -1,4 +1,6 @@
 pub mod RowsLemmas
+pub mod PlainLemmas
+pub mod LoadLemmas
 pub mod FieldLemmas
 pub mod PassLemmas
 pub mod ChoiceLemmas

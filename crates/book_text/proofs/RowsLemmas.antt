@@ -61,7 +61,7 @@ enough-by : (n m : ℕ) (found : Option Read) → ((p : Read) → found ≡ Some
 enough-by n m None h = refl
 enough-by n m (Some p) h = ap (λ (rows : List Row). p.0 ∷ rows) (h p refl)
 
-enough : (n m : ℕ) (s : State) (xs : List ℕ) → ends_at_end s ≡ false → length xs < n → length xs < m → records_from default_config n s xs ≡ records_from default_config m s xs
+pub enough : (n m : ℕ) (s : State) (xs : List ℕ) → ends_at_end s ≡ false → length xs < n → length xs < m → records_from default_config n s xs ≡ records_from default_config m s xs
 unfolding records_from
 enough zero m s xs b h g = absurd (omega arith)
 enough (suc n) zero s xs b h g = absurd (omega arith)
@@ -108,12 +108,12 @@ next_record-short n s fields field (c ∷ rest) p h l e =
     (λ q found. next_record-short n next.0 (fields_after next.1 fields field) (field_after next.1 c field) rest q so_far (omega arith) found)
     e
 
-steps-next : (n : ℕ) (s : State) (xs : List ℕ) → records_from default_config (suc n) s xs ≡ records_next (records_from default_config n) (next_record default_config s [] [] xs)
+pub steps-next : (n : ℕ) (s : State) (xs : List ℕ) → records_from default_config (suc n) s xs ≡ records_next (records_from default_config n) (next_record default_config s [] [] xs)
 unfolding records_from
 steps-next n s xs = refl
 
 -- the rows that are read from between two rows, by what the next read finds
-rows_from-next : (s : State) (xs : List ℕ) → rows_from s (Some xs) ≡ records_next (records_from default_config (length xs)) (next_record default_config s [] [] xs)
+pub rows_from-next : (s : State) (xs : List ℕ) → rows_from s (Some xs) ≡ records_next (records_from default_config (length xs)) (next_record default_config s [] [] xs)
 rows_from-next s xs =
     let one : length xs + 1 ≡ suc (length xs) = omega arith in
     ap (λ n. records_from default_config n s xs) one ∙ steps-next (length xs) s xs

@@ -1,6 +1,5 @@
 //! What a row says by itself: the record of its kind, with names in place of what they stand for. The text of a rule, or of a group's codes, stands beside it.
 ghost use Rattle.std.specs.Prelude.{◌≡◌};
-ghost use Rattle.csv.specs.Records.{fields_of};
 ghost use Rattle.book_text.specs.Entry.{heading_of, entry_of, text_of, code_in, supplement_in, construct_in, group_in, module_record_in, position_in, variant_in};
 
 use crate::fault::BookKind;
@@ -10,7 +9,7 @@ use crate::fields::{
 };
 use crate::group::is_group;
 use crate::kind::{Kind, kind_of};
-use csv::ByteRecord;
+use crate::text_row::TextRow;
 use pb_base::{CodeName, Id, Part};
 
 /// What the `book` record says.
@@ -62,8 +61,8 @@ pub enum Entry {
 }
 
 /// The heading that the first row of a book has to be.
-pub fn heading_of(row: &ByteRecord) -> Result<Heading, BookKind>
-    ensures { result ≡ heading_of (fields_of row.now) }
+pub fn heading_of(row: &TextRow<'_>) -> Result<Heading, BookKind>
+    ensures { result ≡ heading_of row.now }
 {
     match kind_of(field(row, 0)) {
         Some(Kind::Book) => {}
@@ -81,8 +80,8 @@ pub fn heading_of(row: &ByteRecord) -> Result<Heading, BookKind>
 }
 
 /// The record of a further row, in a book of this heading.
-pub fn entry_of(heading: &Heading, row: &ByteRecord) -> Result<Entry, BookKind>
-    ensures { result ≡ entry_of heading.now (fields_of row.now) }
+pub fn entry_of(heading: &Heading, row: &TextRow<'_>) -> Result<Entry, BookKind>
+    ensures { result ≡ entry_of heading.now row.now }
 {
     let term = heading.term;
     match kind_of(field(row, 0)) {
@@ -102,8 +101,8 @@ pub fn entry_of(heading: &Heading, row: &ByteRecord) -> Result<Entry, BookKind>
 }
 
 /// The text that stands in a row beside its record: of its rule, or of a group's codes; an empty one where a record of the kind has neither.
-pub fn text_of<'r>(entry: &Entry, row: &'r ByteRecord) -> &'r [u8]
-    ensures { result.now ≡ text_of entry.now (fields_of row.now) }
+pub fn text_of<'r>(entry: &Entry, row: &'r TextRow<'_>) -> &'r [u8]
+    ensures { result.now ≡ text_of entry.now row.now }
 {
     match entry {
         Entry::Supplement { .. } => field(row, 4),
@@ -113,8 +112,8 @@ pub fn text_of<'r>(entry: &Entry, row: &'r ByteRecord) -> &'r [u8]
     }
 }
 
-fn code_in(row: &ByteRecord) -> Result<Entry, BookKind>
-    ensures { result ≡ code_in (fields_of row.now) }
+fn code_in(row: &TextRow<'_>) -> Result<Entry, BookKind>
+    ensures { result ≡ code_in row.now }
 {
     if !is_width(row, 3) {
         return Err(BookKind::FieldCount);
@@ -123,8 +122,8 @@ fn code_in(row: &ByteRecord) -> Result<Entry, BookKind>
     Ok(Entry::Code { name })
 }
 
-fn supplement_in(term: Days, row: &ByteRecord) -> Result<Entry, BookKind>
-    ensures { result ≡ supplement_in term (fields_of row.now) }
+fn supplement_in(term: Days, row: &TextRow<'_>) -> Result<Entry, BookKind>
+    ensures { result ≡ supplement_in term row.now }
 {
     if !is_width(row, 7) {
         return Err(BookKind::FieldCount);
@@ -141,8 +140,8 @@ fn supplement_in(term: Days, row: &ByteRecord) -> Result<Entry, BookKind>
     })
 }
 
-fn construct_in(term: Days, row: &ByteRecord) -> Result<Entry, BookKind>
-    ensures { result ≡ construct_in term (fields_of row.now) }
+fn construct_in(term: Days, row: &TextRow<'_>) -> Result<Entry, BookKind>
+    ensures { result ≡ construct_in term row.now }
 {
     if !is_width(row, 6) {
         return Err(BookKind::FieldCount);
@@ -153,8 +152,8 @@ fn construct_in(term: Days, row: &ByteRecord) -> Result<Entry, BookKind>
     Ok(Entry::Construct { id, on, days })
 }
 
-fn group_in(term: Days, row: &ByteRecord) -> Result<Entry, BookKind>
-    ensures { result ≡ group_in term (fields_of row.now) }
+fn group_in(term: Days, row: &TextRow<'_>) -> Result<Entry, BookKind>
+    ensures { result ≡ group_in term row.now }
 {
     if !is_width(row, 6) {
         return Err(BookKind::FieldCount);
@@ -168,8 +167,8 @@ fn group_in(term: Days, row: &ByteRecord) -> Result<Entry, BookKind>
     Ok(Entry::Group { id, kind, days })
 }
 
-fn module_record_in(row: &ByteRecord) -> Result<Entry, BookKind>
-    ensures { result ≡ module_record_in (fields_of row.now) }
+fn module_record_in(row: &TextRow<'_>) -> Result<Entry, BookKind>
+    ensures { result ≡ module_record_in row.now }
 {
     if !is_width(row, 3) {
         return Err(BookKind::FieldCount);
@@ -178,8 +177,8 @@ fn module_record_in(row: &ByteRecord) -> Result<Entry, BookKind>
     Ok(Entry::Module { id })
 }
 
-fn position_in(term: Days, row: &ByteRecord) -> Result<Entry, BookKind>
-    ensures { result ≡ position_in term (fields_of row.now) }
+fn position_in(term: Days, row: &TextRow<'_>) -> Result<Entry, BookKind>
+    ensures { result ≡ position_in term row.now }
 {
     if !is_width(row, 6) {
         return Err(BookKind::FieldCount);
@@ -196,8 +195,8 @@ fn position_in(term: Days, row: &ByteRecord) -> Result<Entry, BookKind>
     })
 }
 
-fn variant_in(term: Days, row: &ByteRecord) -> Result<Entry, BookKind>
-    ensures { result ≡ variant_in term (fields_of row.now) }
+fn variant_in(term: Days, row: &TextRow<'_>) -> Result<Entry, BookKind>
+    ensures { result ≡ variant_in term row.now }
 {
     if !is_width(row, 8) {
         return Err(BookKind::FieldCount);

@@ -1,10 +1,9 @@
 //! The fields of a row, each read by its form.
 ghost use Rattle.std.specs.Prelude.{◌≡◌};
-ghost use Rattle.csv.specs.Records.{fields_of};
 ghost use Rattle.book_text.specs.Fields.{name_in, code_name_in, code_or_star_in, part_in, module_in, is_mandatory_in, group_kind_in, form_in, number_in, day_in, day_or, term_of, days_in, field, is_width};
 
 use crate::fault::BookKind;
-use csv::ByteRecord;
+use crate::text_row::TextRow;
 use pb_base::limits::LAST_DAY;
 use pb_base::{CodeName, Id, Part, short_number};
 
@@ -30,8 +29,8 @@ pub enum GroupKind {
 }
 
 /// The field at a place, counted from 0; an empty one where the row ends before it.
-pub fn field(row: &ByteRecord, place: usize) -> &[u8]
-    ensures { result.now ≡ field (fields_of row.now) place }
+pub fn field<'r>(row: &'r TextRow<'_>, place: usize) -> &'r [u8]
+    ensures { result.now ≡ field row.now place }
 {
     match row.get(place) {
         Some(text) => text,
@@ -40,8 +39,8 @@ pub fn field(row: &ByteRecord, place: usize) -> &[u8]
 }
 
 /// Whether the row has this many fields, and nothing but empty ones behind them.
-pub fn is_width(row: &ByteRecord, width: usize) -> bool
-    ensures { result ≡ is_width width (fields_of row.now) }
+pub fn is_width(row: &TextRow<'_>, width: usize) -> bool
+    ensures { result ≡ is_width width row.now }
 {
     if row.len() < width {
         return false;

@@ -2,17 +2,21 @@
 #![tactic(auto)]
 
 mod construct_ids;
+mod csv_rows;
 mod entry;
 mod fault;
+mod field_ends;
 mod fields;
 mod group;
 mod kind;
 mod names;
 mod partial_book;
+mod plain_rows;
 mod read;
 mod row_reader;
 mod second_pass;
 mod survey;
+mod text_row;
 
 pub use fault::{BookFault, BookKind, Which};
 pub use read::read_book;

@@ -22,8 +22,8 @@ use crate::partial_book::PartialBook;
 use crate::row_reader::RowReader;
 use crate::second_pass::second_pass;
 use crate::survey::{Survey, first_pass};
+use crate::text_row::TextRow;
 use book_model::{Book, BookParts};
-use csv::ByteRecord;
 use pb_base::Fail;
 use pb_base::limits::MOST_TEXT_BYTES;
 use std::alloc::Global;
@@ -63,7 +63,7 @@ fn book_of_rows(alloc: Global, rows: &mut RowReader<'_>) -> Result<Book, Fail<Bo
     requires { length rows.old ≤ MOST_TEXT_BYTES }
     ensures { Answers result (book_of_rows rows.old) }
 {
-    let mut row = ByteRecord::new(alloc);
+    let mut row = TextRow::new(alloc);
     if !rows.read(&mut row)? {
         return Err(fault(1, BookKind::NoBookRecord));
     }
@@ -74,11 +74,11 @@ fn book_of_rows(alloc: Global, rows: &mut RowReader<'_>) -> Result<Book, Fail<Bo
 }
 
 // The book of a heading and the rows behind it, each read in place of the one that `row` holds.
-fn book_behind(
+fn book_behind<'t>(
     alloc: Global,
     heading: Heading,
-    rows: &mut RowReader<'_>,
-    row: &mut ByteRecord,
+    rows: &mut RowReader<'t>,
+    row: &mut TextRow<'t>,
 ) -> Result<Book, Fail<BookFault>>
     requires count { length rows.old ≤ MOST_TEXT_BYTES }
     requires term { heading.term.from ≤ heading.term.until }

@@ -7,6 +7,7 @@ ghost use Rattle.book_model.specs.Groups.{AreGroups};
 ghost use Rattle.book_text.specs.PartialBook.{records_of, IsGrouped};
 ghost use Rattle.pb_base.specs.declared.limits.TheConstants.{MOST_TEXT_BYTES};
 ghost use Rattle.book_text.specs.SecondPass.{place_of, places_of, place_if_named, rule_in, supplement_of, construct_of, demand_of, group_of, position_of, variant_of, with_variant, resolved};
+ghost use Rattle.book_text.specs.Fields.{field};
 ghost use Rattle.book_text.specs.Group.{names_in};
 ghost use Rattle.book_text.specs.Said.{said_pass};
 ghost use Rattle.book_text.specs.Records.{no_records};
@@ -15,7 +16,7 @@ ghost use Rattle.book_text.specs.declared.fault.BookKind.{BookKind};
 
 use crate::entry::Entry;
 use crate::fault::{BookFault, BookKind, Which};
-use crate::fields::{Days, GroupKind, field};
+use crate::fields::{Days, GroupKind};
 use crate::names::Names;
 use crate::partial_book::PartialBook;
 use crate::survey::Survey;
@@ -64,7 +65,7 @@ fn resolve_all(
     ensures grouped { OnOk result (IsGrouped (length names.now.positions) book.new) }
 {
     for (k, entry) in entries.iter().enumerate() {
-        match resolve(alloc, book, names, entry, field(texts, k)) {
+        match resolve(alloc, book, names, entry, text_at(texts, k)) {
             Ok(()) => {}
             Err(Fail::Refused(kind)) => {
                 let row = k as u32 + 2;
@@ -74,6 +75,16 @@ fn resolve_all(
         }
     }
     Ok(())
+}
+
+// The text beside the record at a place.
+fn text_at(texts: &ByteRecord, place: usize) -> &[u8]
+    ensures { result.now ≡ field (fields_of texts.now) place }
+{
+    match texts.get(place) {
+        Some(text) => text,
+        None => &[],
+    }
 }
 
 // Adds the record that a row says, with this text beside it.

@@ -13,6 +13,7 @@ use crate::entry::{Entry, Heading, entry_of, text_of};
 use crate::fault::{BookFault, BookKind};
 use crate::names::Names;
 use crate::row_reader::RowReader;
+use crate::text_row::TextRow;
 use csv::ByteRecord;
 use pb_base::Fail;
 use std::alloc::Global;
@@ -28,19 +29,19 @@ pub struct Survey {
 }
 
 /// Reads the rows behind the heading, the first of which is row 2, each in place of the one that `row` holds.
-pub fn first_pass(
+pub fn first_pass<'t>(
     alloc: Global,
     heading: &Heading,
-    rows: &mut RowReader<'_>,
-    row: &mut ByteRecord,
+    rows: &mut RowReader<'t>,
+    row: &mut TextRow<'t>,
 ) -> Result<Survey, Fail<BookFault>>
     requires { length rows.old ≤ MOST_TEXT_BYTES }
     ensures names { Gives result (λ s. s.names) (first_pass heading.now rows.old) }
     ensures said { IfOk result (λ s. AreSaid heading.now rows.old s.entries.items (fields_of s.texts)) }
     ensures short { IfOk result (λ s. IsShort (fields_of s.texts)) }
 {
+    let mut entries = Vec::with_capacity(alloc, rows.room())?;
     let mut names = Names::new(alloc);
-    let mut entries = Vec::new(alloc);
     let mut texts = ByteRecord::new(alloc);
     enter_rows(&mut names, &mut entries, &mut texts, heading, rows, row)?;
     Ok(Survey {
@@ -50,13 +51,13 @@ pub fn first_pass(
     })
 }
 
-fn enter_rows(
+fn enter_rows<'t>(
     names: &mut Names,
     entries: &mut Vec<Entry>,
     texts: &mut ByteRecord,
     heading: &Heading,
-    rows: &mut RowReader<'_>,
-    row: &mut ByteRecord,
+    rows: &mut RowReader<'t>,
+    row: &mut TextRow<'t>,
 ) -> Result<(), Fail<BookFault>>
     requires count { length rows.old ≤ MOST_TEXT_BYTES }
     requires none { (entries.old.items ≡ []) × (fields_of texts.old ≡ []) × (partial_of texts.old ≡ []) }
@@ -84,10 +85,10 @@ fn enter_rows(
 fn enter_row(
     names: &mut Names,
     heading: &Heading,
-    row: &ByteRecord,
+    row: &TextRow<'_>,
 ) -> Result<Entry, Fail<BookKind>>
-    ensures names { Leaves result names.new (entered_row heading.now names.old (fields_of row.now)) }
-    ensures entry { IfOk result (λ entry. entry_of heading.now (fields_of row.now) ≡ Ok entry) }
+    ensures names { Leaves result names.new (entered_row heading.now names.old row.now) }
+    ensures entry { IfOk result (λ entry. entry_of heading.now row.now ≡ Ok entry) }
 {
     match entry_of(heading, row) {
         Ok(entry) => {

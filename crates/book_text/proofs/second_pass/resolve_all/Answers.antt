@@ -7,7 +7,7 @@ use Rattle.book_text.proofs.second_pass.resolve_all.Goals as goal
 pub returns-in-Err-Refused-clause-value : goal.returns-in-Err-Refused-clause-value
 returns-in-Err-Refused-clause-value c =
     let in_texts : c.loop-k.k < length (fields_of c.args.texts.now) = omega arith in
-    let fault = rw (c.in-Err-Refused.field-0-is, c.field.ensures) at c.in-Err-Refused.ensures.value in
+    let fault = rw (c.in-Err-Refused.field-0-is, c.text_at.ensures) at c.in-Err-Refused.ensures.value in
     rw c.in-Err-Refused.field-0-is (
     sym c.loop-k.invariant.rest
     ∙ said-fault c.args.names.now c.loop-k.k (records_of c.loop-k.book) c.args.entries.now (fields_of c.args.texts.now) c.index-entries-k.result c.in-Err-Refused.kind
@@ -16,7 +16,7 @@ returns-in-Err-Refused-clause-value c =
 pub loop-k-preserved : goal.loop-k-preserved
 loop-k-preserved c =
     let in_texts : c.loop-k.k < length (fields_of c.args.texts.now) = omega arith in
-    let next = rw c.field.ensures at c.in-Ok.ensures.value in
+    let next = rw c.text_at.ensures at c.in-Ok.ensures.value in
     record {
       rest =
           sym (said-more c.args.names.now c.loop-k.k (records_of c.loop-k.book) c.args.entries.now (fields_of c.args.texts.now) (records_of c.resolve.new.book) c.index-entries-k.result

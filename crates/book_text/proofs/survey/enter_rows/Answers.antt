@@ -25,7 +25,7 @@ rows-init c =
 pub rows-preserved : goal.rows-preserved
 rows-preserved c =
     let inv = c.rows.invariant in
-    let row = fields_of c.read.new.row in
+    let row = c.read.new.row in
     let next : c.rows.rows ≡ row ∷ c.read.new.self = rw c.if-branch.true at c.in_ok-read.ensures.next in
     let short = c.in_ok-read.ensures.short c.if-branch.true in
     let texts : fields_of c.push_field.new.self ≡ fields_of c.rows.texts ++ text_of c.in-Ok.entry row ∷ [] =
@@ -51,13 +51,13 @@ rows-preserved c =
 
 pub rows-smaller : goal.rows-smaller
 rows-smaller c =
-    let next : c.rows.rows ≡ fields_of c.read.new.row ∷ c.read.new.self = rw c.if-branch.true at c.in_ok-read.ensures.next in
+    let next : c.rows.rows ≡ c.read.new.row ∷ c.read.new.self = rw c.if-branch.true at c.in_ok-read.ensures.next in
     let fewer : length c.read.new.self < length c.rows.rows = omega (arith, ap length next) in
     fewer
 
 pub returns-in-Err-Refused-clause-names : goal.returns-in-Err-Refused-clause-names
 returns-in-Err-Refused-clause-names c =
-    let row = fields_of c.read.new.row in
+    let row = c.read.new.row in
     let next : c.rows.rows ≡ row ∷ c.read.new.self = rw c.if-branch.true at c.in_ok-read.ensures.next in
     let step = entered_row c.args.heading.now in
     let n = length c.rows.entries.items + 2 in

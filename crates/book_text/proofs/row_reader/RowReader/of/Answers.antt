@@ -1,25 +1,13 @@
-use Rattle.std.proofs.Common.{◌+◌, length, refl, ◌∙◌, inr, arith}
+use Rattle.std.proofs.Common.{◌+◌, ◌≤◌, List, length, refl, sym, subst, arith}
 use Rattle.csv.specs.Reading.{strip_bom}
 use Rattle.csv.specs.declared.parser.State.TheVariants as st
+use Rattle.book_text.specs.Plain.{plain_rows}
+use Rattle.book_text.specs.Rows.{Row}
 use Rattle.book_text.proofs.RowsLemmas.{rows-count, strip_bom-shorter}
 use Rattle.book_text.proofs.row_reader.RowReader.of.Goals as goal
 
-pub invariant_of-result : goal.invariant_of-result
-invariant_of-result c = λ going.
-    let fr = c.from_reader-reader.ensures in
-    let headers = c.has_headers.ensures in
-    let flexible = c.flexible.ensures in
-    record {
-      untrimmed = rw (flexible, headers) at fr.trim ∙ c.new.ensures.trim;
-      flexible = rw flexible at fr.flexible;
-      ready = inr (inr (rw (flexible, headers) at fr.has_headers, fr.headers));
-      config = rw (flexible, headers) at fr.config ∙ c.new.ensures.config;
-      between = rw fr.state refl;
-      text = (strip_bom c.args.text.now, fr.source, omega (arith, strip_bom-shorter c.args.text.now));
-    }
-
-pub returns-clause-count : goal.returns-clause-count
-returns-clause-count c =
-    let fr = c.from_reader-reader.ensures in
+pub returns-in-None-clause-count : goal.returns-in-None-clause-count
+returns-in-None-clause-count c =
     let text = strip_bom c.args.text.now in
-    rw (fr.state, fr.source) (omega (arith, rows-count (length text + 1) st.StartRecord text refl, strip_bom-shorter c.args.text.now))
+    let count : length (plain_rows text) ≤ length text = rows-count (length text + 1) st.StartRecord text refl in
+    subst (λ (rows : List Row). length rows ≤ length c.args.text.now) (sym c.of-in-None.ensures) (omega (arith, count, strip_bom-shorter c.args.text.now))

@@ -1,6 +1,6 @@
 use Rattle.csv.specs.Records.{fields_of}
 use Rattle.book_text.proofs.RowsLemmas.{read-gives}
-use Rattle.book_text.proofs.row_reader.RowReader.read.Goals as goal
+use Rattle.book_text.proofs.csv_rows.CsvRows.read.Goals as goal
 
 pub invariant_of-self : goal.invariant_of-self
 invariant_of-self c =
