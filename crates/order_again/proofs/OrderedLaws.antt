@@ -166,14 +166,11 @@ accepts_unbroken b day names accepted faultless = by (first_broken_of b day (sup
 pub few_accepted : (b : Contents) (day : ℕ) (names : List (List ℕ)) → accepts b day names ≡ true → order_fault b day names ≡ None → IsBook b → IsReleasable b → AreFew b day (supplemented b day names)
 few_accepted b day names accepted faultless book releasable = few_selected b day names faultless book releasable (accepts_unbroken b day names accepted faultless)
 
-pub set_is : (b d : Contents) (day : ℕ) (names : List (List ℕ)) (ordered set : List Bool) → d ≡ b → ordered ≡ named b.codes names → set ≡ (completion_of d day ordered).set → set ≡ supplemented b day names
-set_is b d day names ordered set same is completed =
-    completed ∙ ap (λ (e : Contents). (completion_of e day ordered).set) same ∙ ap (λ (x : List Bool). (completion_of b day x).set) is
+pub set_is : (b : Contents) (day : ℕ) (names : List (List ℕ)) (ordered set : List Bool) → ordered ≡ named b.codes names → set ≡ (completion_of b day ordered).set → set ≡ supplemented b day names
+set_is b day names ordered set is completed = completed ∙ ap (λ (x : List Bool). (completion_of b day x).set) is
 
 -- the first rule that it breaks
-pub broken_is : (b d : Contents) (day : ℕ) (names : List (List ℕ)) (ordered set : List Bool) (broken : Option ℕ) → d ≡ b → ordered ≡ named b.codes names → set ≡ (completion_of d day ordered).set
-    → broken ≡ first_broken_of d day set → first_broken_of b day (supplemented b day names) ≡ broken
-broken_is b d day names ordered set broken same is completed found =
-    ap (first_broken_of b day) (sym (set_is b d day names ordered set same is completed))
-    ∙ ap (λ (e : Contents). first_broken_of e day set) (sym same)
-    ∙ sym found
+pub broken_is : (b : Contents) (day : ℕ) (names : List (List ℕ)) (ordered set : List Bool) (broken : Option ℕ) → ordered ≡ named b.codes names → set ≡ (completion_of b day ordered).set
+    → broken ≡ first_broken_of b day set → first_broken_of b day (supplemented b day names) ≡ broken
+broken_is b day names ordered set broken is completed found =
+    ap (first_broken_of b day) (sym (set_is b day names ordered set is completed)) ∙ sym found

@@ -5,8 +5,8 @@ ghost use Rattle.supplement.specs.Completion.{completion_of};
 
 use book_model::{Book, active};
 use pb_base::{CodeName, CodeSet, Day, Fail, Memory};
+use release::Released;
 use std::alloc::Global;
-use supplement::Completer;
 
 /// The set of the codes that an order for this day names; None where the order has a fault.
 pub(crate) fn ordered_set(
@@ -31,15 +31,14 @@ pub(crate) fn ordered_set(
 /// A set of a book's codes with those that its supplementing rules add.
 pub(crate) fn completed_set(
     alloc: Global,
-    book: &Book,
+    released: &Released,
     day: Day,
     ordered: CodeSet,
 ) -> Result<CodeSet, Memory>
-    requires { length ordered ≡ length book.now.codes }
-    ensures set { IfOk result (λ x. x ≡ (completion_of book.now day ordered).set) }
-    ensures counted { IfOk result (λ x. length x ≡ length book.now.codes) }
+    requires { length ordered ≡ length released.now.book.codes }
+    ensures set { IfOk result (λ x. x ≡ (completion_of released.now.book day ordered).set) }
+    ensures counted { IfOk result (λ x. length x ≡ length released.now.book.codes) }
 {
-    let completer = Completer::new(alloc, book, day)?;
-    let completed = completer.complete(alloc, ordered)?;
+    let completed = released.complete(alloc, day, ordered)?;
     Ok(completed.set)
 }

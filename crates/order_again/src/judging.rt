@@ -11,7 +11,6 @@ ghost use Rattle.order_again.specs.Ordered.{ordered_of};
 use crate::completed::{completed_set, ordered_set};
 use crate::outcome::Again;
 use chosen_parts::same_parts;
-use parts_usage::first_broken;
 use pb_base::{CodeName, CodeSet, Day, Fail, Memory};
 use release::{Judged, Released, judge};
 use std::alloc::Global;
@@ -52,8 +51,8 @@ fn judge_ordered(
 {
     let book = to.book();
     let _codes = book.codes();
-    let set = completed_set(alloc, book, day, ordered)?;
-    match first_broken(book, day, &set) {
+    let set = completed_set(alloc, to, day, ordered)?;
+    match to.first_broken(day, &set) {
         Some(rule) => Ok(Again::Refused(rule)),
         None => {
             let again = same_again(alloc, own, to, day, codes, &set)?;
@@ -116,7 +115,7 @@ fn own_set(alloc: Global, own: &Released, day: Day, codes: &[CodeName]) -> Resul
     let found = ordered_set(alloc, book, day, codes)?;
     match found {
         Some(ordered) => {
-            let set = completed_set(alloc, book, day, ordered)?;
+            let set = completed_set(alloc, own, day, ordered)?;
             Ok(set)
         }
         None => unreachable!(),

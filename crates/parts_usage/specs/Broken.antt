@@ -1,5 +1,5 @@
 -- The first constructibility rule that a set of codes breaks, by its place among them.
-use Rattle.std.specs.Prelude.{ℕ, Bool, List, Option, None}
+use Rattle.std.specs.Prelude.{ℕ, Bool, List, Option, None, map}
 use Rattle.std.specs.List.{position_from}
 use Rattle.book_model.specs.Contents.{Contents}
 use Rattle.book_model.specs.Good.{breaks}
@@ -18,3 +18,7 @@ guard_in (Most codes) = None
 
 abbrev pub guard_of : Construct → Option ℕ
 guard_of c = guard_in c.demand
+
+-- of each rule of a book
+abbrev pub guards_of : Contents → List (Option ℕ)
+guards_of b = map guard_of b.constructs

@@ -13,7 +13,7 @@ use Rattle.book_model.specs.Activity.{is_within}
 use Rattle.book_model.specs.Book.{IsBook, SupplementFits}
 use Rattle.book_model.specs.Contents.{Contents}
 use Rattle.book_model.specs.Good.{breaks, is_good}
-use Rattle.book_model.specs.Parts.{PartsLine, parts, selected}
+use Rattle.book_model.specs.Parts.{parts, selected}
 use Rattle.book_model.specs.Sound.{is_fit, are_fit_from, IsReleasable}
 use Rattle.book_model.specs.declared.record.Position.{Position}
 use Rattle.supplement.specs.Completion.{completion_of}
@@ -23,8 +23,10 @@ use Rattle.parts_usage.specs.Fault.{order_fault}
 use Rattle.parts_usage.specs.Outcome.{judged, outcome_of, outcome_of_set}
 use Rattle.parts_usage.specs.Unfit.{first_unfit_from, first_unfit_of}
 use Rattle.parts_usage.specs.declared.fault.OrderFault.{OrderFault}
+use Rattle.parts_usage.specs.declared.judgement.Outcome.{Outcome}
 use Rattle.parts_usage.specs.declared.judgement.Outcome.TheVariants as outcome
 use Rattle.parts_usage.specs.declared.unfit.Unfit.{Unfit}
+use Rattle.release.specs.Judged.{fitting_outcome}
 
 -- where none is found, none passes
 pub none_passes : {X : Type 0} (test : X → Bool) (i : ℕ) (xs : List X) → position_from test i xs ≡ None → list_any test xs ≡ false
@@ -86,31 +88,28 @@ no_fault_within : (within : Bool) (names : Option OrderFault) (outside : OrderFa
 no_fault_within true names outside h = refl
 no_fault_within false names outside h = absurd (cc)
 
-unfit_when : (broken : Option ℕ) (unfit : Option Unfit) (y : List Bool) (list : List PartsLine) (position count : ℕ)
-    → judged broken unfit (outcome.Accepted y list) ≡ outcome.Unfit position count → (broken ≡ None) × ((u : Unfit) × (unfit ≡ Some u))
-unfit_when None None y list position count h = absurd (cc)
-unfit_when None (Some u) y list position count h = (refl, (u, refl))
-unfit_when (Some rule) unfit y list position count h = absurd (cc)
-
-refused_when : (broken : Option ℕ) (unfit : Option Unfit) (y : List Bool) (list : List PartsLine) (rule : ℕ)
-    → judged broken unfit (outcome.Accepted y list) ≡ outcome.Refused rule → broken ≡ Some rule
-refused_when None None y list rule h = absurd (cc)
-refused_when None (Some u) y list rule h = absurd (cc)
-refused_when (Some broken) unfit y list rule h = cc
-
--- an order against a book that can be released always fits
-pub never_unfit : (b : Contents) (day : ℕ) (names : List (List ℕ)) (position count : ℕ) → IsBook b → IsReleasable b → outcome_of b day names ≡ Ok (outcome.Unfit position count) → ⊥
-never_unfit b day names position count book releasable h =
+-- so an order without a fault comes to what its completed set comes to, fit or not
+pub outcome_faultless : (b : Contents) (day : ℕ) (names : List (List ℕ)) (ordered : List Bool) → IsBook b → IsReleasable b
+    → unless (order_fault b day names) (Ok (named b.codes names)) ≡ Ok ordered
+    → outcome_of b day names ≡ Ok (fitting_outcome b day (completion_of b day ordered).set)
+outcome_faultless b day names ordered book releasable is =
     let y = completed b day names in
-    let behind = ok_behind (order_fault b day names) (outcome_of_set b day y) (outcome.Unfit position count) h in
+    let behind = ok_behind (order_fault b day names) (named b.codes names) ordered is in
     let within = no_fault_within (is_within b.first b.last day) _ _ behind.0 in
-    let unfit = unfit_when (first_broken_of b day y) (first_unfit_of b day y) y (parts b day y) position count behind.1 in
-    none-some unfit.1.0 (sym (fits_when_unbroken b day names book releasable within unfit.0) ∙ unfit.1.1)
+    ap (λ (fault : Option OrderFault). unless fault (Ok (outcome_of_set b day y))) behind.0
+    ∙ ap Ok (fitting (first_broken_of b day y) (first_unfit_of b day y) (outcome.Accepted y (parts b day y)) (fits_when_unbroken b day names book releasable within))
+    ∙ ap (λ (x : List Bool). Ok (fitting_outcome b day (completion_of b day x).set)) behind.1
+  where
+    fitting : (broken : Option ℕ) (unfit : Option Unfit) (accepted : Outcome) → (broken ≡ None → unfit ≡ None) → judged broken unfit accepted ≡ judged broken None accepted
+    fitting (Some rule) unfit accepted fits = refl
+    fitting None unfit accepted fits = ap (λ (u : Option Unfit). judged None u accepted) (fits refl)
 
--- the rule that refuses an order stands in the book
-pub rule_in_range : (b : Contents) (day : ℕ) (names : List (List ℕ)) (rule : ℕ) → outcome_of b day names ≡ Ok (outcome.Refused rule) → rule < length b.constructs
-rule_in_range b day names rule h =
-    let y = completed b day names in
-    let behind = ok_behind (order_fault b day names) (outcome_of_set b day y) (outcome.Refused rule) h in
-    let broken = refused_when (first_broken_of b day y) (first_unfit_of b day y) y (parts b day y) rule behind.1 in
-    omega (arith, found_in_range (breaks day y) 0 rule b.constructs broken)
+pub length-ordered : (b : Contents) (day : ℕ) (names : List (List ℕ)) (ordered : List Bool)
+    → unless (order_fault b day names) (Ok (named b.codes names)) ≡ Ok ordered → length ordered ≡ length b.codes
+length-ordered b day names ordered is =
+    ap length (sym (ok_behind (order_fault b day names) (named b.codes names) ordered is).1)
+    ∙ length-map b.codes (λ code. list_any (same_name code) names)
+
+-- the rule that is broken first stands in the book
+pub broken_in_range : (b : Contents) (day : ℕ) (x : List Bool) (rule : ℕ) → first_broken_of b day x ≡ Some rule → rule < length b.constructs
+broken_in_range b day x rule is = omega (arith, found_in_range (breaks day x) 0 rule b.constructs is)

@@ -23,7 +23,7 @@ pub fn from_cert(alloc: Global, text: Body, cert: Body) -> Result<Released, Fail
 {
     match read_book(alloc, text.as_slice()) {
         Ok(book) => match check_cert(alloc, &book, cert.as_slice()) {
-            Ok(_) => Ok(Released::of(text, book, cert)),
+            Ok(_) => Ok(Released::of(alloc, text, book, cert)?),
             Err(fail) => Err(fail.map(FromFault::Cert)),
         },
         Err(fail) => Err(fail.map(FromFault::Text)),

@@ -1,12 +1,13 @@
 //! Judging orders against a released book.
-ghost use Rattle.std.specs.Prelude.{◌<◌, length, IfOk, IfSome};
+ghost use Rattle.std.specs.Prelude.{◌≡◌, ◌<◌, length, IfOk, IfSome};
 ghost use Rattle.pb_base.specs.Answers.{Gives};
 ghost use Rattle.parts_usage.specs.Outcome.{outcome_of};
-ghost use Rattle.release.specs.Judged.{as_outcome, refused_by};
+ghost use Rattle.release.specs.Judged.{as_outcome, fitting_outcome, refused_by};
+ghost use Rattle.supplement.specs.Completion.{completion_of};
 
 use crate::released::Released;
-use parts_usage::{OrderFault, Outcome, PartsList, outcome};
-use pb_base::{CodeName, CodeSet, Day, Fail};
+use parts_usage::{OrderFault, PartsList, ordered_set, select};
+use pb_base::{CodeName, CodeSet, Day, Fail, Memory};
 use std::alloc::Global;
 
 /// What an order against a released book comes to that has no fault.
@@ -32,10 +33,33 @@ pub fn judge(
 {
     let book = released.book();
     let _codes = book.codes();
-    match outcome(alloc, book, day, codes) {
-        Ok(Outcome::Accepted { set, list }) => Ok(Judged::Accepted { set, list }),
-        Ok(Outcome::Refused(rule)) => Ok(Judged::Refused(rule)),
-        Ok(Outcome::Unfit { .. }) => unreachable!(),
-        Err(fail) => Err(fail),
+    let ordered = ordered_set(alloc, book, day, codes)?;
+    let judged = judge_ordered(alloc, released, day, ordered)?;
+    Ok(judged)
+}
+
+// What the codes of an order come to that has no fault. Whether its parts fit isn't looked at.
+fn judge_ordered(
+    alloc: Global,
+    released: &Released,
+    day: Day,
+    ordered: CodeSet,
+) -> Result<Judged, Memory>
+    requires { length ordered ≡ length released.now.book.codes }
+    ensures outcome { let completed = completion_of released.now.book day ordered in
+        IfOk result (λ judged. as_outcome judged ≡ fitting_outcome released.now.book day completed.set) }
+    ensures rule { IfOk result (λ judged. IfSome (refused_by judged)
+        (λ place. place < length released.now.book.constructs)) }
+{
+    let completed = released.complete(alloc, day, ordered)?;
+    match released.first_broken(day, &completed.set) {
+        Some(rule) => Ok(Judged::Refused(rule)),
+        None => {
+            let list = select(alloc, released.book(), day, &completed.set)?;
+            Ok(Judged::Accepted {
+                set: completed.set,
+                list,
+            })
+        }
     }
 }

@@ -8,7 +8,7 @@ mod judging;
 mod orders;
 mod released;
 
-pub use accepting::OrderJudge;
+pub use accepting::accepts;
 pub use answer_text::judged_text;
 pub use certified::{FromFault, from_cert};
 pub use judging::{Judged, judge};

@@ -22,7 +22,7 @@ pub fn try_release(alloc: Global, text: Body, budget: u32) -> Result<Released, F
     ensures refused { IfRefused result (IsRefusal text budget) }
 {
     match certify_text(alloc, text.as_slice(), budget) {
-        Ok(CertifiedBook { book, cert }) => Ok(Released::of(text, book, cert)),
+        Ok(CertifiedBook { book, cert }) => Ok(Released::of(alloc, text, book, cert)?),
         Err(fail) => Err(fail),
     }
 }

@@ -1,4 +1,5 @@
 pub mod Completing
 pub mod Completion
 pub mod Occurrences
+pub mod Tables
 pub mod Worklist

@@ -8,8 +8,10 @@ mod firing;
 mod occurrences;
 mod plain;
 mod standing;
+mod tables;
 mod worklist;
 
 pub use completed::{Added, AddedList, Completed};
-pub use completer::{BookCompleter, Completer};
+pub use completer::Completer;
 pub use plain::complete_plainly;
+pub use tables::CompletionTables;

@@ -1,4 +1,4 @@
-use Rattle.std.proofs.Common.{◌≡◌, Some, length, ap, sym, subst, ◌∙◌}
+use Rattle.std.proofs.Common.{◌≡◌, Some, length, refl, ap, sym, subst, ◌∙◌}
 use Rattle.book_model.specs.Book.{IsBook}
 use Rattle.book_model.specs.Contents.{Contents}
 use Rattle.chosen_parts.specs.Chosen.{AreFew}
@@ -11,7 +11,7 @@ completed_set-requires c =
     let b : Contents = c.args.own.now.book in
     let found : ordered_of b c.args.day c.args.codes.now ≡ Some c.in-Some.ordered =
     ap (λ (d : Contents). ordered_of d c.args.day c.args.codes.now) (sym c.book-book.ensures.value) ∙ sym c.in_ok-found.ensures ∙ c.in-Some.is in
-    length-named b c.args.codes.now c.in-Some.ordered (ordered_is b c.args.day c.args.codes.now c.in-Some.ordered found).is ∙ ap (λ (d : Contents). length d.codes) (sym c.book-book.ensures.value)
+    length-named b c.args.codes.now c.in-Some.ordered (ordered_is b c.args.day c.args.codes.now c.in-Some.ordered found).is
 
 pub unreachable-requires : goal.unreachable-requires
 unreachable-requires c =
@@ -24,6 +24,6 @@ returns-clause-few c =
     let found : ordered_of b c.args.day c.args.codes.now ≡ Some c.in-Some.ordered =
     ap (λ (d : Contents). ordered_of d c.args.day c.args.codes.now) (sym c.book-book.ensures.value) ∙ sym c.in_ok-found.ensures ∙ c.in-Some.is in
     let ordered : IsOrdered b c.args.day c.args.codes.now c.in-Some.ordered = ordered_is b c.args.day c.args.codes.now c.in-Some.ordered found in
-    let set = set_is b c.book-book.result.now c.args.day c.args.codes.now c.in-Some.ordered c.in_ok-set-in-Some.set c.book-book.ensures.value ordered.is c.in_ok-set-in-Some.ensures.set in
+    let set = set_is b c.args.day c.args.codes.now c.in-Some.ordered c.in_ok-set-in-Some.set ordered.is c.in_ok-set-in-Some.ensures.set in
     subst (AreFew b c.args.day) (sym set)
     (few_accepted b c.args.day c.args.codes.now c.requires ordered.faultless (subst IsBook c.book-book.ensures.value c.codes-codes.ensures.book) c.book-book.ensures.release.releasable)

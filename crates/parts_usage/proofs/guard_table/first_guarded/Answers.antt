@@ -4,7 +4,7 @@ use Rattle.std.proofs.lemmas.List.{length-map}
 use Rattle.std.proofs.lemmas.Option.{slice_get-get_or, slice_get_read}
 use Rattle.parts_usage.specs.Broken.{guard_of}
 use Rattle.parts_usage.proofs.Guards.{guard_at}
-use Rattle.parts_usage.proofs.break_finder.first_guarded.Goals as goal
+use Rattle.parts_usage.proofs.guard_table.first_guarded.Goals as goal
 
 pub bounds-guards-place : goal.bounds-guards-place
 bounds-guards-place c = omega (arith, ap length c.requires.guards ∙ length-map c.args.constructs.now guard_of)

@@ -1,7 +1,7 @@
 use Rattle.std.proofs.Common.{◌≡◌, drop}
 use Rattle.std.specs.List.{position_from}
 use Rattle.book_model.specs.Good.{breaks}
-use Rattle.parts_usage.proofs.break_finder.first_guarded.Given as goal
+use Rattle.parts_usage.proofs.guard_table.first_guarded.Given as goal
 
 -- what is found is found in the rules that are left
 abbrev pub invariant-loop-place : goal.invariant-loop-place

@@ -1,7 +1,7 @@
 -- The rule isn't broken where its code is absent.
 use Rattle.std.proofs.Common.{length, sym, ◌∙◌}
 use Rattle.parts_usage.proofs.Guards.{guard_within, unbroken_without}
-use Rattle.parts_usage.proofs.break_finder.breaks_guarded.Goals as goal
+use Rattle.parts_usage.proofs.guard_table.breaks_guarded.Goals as goal
 
 pub has-requires : goal.has-requires
 has-requires c = guard_within (length c.args.set.now) c.args.construct.now c.in-Some.code c.requires.fits (sym c.in-Some.is ∙ c.requires.guard)

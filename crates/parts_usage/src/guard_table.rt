@@ -4,63 +4,56 @@ ghost use Rattle.std.specs.List.{position_from};
 ghost use Rattle.pb_base.specs.declared.limits.TheConstants.{MOST_CONSTRUCTS, MOST_GROUPS};
 ghost use Rattle.book_model.specs.Book.{ConstructFits};
 ghost use Rattle.book_model.specs.Good.{breaks};
-ghost use Rattle.parts_usage.specs.Broken.{first_broken_of, guard_of};
+ghost use Rattle.parts_usage.specs.Broken.{first_broken_of, guard_of, guards_of};
 
 use book_model::{Book, Construct, Demand, breaks};
 use pb_base::{CodeSet, Day, Memory};
 use std::alloc::Global;
 use std::marker::Model;
 
-/// Finds the rules of a book that sets of its codes break. It is made once and then serves any number of sets: of a rule of a
-/// code that a set lacks it looks at this code alone, which stands in a short table. A contract sees the book.
+/// For each constructibility rule of a book the code without which it isn't broken, if it has one: a short table. It is made
+/// once and then serves any number of sets: of a rule of a code that a set lacks no more than this code is looked at. It
+/// doesn't borrow the book, so that who owns it may keep it beside it.
 #[derive(Drop)]
-pub struct BreakFinder<'a> {
-    book: &'a Book,
-    /// For each constructibility rule the code without which it isn't broken, if it has one.
-    guards: Vec<Option<u32>>,
+pub struct GuardTable {
+    codes: Vec<Option<u32>>,
 }
 
-impl<'a> Model for BreakFinder<'a> {
-    ghost use Rattle.std.specs.Prelude.{◌≡◌, map};
-    ghost use Rattle.book_model.specs.Contents.{Contents};
-    ghost use Rattle.book_model.specs.ContentsCode.{contents_code};
-    ghost use Rattle.parts_usage.specs.Broken.{guard_of};
+impl Model for GuardTable {
+    ghost use Rattle.std.specs.Prelude.{List, Option, ℕ};
 
-    ghost Value = { Contents };
+    ghost Value = { List (Option ℕ) };
 
-    ghost coded = { contents_code };
-
-    ghost view = { λ f. f.book.now };
-
-    ghost invariant = { λ f. f.guards.items ≡ map guard_of f.book.now.constructs };
+    ghost view = { λ t. t.codes.items };
 }
 
-impl<'a> BreakFinder<'a> {
-    /// What finds the broken rules of this book.
-    pub fn new(alloc: Global, book: &'a Book) -> Result<BreakFinder<'a>, Memory>
-        ensures { IfOk result (λ finder. finder ≡ book.now) }
+impl GuardTable {
+    /// The table of this book.
+    pub fn of(alloc: Global, book: &Book) -> Result<GuardTable, Memory>
+        ensures { IfOk result (λ table. table ≡ guards_of book.now) }
     {
-        let guards = guards_of(alloc, book.constructs())?;
-        Ok(BreakFinder { book, guards })
+        let codes = codes_of(alloc, book.constructs())?;
+        Ok(GuardTable { codes })
     }
 
     /// The same as `first_broken`.
-    pub fn first_broken(&self, day: Day, set: &CodeSet) -> Option<u32>
-        requires { length set.now ≡ length self.now.codes }
-        ensures { result ≡ first_broken_of self.now day set.now }
+    pub fn first_broken(&self, book: &Book, day: Day, set: &CodeSet) -> Option<u32>
+        requires guards { self.now ≡ guards_of book.now }
+        requires codes { length set.now ≡ length book.now.codes }
+        ensures { result ≡ first_broken_of book.now day set.now }
     {
-        first_guarded(self.book.constructs(), &self.guards, day, set)
+        first_guarded(book.constructs(), &self.codes, day, set)
     }
 }
 
-fn guards_of(alloc: Global, constructs: &[Construct]) -> Result<Vec<Option<u32>>, Memory>
-    ensures { IfOk result (λ guards. guards.items ≡ map guard_of constructs.now) }
+fn codes_of(alloc: Global, constructs: &[Construct]) -> Result<Vec<Option<u32>>, Memory>
+    ensures { IfOk result (λ codes. codes.items ≡ map guard_of constructs.now) }
 {
-    let mut guards = Vec::with_capacity(alloc, constructs.len())?;
+    let mut codes = Vec::with_capacity(alloc, constructs.len())?;
     for construct in constructs {
-        guards.push(guard_of(construct))?;
+        codes.push(guard_of(construct))?;
     }
-    Ok(guards)
+    Ok(codes)
 }
 
 fn guard_of(construct: &Construct) -> Option<u32>
