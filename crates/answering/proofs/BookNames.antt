@@ -190,7 +190,9 @@ on_reading k = on_told_again k.book k.order (reply.OrderIs k.order.book k.order.
 leads : (caller : List ℕ) (asked : What) → LeadsOn (course_of caller asked)
 leads caller (what.PutDraft draft text) = on_says (PutDraft caller draft text)
 leads caller (what.GiveDraft draft to) = on_says (GiveDraft caller draft to)
-leads caller (what.ReadDraft draft) = on_says (Read (reading.Draft draft))
+leads caller (what.ReadDraft draft) =
+    on_asks (Read (reading.Draft draft)) as_taken (λ d. or_memory (ends_with (reply.Raw d.text)))
+    (λ d. on_memory (ends_with (reply.Raw d.text)) (on_said (reply.Raw d.text) (λ t. tt)))
 leads caller (what.ReadOwner draft) = on_says (Read (reading.Owner draft))
 leads caller (what.Check draft budget) =
     on_asks (Read (reading.Take caller draft None)) as_taken (λ d. ends (IsChecked d.text budget))

@@ -208,7 +208,7 @@ module _ (t : Tables) where
   read_names : (asked : Reading) → IsValid t → Names t (read t asked)
   unfolding read_draft read_owner take_draft show_book show_in_force look read_order list_books list_orders
   read_names (reading.Draft draft) valid =
-      names-go_on (draft_of t draft) (λ d. shows (answer.Say (reply.Raw d.text))) (draft_refuses draft) (λ d. tt)
+      names-go_on (draft_of t draft) (λ d. shows (answer.Draft d.text d.revision)) (draft_refuses draft) (λ d. tt)
   read_names (reading.Owner draft) valid =
       names-go_on (draft_of t draft) (λ d. says (answer.Say (reply.OwnerIs d.owner d.revision))) (draft_refuses draft) (λ d. tt)
   read_names (reading.Take caller draft named) valid =

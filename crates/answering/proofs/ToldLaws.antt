@@ -23,7 +23,7 @@ use Rattle.order_desk.specs.Step.{Follows, IsStoreFault, Step}
 use Rattle.order_desk.specs.Tables.{Tables, State, order_at, key_of, released_as, with_book, with_draft, with_withdrawn}
 use Rattle.order_desk.proofs.Growth.{draft_there, book_there}
 use Rattle.answering.specs.Hand.{Hand, Takes}
-use Rattle.answering.specs.Told.{IsReply, IsOrderThere, Tells, TellsBook, TellsDraft, TellsKept, TellsLooked, TellsPlaced}
+use Rattle.answering.specs.Told.{IsReply, IsOrderThere, Tells, TellsBook, TellsDraft, TellsKept, TellsLooked, TellsPlaced, TellsText}
 
 -- ---- from effects to steps
 
@@ -197,7 +197,7 @@ effect_tells (event.Read (reading.Order caller number)) t = tells_read caller nu
 effect_tells (event.Read reading.Books) t = tt
 effect_tells (event.Read (reading.Orders caller number)) t = tt
 effect_tells (event.Read (reading.Draft draft)) t =
-    tells-go_on Replies replies t (draft_of t draft) (λ d. shows (answer.Say (reply.Raw d.text))) (λ d is. tt)
+    tells-go_on (λ a t. TellsText a) (λ r t. tt) t (draft_of t draft) (λ d. shows (answer.Draft d.text d.revision)) (λ d is. tt)
 effect_tells (event.Read (reading.Owner draft)) t =
     tells-go_on Replies replies t (draft_of t draft) (λ d. says (answer.Say (reply.OwnerIs d.owner d.revision))) (λ d is. tt)
 effect_tells (event.PutDraft caller draft text) t =
@@ -222,6 +222,7 @@ effect_tells (event.Withdraw caller book) t =
 -- a reply tells nothing
 pub tells_said : (e : Event) (r : Reply) (t : Tables) → Tells e (answer.Say r) t
 tells_said (event.Place caller number order) r t = tt
+tells_said (event.Read (reading.Draft draft)) r t = tt
 tells_said (event.Read (reading.Take caller draft named)) r t = tt
 tells_said (event.Read (reading.Book book)) r t = tt
 tells_said (event.Read (reading.InForce book)) r t = tt

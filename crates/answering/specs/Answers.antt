@@ -61,6 +61,12 @@ IsCall (what.Why order budget) = IsBudget budget
 IsCall (what.Order number order) = (1 ≤ number) × (number ≤ MOST_ORDER_NUMBER)
 IsCall _ = Unit {0}
 
+-- ---- drafts
+
+-- the text is copied outside the turn
+abbrev pub showing_draft : List ℕ → Course
+showing_draft draft = asks (Read (reading.Draft draft)) as_taken (λ d. or_memory (ends_with (reply.Raw d.text)))
+
 -- ---- checks and releases
 
 -- a report is told by its text, unless there is no memory for that
@@ -199,7 +205,7 @@ after_reading k = told_again k.book k.order (reply.OrderIs k.order.book k.order.
 abbrev pub course_of : List ℕ → What → Course
 course_of caller (what.PutDraft draft text) = says (PutDraft caller draft text)
 course_of caller (what.GiveDraft draft to) = says (GiveDraft caller draft to)
-course_of caller (what.ReadDraft draft) = says (Read (reading.Draft draft))
+course_of caller (what.ReadDraft draft) = showing_draft draft
 course_of caller (what.ReadOwner draft) = says (Read (reading.Owner draft))
 course_of caller (what.Check draft budget) = checking caller draft budget
 course_of caller (what.Release draft revision budget) = releasing caller draft revision budget

@@ -6,6 +6,7 @@
 --     IsReply a                it says a reply
 --     TellsDraft name r a t    a draft of this name is there, with the text and the revision that the answer has, which is r
 --                              where a revision was named
+--     TellsText a              it says a reply, or has a draft's text
 --     TellsBook a              it says a reply, or has a book
 --     TellsLooked number a t   the book of this number is there, and is the one that the answer has; or a kept order is
 --     TellsPlaced a t          the order is placed, or a kept order is there
@@ -75,6 +76,11 @@ abbrev pub IsReply : Answer → Type 0
 IsReply (Say reply) = Unit {0}
 IsReply _ = ⊥
 
+abbrev pub TellsText : Answer → Type 0
+TellsText (Say reply) = Unit {0}
+TellsText (Draft text revision) = Unit {0}
+TellsText _ = ⊥
+
 abbrev pub TellsBook : Answer → Type 0
 TellsBook (Say reply) = Unit {0}
 TellsBook (Book r) = Unit {0}
@@ -105,6 +111,7 @@ TellsKept _ t = ⊥
 -- every other event only says
 abbrev pub Tells : Event → Answer → Tables → Type 0
 Tells (event.Place caller number order) a t = TellsPlaced a t
+Tells (event.Read (reading.Draft draft)) a t = TellsText a
 Tells (event.Read (reading.Take caller draft revision)) a t = TellsDraft draft revision a t
 Tells (event.Read (reading.Book number)) a t = TellsBook a
 Tells (event.Read (reading.InForce number)) a t = TellsBook a

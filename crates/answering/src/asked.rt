@@ -11,13 +11,13 @@ ghost use Rattle.answering.specs.Told.{IsReply, OnlySays, TellsDraft, TellsKept,
 
 use crate::turns::Turns;
 use desk_words::{OrderWords, Reply};
-use order_desk::{Answer, Event, Reading, SharedBook};
-use pb_base::{Body, Id};
+use order_desk::{Answer, Event, Reading, SharedBook, SharedText};
+use pb_base::Id;
 
-/// A draft that is to be checked or released.
+/// A draft that is to be read, checked or released.
 #[derive(Drop)]
 pub struct Taken {
-    pub text: Body,
+    pub text: SharedText,
     pub revision: u32,
 }
 
@@ -53,6 +53,18 @@ fn reply_of(answer: Answer) -> Reply
 {
     match answer {
         Answer::Say(reply) => reply,
+        _ => unreachable!(),
+    }
+}
+
+/// The draft of this name.
+pub(crate) fn ask_text<T: Turns>(turns: &mut T, draft: Id) -> Result<Taken, Reply>
+    ensures { let event = Event.Read (Reading.Draft draft) in
+        Takes (T.hand turns.old) event (answered as_taken result) (T.hand turns.new) }
+{
+    match turns.step(Event::Read(Reading::Draft { draft })) {
+        Answer::Say(reply) => Err(reply),
+        Answer::Draft { text, revision } => Ok(Taken { text, revision }),
         _ => unreachable!(),
     }
 }

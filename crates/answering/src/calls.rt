@@ -9,7 +9,7 @@ ghost use Rattle.answering.specs.Course.{says};
 use crate::advice::{tell_free, tell_why};
 use crate::asked::ask;
 use crate::books::{read_book, read_cert};
-use crate::drafts::{Asked, check_draft, release_draft};
+use crate::drafts::{Asked, check_draft, read_draft, release_draft};
 use crate::gate::Gate;
 use crate::names::name_law;
 use crate::orders::{place_order, read_order};
@@ -42,7 +42,7 @@ fn reply_to<T: Turns, G: Gate>(
     match what {
         What::PutDraft { draft, text } => put_draft(turns, caller, draft, text),
         What::GiveDraft { draft, to } => give_draft(turns, caller, draft, to),
-        What::ReadDraft { draft } => ask(turns, Event::Read(Reading::Draft { draft })),
+        What::ReadDraft { draft } => read_draft(alloc, turns, draft),
         What::ReadOwner { draft } => ask(turns, Event::Read(Reading::Owner { draft })),
         What::Check { draft, budget } => check_draft(alloc, turns, gate, caller, draft, budget),
         What::Release {

@@ -1,25 +1,38 @@
-//! Calls that check a draft or release it.
+//! Calls that read a draft, check it or release it. Its text is copied outside the turn.
 ghost use Rattle.std.specs.Prelude.{◌≡◌, ◌<◌, ◌≤◌, IfOk, OnErr};
 ghost use Rattle.desk_words.specs.declared.reply.Reply.TheVariants as Reply;
 ghost use Rattle.order_desk.specs.declared.event.Event.TheVariants as Event;
 ghost use Rattle.order_desk.specs.Fits.{IsReleaseOf};
-ghost use Rattle.answering.specs.Answers.{IsChecked, IsTold, IsToldAs, checking, releasing, to_release, unchecked};
+ghost use Rattle.answering.specs.Answers.{IsChecked, IsTold, IsToldAs, checking, releasing, showing_draft, to_release, unchecked};
 ghost use Rattle.answering.specs.Course.{or_memory, says};
 ghost use Rattle.answering.specs.Told.{IsDraftThere};
 ghost use Rattle.pb_base.specs.declared.limits.TheConstants.{MOST_BUDGET};
 
-use crate::asked::{Taken, ask, ask_draft};
+use crate::asked::{Taken, ask, ask_draft, ask_text};
 use crate::gate::Gate;
 use crate::turns::Turns;
 use book_model::Book;
 use desk_words::Reply;
 use findings::Report;
-use order_desk::{Event, SharedBook};
+use order_desk::{Event, NewBook};
 use pb_base::{Body, Fail, Id, Memory};
 use pb_reports::report_text;
 use release::Released;
 use release_check::{NotChecked, NotReleased, ReportedBook, check_text, try_release};
 use std::alloc::Global;
+
+/// Reads the text of a draft.
+pub(crate) fn read_draft<T: Turns>(alloc: Global, turns: &mut T, draft: Id) -> Reply
+    ensures { showing_draft draft (T.hand turns.old) result (T.hand turns.new) }
+{
+    match ask_text(turns, draft) {
+        Ok(taken) => match taken.text.copy(alloc) {
+            Ok(text) => Reply::Raw(text),
+            Err(Memory) => Reply::Memory,
+        },
+        Err(reply) => reply,
+    }
+}
 
 /// Checks a draft: the report of all questions.
 pub(crate) fn check_draft<T: Turns, G: Gate>(
@@ -128,7 +141,25 @@ fn release_taken<T: Turns>(
     ensures { to_release asked.now.caller asked.now.draft asked.now.revision budget taken.text
         (T.hand turns.old) result (T.hand turns.new) }
 {
-    let Taken { text, revision: _ } = taken;
+    match taken.text.copy(alloc) {
+        Ok(text) => release_text(alloc, turns, asked, text, budget),
+        Err(Memory) => Reply::Memory,
+    }
+}
+
+fn release_text<T: Turns>(
+    alloc: Global,
+    turns: &mut T,
+    asked: &Asked,
+    text: Body,
+    budget: u32,
+) -> Reply
+    requires some { 0 < budget }
+    requires most { budget ≤ MOST_BUDGET }
+    requires there { IsDraftThere (T.hand turns.old).state.tables asked.now.draft text asked.now.revision }
+    ensures { to_release asked.now.caller asked.now.draft asked.now.revision budget text
+        (T.hand turns.old) result (T.hand turns.new) }
+{
     match try_release(alloc, text, budget) {
         Ok(released) => commit(alloc, turns, asked, released),
         Err(Fail::Refused(why)) => kept_back(alloc, why),
@@ -143,7 +174,7 @@ fn commit<T: Turns>(alloc: Global, turns: &mut T, asked: &Asked, released: Relea
         (says (Event.Commit asked.now.caller asked.now.draft asked.now.revision released))
         (T.hand turns.old) result (T.hand turns.new) }
 {
-    match SharedBook::new(alloc, released) {
+    match NewBook::new(alloc, released) {
         Ok(released) => ask(
             turns,
             Event::Commit {

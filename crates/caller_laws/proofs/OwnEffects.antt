@@ -231,7 +231,7 @@ module _ (caller : List ℕ) (t : Tables) where
   seen_as (event.Withdraw by_caller book) own sorted = seen-withdraw by_caller book
   seen_as (event.Place own_caller number order) own sorted = seen-place own_caller own number sorted order
   seen_as (event.Read (reading.Draft draft)) own sorted =
-      seen-go_on (draft_of t draft) (λ d. shows (answer.Say (reply.Raw d.text))) (λ d. shows (answer.Say (reply.Raw d.text))) (λ d. inl refl)
+      seen-go_on (draft_of t draft) (λ d. shows (answer.Draft d.text d.revision)) (λ d. shows (answer.Draft d.text d.revision)) (λ d. inl refl)
   seen_as (event.Read (reading.Owner draft)) own sorted =
       seen-go_on (draft_of t draft) (λ d. says (answer.Say (reply.OwnerIs d.owner d.revision))) (λ d. says (answer.Say (reply.OwnerIs d.owner d.revision)))
       (λ d. inl refl)

@@ -12,7 +12,7 @@ use book_commands::{BookFile, RunReply, RunStatus, read_book_file, tell_made};
 use command_words::Impact;
 use keeper::Keeper;
 use order_again::{impact_text, rejudge};
-use order_desk::{Desk, NotStarted};
+use order_desk::{Desk, ManyHands, NotStarted};
 use pb_base::Memory;
 use pb_door::Door;
 use pb_outside::{Files, Sink, Source};
@@ -64,7 +64,11 @@ fn judge_by<R: Threads + Sync, S: Source, K: Sink, F: Files, P: Keeper, D: Door>
         let before = channels_seen S.input K.output F.told D.told D.faultless kept channels in
         Judges (RepliesToImpact to.now.book) before (sees result.world) result.status }
 {
-    match Desk::start(alloc, keeper, asked.store()) {
+    let hands = ManyHands {
+        rt,
+        workers: asked.workers(),
+    };
+    match Desk::start_by(alloc, &hands, keeper, asked.store()) {
         Ok(desk) => tell_impact(rt, alloc, asked.workers(), to, desk, channels),
         Err(NotStarted { why, keeper }) => {
             let status = tell_start(alloc, &why, &mut channels.sink, &mut channels.log);

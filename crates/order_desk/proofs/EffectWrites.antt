@@ -75,7 +75,7 @@ module _ (P : Tables → Type 0) where
   read_writes : (t : Tables) (asked : Reading) → Writes P (read t asked)
   unfolding read_draft read_owner take_draft show_book show_in_force look read_order list_books list_orders
   read_writes t (reading.Draft draft) =
-      writes-go_on (draft_of t draft) (λ d. shows (answer.Say (reply.Raw d.text))) (λ d is. tt)
+      writes-go_on (draft_of t draft) (λ d. shows (answer.Draft d.text d.revision)) (λ d is. tt)
   read_writes t (reading.Owner draft) =
       writes-go_on (draft_of t draft) (λ d. says (answer.Say (reply.OwnerIs d.owner d.revision))) (λ d is. tt)
   read_writes t (reading.Take caller draft revision) =

@@ -15,6 +15,7 @@ pub mod FirstWrong
 pub mod RisingKeys
 pub mod DraftRows
 pub mod BookRows
+pub mod CheckedRows
 pub mod TableRight
 pub mod OrderRows
 pub mod WithdrawnRows

@@ -1,7 +1,7 @@
 -- What each event does, by what the desk keeps. The tests stand in the order in which they are made, and the first that applies
 -- gives the answer.
 --     Effect        says: an answer alone, which takes no memory
---                   shows: an answer that copies something of the tables, and changes nothing
+--                   shows: an answer with something of the tables, which takes memory, and changes nothing
 --                   keeps: one write of the keeper, and where it succeeds this answer and these tables
 --     read t r      what the reading r is answered; it never keeps
 --     effect t e    what the event e does
@@ -69,7 +69,7 @@ give_draft t caller name to = go_on (owned t caller name) (λ draft.
     keeps (answer.Say (reply.Given name to)) (with_draft t name (record draft { owner = to })))
 
 unfoldable pub read_draft : Tables → List ℕ → Effect
-read_draft t name = go_on (draft_of t name) (λ draft. shows (answer.Say (reply.Raw draft.text)))
+read_draft t name = go_on (draft_of t name) (λ draft. shows (answer.Draft draft.text draft.revision))
 
 unfoldable pub read_owner : Tables → List ℕ → Effect
 read_owner t name = go_on (draft_of t name) (λ draft. says (answer.Say (reply.OwnerIs draft.owner draft.revision)))

@@ -1,5 +1,5 @@
 -- How a row of an order is judged when a desk is started, whoever judges it.
---     IsJudged judges row accepted    whether the release of the row's book accepts its order, where day and codes are right
+--     IsJudged releases row accepted    whether the release of the row's book accepts its order, where day and codes are right
 use Rattle.std.specs.Prelude.{◌≡◌, ℕ, ◌≤◌, ◌-◌, ◌==◌, Bool, true, false, List, Option, None, Some, slice_get, if◌then◌else◌}
 use Rattle.std.specs.List.{list_all}
 use Rattle.keeper.specs.declared.rows.OrderRow.{OrderRow}

@@ -13,4 +13,5 @@ pub mod Turn
 pub mod Rows
 pub mod RightRows
 pub mod Judged
+pub mod Checked
 pub mod Start

@@ -1,14 +1,18 @@
 //! Drafts from their rows.
-ghost use Rattle.std.specs.Prelude.{◌≡◌, ◌+◌, ◌≤◌, [], IfOk, MatchOption, None, Some, map, length, true, false};
+ghost use Rattle.std.specs.Prelude.{◌≡◌, ◌+◌, ◌≤◌, [], IfOk, MatchOption, OnOk, None, Some, map, length, true, false};
 ghost use Rattle.pb_base.specs.Answers.{IfRefused};
 ghost use Rattle.order_desk.specs.RightRows.{first_wrong, is_draft_row};
 ghost use Rattle.order_desk.specs.Rows.{draft_row};
+ghost use Rattle.order_desk.specs.Tables.{by_name};
+ghost use Rattle.std.specs.BTreeMap.{insert_entry};
 
+use crate::draft::NewDraft;
 use crate::rising::comes_last;
+use crate::writing::shared_draft;
 use crate::{Draft, MOST_DRAFTS, MOST_REVISION};
 use keeper::DraftRow;
 use pb_base::limits::MOST_TEXT_BYTES;
-use pb_base::{Fail, Id};
+use pb_base::{Fail, Id, Memory};
 use std::alloc::Global;
 use std::collections::{BTreeMap, VecDeque};
 
@@ -16,7 +20,7 @@ use std::collections::{BTreeMap, VecDeque};
 #[derive(Drop)]
 struct NamedDraft {
     name: Id,
-    draft: Draft,
+    draft: NewDraft,
 }
 
 /// The drafts of the rows, or the number, from 1, of the first row that isn't right.
@@ -32,13 +36,22 @@ pub(crate) fn drafts_of(
     let mut rest = VecDeque::from_vec(rows);
     while let Some(row) = rest.pop_front() {
         match draft_from(&drafts, row) {
-            Some(read) => {
-                drafts.insert(read.name, read.draft)?;
-            }
+            Some(read) => put_read(alloc, &mut drafts, read)?,
             None => return Err(Fail::Refused(drafts.len() as u32 + 1)),
         }
     }
     Ok(drafts)
+}
+
+// Puts a draft that was read among the others.
+fn put_read(alloc: Global, drafts: &mut BTreeMap<Id, Draft>, read: NamedDraft) -> Result<(), Memory>
+    ensures { OnOk result
+        (drafts.new.entries ≡ insert_entry by_name drafts.old.entries read.name read.draft) }
+{
+    let NamedDraft { name, draft } = read;
+    let draft = shared_draft(alloc, &name, draft)?;
+    drafts.insert(name, draft)?;
+    Ok(())
 }
 
 // The draft of the row behind these drafts, or None where the row isn't right.
@@ -60,7 +73,7 @@ fn draft_from(drafts: &BTreeMap<Id, Draft>, row: DraftRow) -> Option<NamedDraft>
     }
     Some(NamedDraft {
         name,
-        draft: Draft {
+        draft: NewDraft {
             owner,
             revision: row.revision as u32,
             text: row.text,

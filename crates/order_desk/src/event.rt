@@ -1,6 +1,6 @@
 //! What happens at the desk.
 
-use crate::shared_book::SharedBook;
+use crate::new_book::NewBook;
 use desk_words::OrderWords;
 use pb_base::{Body, Id};
 
@@ -25,7 +25,7 @@ pub enum Event {
         caller: Id,
         draft: Id,
         revision: u32,
-        released: SharedBook,
+        released: NewBook,
     },
     /// Takes a book out of force for new orders. The caller owns the book's draft.
     Withdraw {
@@ -45,7 +45,7 @@ pub enum Event {
 /// What is asked of the desk that changes nothing.
 #[derive(Drop)]
 pub enum Reading {
-    /// The text of a draft.
+    /// A draft's text, which is not copied, and its revision.
     Draft {
         draft: Id,
     },

@@ -1,22 +1,23 @@
 //! Rows of orders, judged by the books whose numbers they have.
-ghost use Rattle.std.specs.Prelude.{◌≡◌, IfOk, true, false};
+ghost use Rattle.std.specs.Prelude.{◌≡◌, IfOk, map, true, false};
 ghost use Rattle.std.specs.List.{AllZip, list_all};
 ghost use Rattle.pb_base.specs.Answers.{IfRefused};
 ghost use Rattle.pb_base.specs.Names.{is_code_name};
 ghost use Rattle.order_desk.specs.Judged.{IsJudged};
 ghost use Rattle.order_desk.specs.RightRows.{codes_in};
 
+use crate::KeptBook;
 use keeper::OrderRow;
 use pb_base::limits::LAST_DAY;
 use pb_base::{CodeList, CodeName, Fail, Memory};
-use release::OrderJudge;
+use release::accepts;
 use shared_work::Work;
 use std::alloc::Global;
 
-/// What judges rows of orders: the judges of the books, in the sequence of their numbers.
+/// What judges rows of orders: the books, in the sequence of their numbers.
 #[derive(Drop)]
 pub(crate) struct RowJudge<'a> {
-    pub(crate) judges: &'a [OrderJudge<'a>],
+    pub(crate) books: &'a [KeptBook],
 }
 
 impl<'a> Work for RowJudge<'a> {
@@ -28,32 +29,32 @@ impl<'a> Work for RowJudge<'a> {
 
     ghost IsGiven = { λ w row. Unit {0} };
 
-    ghost IsMade = { λ w. IsJudged w.judges.now };
+    ghost IsMade = { λ w. IsJudged (map (λ b. b.released) w.books.now) };
 
     fn make(&self, alloc: Global, rows: &[OrderRow]) -> Result<Vec<bool>, Memory> {
-        judge_rows(alloc, self.judges, rows)
+        judge_rows(alloc, self.books, rows)
     }
 }
 
 /// Judges one row after the other.
 pub(crate) fn judge_rows(
     alloc: Global,
-    judges: &[OrderJudge],
+    books: &[KeptBook],
     rows: &[OrderRow],
 ) -> Result<Vec<bool>, Memory>
-    ensures { IfOk result (λ told. AllZip (IsJudged judges.now) rows.now told.items) }
+    ensures { IfOk result (λ told. AllZip (IsJudged (map (λ b. b.released) books.now)) rows.now told.items) }
 {
     let mut told = Vec::with_capacity(alloc, rows.len())?;
     for row in rows {
-        let accepted = judge_row(alloc, judges, row)?;
+        let accepted = judge_row(alloc, books, row)?;
         told.push(accepted)?;
     }
     Ok(told)
 }
 
 // Whether the book of the row's order is there and accepts it. Of a row whose day or codes are wrong, false.
-fn judge_row(alloc: Global, judges: &[OrderJudge], row: &OrderRow) -> Result<bool, Memory>
-    ensures { IfOk result (IsJudged judges.now row.now) }
+fn judge_row(alloc: Global, books: &[KeptBook], row: &OrderRow) -> Result<bool, Memory>
+    ensures { IfOk result (IsJudged (map (λ b. b.released) books.now) row.now) }
 {
     if row.day > u64::from(LAST_DAY) {
         return Ok(false);
@@ -61,14 +62,15 @@ fn judge_row(alloc: Global, judges: &[OrderJudge], row: &OrderRow) -> Result<boo
     if row.book < 1 {
         return Ok(false);
     }
-    if row.book > judges.len() as u64 {
+    if row.book > books.len() as u64 {
         return Ok(false);
     }
     match codes_of(alloc, row.codes.as_slice()) {
         Ok(codes) => {
             let place = row.book as usize - 1;
-            let judge = &judges[place];
-            judge.accepts(alloc, row.day as u32, codes.as_slice())
+            let book = &books[place];
+            let released = book.released.released();
+            accepts(alloc, released, row.day as u32, codes.as_slice())
         }
         Err(Fail::Refused(())) => Ok(false),
         Err(Fail::Memory) => Err(Memory),

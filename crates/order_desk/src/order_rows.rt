@@ -16,7 +16,6 @@ use desk_words::OrderWords;
 use keeper::OrderRow;
 use pb_base::limits::LAST_DAY;
 use pb_base::{Fail, Id, Memory};
-use release::OrderJudge;
 use std::alloc::Global;
 use std::collections::{BTreeMap, VecDeque};
 
@@ -45,35 +44,10 @@ pub(crate) fn orders_of<H: Hands>(
     ensures wrong { IfRefused result (λ place.
         first_wrong (is_order_row (book_rows 1 books.now)) [] rows.items ≡ Some place) }
 {
-    match told_of(alloc, hands, books, &rows) {
+    match hands.judge(alloc, books, &rows) {
         Ok(told) => judged_orders(alloc, books, rows, &told),
         Err(Memory) => Err(Fail::Memory),
     }
-}
-
-// What the hands tell of each row.
-fn told_of<H: Hands>(
-    alloc: Global,
-    hands: &H,
-    books: &[KeptBook],
-    rows: &[OrderRow],
-) -> Result<Vec<bool>, Memory>
-    requires { H.AreReady hands.now }
-    ensures { IfOk result (λ told. AllZip (IsJudged (map (λ b. b.released) books.now)) rows.now told.items) }
-{
-    let judges = judges_of(alloc, books)?;
-    hands.judge(alloc, &judges, rows)
-}
-
-// What judges the orders of each book.
-fn judges_of<'a>(alloc: Global, books: &'a [KeptBook]) -> Result<Vec<OrderJudge<'a>>, Memory>
-    ensures { IfOk result (λ judges. judges.items ≡ map (λ b. b.released) books.now) }
-{
-    let mut judges = Vec::with_capacity(alloc, books.len())?;
-    for book in books {
-        judges.push(OrderJudge::new(alloc, book.released.released())?)?;
-    }
-    Ok(judges)
 }
 
 // The same, with what was told of each row.

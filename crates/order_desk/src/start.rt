@@ -74,7 +74,7 @@ impl<P: Keeper> Desk<P> {
         Desk::start_by(alloc, &OneHand, keeper, name)
     }
 
-    /// The same start, in which these hands judge the orders.
+    /// The same start, in which these hands check the certificates and judge the orders.
     pub fn start_by<H: Hands>(
         alloc: Global,
         hands: &H,
@@ -199,7 +199,7 @@ fn tables_of<H: Hands>(alloc: Global, hands: &H, rows: Rows) -> Result<ReadTable
         Ok(drafts) => drafts,
         Err(fail) => return Err(in_table(1, fail)),
     };
-    let mut books = match books_of(alloc, &drafts, books) {
+    let mut books = match books_of(alloc, hands, &drafts, books) {
         Ok(books) => books,
         Err(fail) => return Err(in_table(2, fail)),
     };

@@ -11,7 +11,9 @@ ghost use Rattle.order_desk.specs.Rows.{book_row, draft_row, order_row, codes_te
 ghost use Rattle.order_desk.specs.Tables.{by_key, by_name};
 ghost use Rattle.order_desk.specs.declared.kept_book.KeptBook.{KeptBook};
 
-use crate::{Draft, KeptBook, OrderKey};
+use crate::draft::NewDraft;
+use crate::kept_book::BookToKeep;
+use crate::{Draft, KeptBook, OrderKey, SharedText};
 use desk_words::OrderWords;
 use keeper::{BookRow, DraftRow, Keeper, OrderRow};
 use pb_base::{Body, CodeName, Id, Memory, Text};
@@ -19,6 +21,7 @@ use pb_outside::OutError;
 use std::alloc::Global;
 use std::collections::BTreeMap;
 use std::collections::btree_map::Entry;
+use std::sync::Arc;
 
 /// The bytes as a body of their own.
 pub(crate) fn body_of(alloc: Global, bytes: &[u8]) -> Result<Body, Memory>
@@ -28,8 +31,8 @@ pub(crate) fn body_of(alloc: Global, bytes: &[u8]) -> Result<Body, Memory>
     Ok(Body::of(bytes))
 }
 
-// Two texts as bodies of their own.
-fn bodies_of(alloc: Global, first: &[u8], second: &[u8]) -> Result<(Body, Body), Memory>
+/// Two texts as bodies of their own.
+pub(crate) fn bodies_of(alloc: Global, first: &[u8], second: &[u8]) -> Result<(Body, Body), Memory>
     ensures { IfOk result (λ bodies. (bodies.0 ≡ first.now) × (bodies.1 ≡ second.now)) }
 {
     let first = body_of(alloc, first)?;
@@ -45,7 +48,7 @@ pub(crate) fn write_draft<P: Keeper>(
     drafts: &mut BTreeMap<Id, Draft>,
     keeper: &mut P,
     name: Id,
-    draft: Draft,
+    draft: NewDraft,
 ) -> Result<(), OutError>
     ensures done { OnOk result (drafts.new.entries ≡ insert_entry by_name drafts.old.entries name draft) }
     ensures told { OnOk result (P.told keeper.new
@@ -67,12 +70,12 @@ pub(crate) fn write_draft<P: Keeper>(
     }
 }
 
-// Writes the row of a draft, which takes its text meanwhile, and gives the draft back.
+// Writes the row of a draft, and gives the draft, whose text stays in the row.
 fn write_draft_row<P: Keeper>(
     alloc: Global,
     keeper: &mut P,
     name: &Id,
-    draft: Draft,
+    draft: NewDraft,
 ) -> Result<Draft, OutError>
     ensures same { IfOk result (λ same. same ≡ draft) }
     ensures told { OnOk result (P.told keeper.new
@@ -87,21 +90,38 @@ fn write_draft_row<P: Keeper>(
     Ok(Draft {
         owner,
         revision,
-        text: row.text,
+        text: SharedText::of(row),
+    })
+}
+
+/// A draft that stood in a store, with its text in a row that it can share.
+pub(crate) fn shared_draft(alloc: Global, name: &Id, draft: NewDraft) -> Result<Draft, Memory>
+    ensures { IfOk result (λ same. same ≡ draft) }
+{
+    let owner = draft.owner;
+    let revision = draft.revision;
+    let row = row_of_draft(alloc, name, draft)?;
+    Ok(Draft {
+        owner,
+        revision,
+        text: SharedText::of(row),
     })
 }
 
 // The row of a draft, with the draft's own text.
-fn row_of_draft(alloc: Global, name: &Id, draft: Draft) -> Result<DraftRow, Memory>
-    ensures { IfOk result (λ row. row ≡ draft_row (name.now, draft)) }
+fn row_of_draft(alloc: Global, name: &Id, draft: NewDraft) -> Result<Arc<DraftRow>, Memory>
+    ensures { IfOk result (λ row. row.value ≡ draft_row (name.now, draft)) }
 {
     match bodies_of(alloc, name.bytes(), draft.owner.bytes()) {
-        Ok((name, owner)) => Ok(DraftRow {
-            name,
-            owner,
-            revision: u64::from(draft.revision),
-            text: draft.text,
-        }),
+        Ok((name, owner)) => {
+            let row = DraftRow {
+                name,
+                owner,
+                revision: u64::from(draft.revision),
+                text: draft.text,
+            };
+            Ok(Arc::new(alloc, row)?)
+        }
         Err(Memory) => Err(Memory),
     }
 }
@@ -111,7 +131,7 @@ pub(crate) fn write_book<P: Keeper>(
     alloc: Global,
     books: &mut Vec<KeptBook>,
     keeper: &mut P,
-    book: KeptBook,
+    book: BookToKeep,
 ) -> Result<(), OutError>
     ensures done { OnOk result (books.new.items ≡ books.old.items ++ book ∷ []) }
     ensures told { OnOk result (P.told keeper.new
@@ -121,8 +141,8 @@ pub(crate) fn write_book<P: Keeper>(
     ensures count { HasCause result (P.failures keeper.old) (P.failures keeper.new) }
 {
     books.reserve(1)?;
-    match write_book_row(alloc, keeper, books.len() as u64 + 1, &book) {
-        Ok(()) => {
+    match write_book_row(alloc, keeper, books.len() as u64 + 1, book) {
+        Ok(book) => {
             books.push_reserved(book);
             Ok(())
         }
@@ -130,35 +150,52 @@ pub(crate) fn write_book<P: Keeper>(
     }
 }
 
-// Writes the row of the book of this number.
+// Writes the row of the book of this number, and gives the book without the texts of the row.
 fn write_book_row<P: Keeper>(
     alloc: Global,
     keeper: &mut P,
     number: u64,
-    book: &KeptBook,
-) -> Result<(), OutError>
+    book: BookToKeep,
+) -> Result<KeptBook, OutError>
+    ensures same { IfOk result (λ same. same ≡ book) }
     ensures told { OnOk result (P.told keeper.new
-        ≡ option_map (kept.with_book (book_row number book.now)) (P.told keeper.old)) }
+        ≡ option_map (kept.with_book (book_row number book)) (P.told keeper.old)) }
     ensures untold { OnErr result (P.told keeper.new ≡ P.told keeper.old) }
     ensures count { HasCause result (P.failures keeper.old) (P.failures keeper.new) }
 {
-    let row = row_of_book(alloc, number, book)?;
-    keeper.put_book(&row)
+    let (book, row) = row_of_book(alloc, number, book)?;
+    keeper.put_book(&row)?;
+    Ok(book)
 }
 
-fn row_of_book(alloc: Global, number: u64, book: &KeptBook) -> Result<BookRow, Memory>
-    ensures { IfOk result (λ row. row ≡ book_row number book.now) }
+// The book, and its row with the texts that were copied for it.
+fn row_of_book(alloc: Global, number: u64, book: BookToKeep) -> Result<(KeptBook, BookRow), Memory>
+    ensures same { IfOk result (λ both. both.0 ≡ book) }
+    ensures row { IfOk result (λ both. both.1 ≡ book_row number book) }
 {
-    let released = book.released.released();
-    let draft = body_of(alloc, book.draft.bytes())?;
-    match bodies_of(alloc, released.text(), released.cert()) {
-        Ok((text, cert)) => Ok(BookRow {
-            number,
-            draft,
-            revision: u64::from(book.revision),
-            text,
-            cert,
-        }),
+    let BookToKeep {
+        draft,
+        revision,
+        released,
+    } = book;
+    match body_of(alloc, draft.bytes()) {
+        Ok(name) => {
+            let (released, text, cert) = released.into_parts();
+            let row = BookRow {
+                number,
+                draft: name,
+                revision: u64::from(revision),
+                text,
+                cert,
+            };
+            let kept = KeptBook {
+                draft,
+                revision,
+                released,
+                withdrawn: false,
+            };
+            Ok((kept, row))
+        }
         Err(Memory) => Err(Memory),
     }
 }

@@ -13,8 +13,10 @@ ghost use Rattle.order_desk.specs.Tables.{book_at, draft_at, order_at, released_
 ghost use Rattle.order_desk.specs.Valid.{HasRoom, IsDraft};
 ghost use Rattle.order_desk.specs.Writing.{IsAnswered};
 
+use crate::draft::NewDraft;
+use crate::kept_book::BookToKeep;
 use crate::writing::{write_book, write_draft, write_order, write_withdrawn};
-use crate::{Answer, Desk, Draft, KeptBook, OrderKey, SharedBook};
+use crate::{Answer, Desk, NewBook, OrderKey};
 use desk_words::{OrderWords, Reply};
 use keeper::Keeper;
 use pb_base::{Body, Id, Memory};
@@ -49,9 +51,9 @@ impl<P: Keeper> Desk<P> {
         }
     }
 
-    // The caller's draft with another owner, or why there is none.
+    // The caller's draft with another owner, or why there is none. Its text is copied for the row.
     #[tactic(auto, using(crate::proofs::Following::follows_memory), unfolding(crate::specs::Effect::give_draft))]
-    pub(super) fn next_owner(&self, caller: Id, name: Id, to: Id) -> Result<Draft, Reply>
+    pub(super) fn next_owner(&self, caller: Id, name: Id, to: Id) -> Result<NewDraft, Reply>
         requires { is_name to ≡ true }
         ensures form { IfOk result (IsDraft name) }
         ensures room { OnOk result (HasRoom self.now.tables.drafts name) }
@@ -65,7 +67,7 @@ impl<P: Keeper> Desk<P> {
         let _ = &self.keeper;
         match self.owned(caller, name) {
             Ok(draft) => match draft.text.copy(*self.books.allocator()) {
-                Ok(text) => Ok(Draft {
+                Ok(text) => Ok(NewDraft {
                     owner: to,
                     revision: draft.revision,
                     text,
@@ -96,17 +98,16 @@ impl<P: Keeper> Desk<P> {
         caller: Id,
         name: Id,
         revision: u32,
-        released: SharedBook,
+        released: NewBook,
     ) -> Answer
         requires { IsReleaseOf self.old.tables.drafts name revision released }
         ensures { Follows (commit self.old.tables caller name revision released) self.old result self.new }
     {
         match self.to_release(caller, name, revision) {
-            Ok(_) => self.keep_book(KeptBook {
+            Ok(_) => self.keep_book(BookToKeep {
                 draft: name,
                 revision,
                 released,
-                withdrawn: false,
             }),
             Err(said) => Answer::Say(said),
         }
@@ -146,7 +147,7 @@ impl<P: Keeper> Desk<P> {
     }
 
     // Keeps a draft as it is now to be.
-    fn keep_draft(&mut self, name: Id, draft: Draft, due: Answer) -> Answer
+    fn keep_draft(&mut self, name: Id, draft: NewDraft, due: Answer) -> Answer
         requires form { IsDraft name draft }
         requires room { HasRoom self.old.tables.drafts name }
         requires later { Stays IsLaterDraft (draft_at self.old.tables.drafts name) (Some draft) }
@@ -159,7 +160,7 @@ impl<P: Keeper> Desk<P> {
     }
 
     // Keeps a book under the next number.
-    fn keep_book(&mut self, book: KeptBook) -> Answer
+    fn keep_book(&mut self, book: BookToKeep) -> Answer
         requires release { IsReleaseOf self.old.tables.drafts book.draft book.revision book.released }
         requires room { length self.old.tables.books < most_books }
         requires fresh { released_as self.old.tables.books book.draft book.revision ≡ None }

@@ -2,6 +2,7 @@
 ghost use Rattle.std.specs.Prelude.{◌≡◌, Ok, Err, MatchResult};
 ghost use Rattle.order_desk.specs.Effect.{to_take, owned, draft_of, book_in_force, book_of, to_place, to_release, next_draft};
 
+use crate::draft::NewDraft;
 use crate::lookup::{book_at, released_as};
 use crate::{Desk, Draft, KeptBook, MOST_BOOKS, MOST_DRAFTS, MOST_ORDERS, MOST_REVISION};
 use desk_words::{FullOf, Missing, OrderWords, Reply};
@@ -38,13 +39,13 @@ impl<P: Keeper> Desk<P> {
     }
 
     #[tactic(auto, unfolding(crate::specs::Effect::next_draft))]
-    pub(super) fn next_draft(&self, caller: Id, name: Id, text: Body) -> Result<Draft, Reply>
+    pub(super) fn next_draft(&self, caller: Id, name: Id, text: Body) -> Result<NewDraft, Reply>
         ensures { result ≡ next_draft self.now.tables caller name text }
     {
         match self.drafts.get(&name) {
             None => {
                 if self.drafts.len() < MOST_DRAFTS {
-                    Ok(Draft {
+                    Ok(NewDraft {
                         owner: caller,
                         revision: 1,
                         text,
@@ -58,7 +59,7 @@ impl<P: Keeper> Desk<P> {
                     return Err(Reply::NotOwner(old.owner));
                 }
                 if old.revision < MOST_REVISION {
-                    Ok(Draft {
+                    Ok(NewDraft {
                         owner: old.owner,
                         revision: old.revision + 1,
                         text,

@@ -8,7 +8,6 @@ ghost use Rattle.order_desk.specs.Step.{IsOrMemory, Shows};
 
 use crate::listing::{books_text, list_text};
 use crate::lookup::same_order;
-use crate::writing::body_of;
 use crate::{Answer, Desk, Draft, OrderKey, Reading, SharedBook};
 use desk_words::{Missing, OrderWords, Reply};
 use keeper::Keeper;
@@ -17,21 +16,12 @@ use std::alloc::Global;
 use std::collections::btree_map::Range;
 use std::ops::Bound;
 
-// The answers that copy something.
+// The answers that take memory.
 
-fn raw(alloc: Global, text: &[u8]) -> Answer
-    ensures { IsOrMemory (Answer.Say (Reply.Raw text.now)) result }
-{
-    match body_of(alloc, text) {
-        Ok(text) => Answer::Say(Reply::Raw(text)),
-        Err(Memory) => Answer::Say(Reply::Memory),
-    }
-}
-
-fn taken(alloc: Global, draft: &Draft) -> Answer
+fn taken(draft: &Draft) -> Answer
     ensures { IsOrMemory (Answer.Draft draft.now.text draft.now.revision) result }
 {
-    match draft.text.copy(alloc) {
+    match draft.text.share() {
         Ok(text) => Answer::Draft {
             text,
             revision: draft.revision,
@@ -101,7 +91,7 @@ impl<P: Keeper> Desk<P> {
         ensures { Shows (read_draft self.now.tables name) result }
     {
         match self.draft_of(name) {
-            Ok(draft) => raw(*self.books.allocator(), draft.text.as_slice()),
+            Ok(draft) => taken(draft),
             Err(said) => Answer::Say(said),
         }
     }
@@ -124,7 +114,7 @@ impl<P: Keeper> Desk<P> {
         ensures { Shows (take_draft self.now.tables caller name revision) result }
     {
         match self.to_take(caller, name, revision) {
-            Ok(draft) => taken(*self.books.allocator(), draft),
+            Ok(draft) => taken(draft),
             Err(said) => Answer::Say(said),
         }
     }

@@ -57,10 +57,10 @@ returns-in-Err-clause-wrong g c =
     told_in k 1 (λ place. first_wrong is_draft_row [] k.drafts ≡ Some place) c.in-Err.fail c.in_table.result c.in_table.ensures
     c.in-Err.ensures.wrong (λ place is. draft_is_bad k place form is)
 
-pub books_of-requires : goal.books_of-requires
-books_of-requires g c =
-    let at = goal.at.books_of-requires g c in
-    record { names = names_read (kept_of c.args.rows) c.in-Ok.drafts.entries (drafts_read g at.In-Ok) }
+pub books_of-requires-clause-names : goal.books_of-requires-clause-names
+books_of-requires-clause-names g c =
+    let at = goal.at.books_of-requires-clause-names g c in
+    names_read (kept_of c.args.rows) c.in-Ok.drafts.entries (drafts_read g at.In-Ok)
 
 pub returns-in-Err-books_of-clause-wrong : goal.returns-in-Err-books_of-clause-wrong
 returns-in-Err-books_of-clause-wrong g c =
