@@ -187,7 +187,7 @@ pub lawful : (command : BookCommand) → IsLawful (promise_of command)
 unfolding promise_of
 lawful (Order day ordered) = order_lawful day ordered
 lawful (Check budget workers) = check_lawful budget
-lawful (Prove budget) = proof_lawful budget
+lawful (Prove budget workers) = proof_lawful budget
 lawful (Verify file) = verify_lawful file
 lawful (Supplements budget workers) = supplements_lawful budget
 lawful (Compare day file budget workers) = compare_lawful day file budget

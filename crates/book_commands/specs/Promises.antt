@@ -16,7 +16,7 @@ use Rattle.book_commands.specs.Why.{why_promise}
 unfoldable pub promise_of : BookCommand → Promise
 promise_of (Order day ordered) = order_promise day ordered
 promise_of (Check budget workers) = check_promise budget
-promise_of (Prove budget) = proof_promise budget
+promise_of (Prove budget workers) = proof_promise budget
 promise_of (Verify file) = verify_promise file
 promise_of (Supplements budget workers) = supplements_promise budget
 promise_of (Compare day file budget workers) = compare_promise day file budget

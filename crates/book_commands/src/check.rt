@@ -18,7 +18,7 @@ use findings::{Report, Verdict, verdict_of};
 use pb_base::{Fail, Memory};
 use pb_reports::report_text;
 use release_check::{
-    CertifiedBook, NotChecked, NotReleased, ReportedBook, certify_text, check_text_by,
+    CertifiedBook, NotChecked, NotReleased, ReportedBook, certify_text_by, check_text_by,
 };
 use std::alloc::Global;
 use std::thread::Threads;
@@ -44,11 +44,17 @@ pub fn check_reply<R: Threads + Sync>(
     }
 }
 
-/// A certificate that the book of the text can be released, or what keeps it from its release.
-pub fn proof_reply(alloc: Global, text: &[u8], budget: &Budget) -> Result<RunReply, Memory>
+/// A certificate that the book of the text can be released, or what keeps it from its release, by so many workers.
+pub fn proof_reply<R: Threads + Sync>(
+    rt: &R,
+    alloc: Global,
+    text: &[u8],
+    budget: &Budget,
+    workers: &Workers,
+) -> Result<RunReply, Memory>
     ensures { IfOk result (RepliesToProof (book_of text.now) budget.now) }
 {
-    match certify_text(alloc, text, budget.clauses()) {
+    match certify_text_by(rt, alloc, text, budget.clauses(), workers.count()) {
         Ok(CertifiedBook { book: _, cert }) => Ok(RunReply::plain(alloc, cert, RunStatus::Done)),
         Err(Fail::Refused(why)) => kept_back_reply(alloc, why),
         Err(Fail::Memory) => Err(Memory),

@@ -88,7 +88,9 @@ fn command_reply<R: Threads + Sync, F: Files>(
         BookCommand::Check { budget, workers } => {
             Ok(check_reply(rt, alloc, input, budget, workers)?)
         }
-        BookCommand::Prove { budget } => Ok(proof_reply(alloc, input, budget)?),
+        BookCommand::Prove { budget, workers } => {
+            Ok(proof_reply(rt, alloc, input, budget, workers)?)
+        }
         BookCommand::Verify { file } => verify_reply(alloc, input, file, files),
         BookCommand::Supplements { budget, workers } => {
             Ok(supplements_reply(rt, alloc, input, budget, workers)?)

@@ -1,7 +1,7 @@
 -- What the words of a command line ask for.
 --     order DAY CODE..              what the order of these codes on this day comes to
 --     check [--budget N] [--workers N]          what is wrong with the book
---     prove [--budget N]            a certificate that the book can be released, or what keeps it from its release
+--     prove [--budget N] [--workers N]          a certificate that the book can be released, or what keeps it from its release
 --     verify CERTFILE               the check of the certificate in this file
 --     desk STORE                    the order desk over the rows that this store keeps
 --     serve STORE PORT WORKERS LINKS    the order desk over the rows that this store keeps, at this port, for so many links
@@ -62,7 +62,7 @@ abbrev pub check_of : Option (List ℕ) → Words → Option Task
 check_of budget operands = option_map (λ n. Book (Check n 1)) (budget_alone budget operands)
 
 abbrev pub prove_of : Option (List ℕ) → Words → Option Task
-prove_of budget operands = option_map (λ n. Book (Prove n)) (budget_alone budget operands)
+prove_of budget operands = option_map (λ n. Book (Prove n 1)) (budget_alone budget operands)
 
 abbrev pub supplements_of : Option (List ℕ) → Words → Option Task
 supplements_of budget operands = option_map (λ n. Book (Supplements n 1)) (budget_alone budget operands)
@@ -226,12 +226,12 @@ workers_cut words place =
 -- the same by so many workers, which not every command has
 abbrev pub command_with : ℕ → BookCommand → Option BookCommand
 command_with workers (Check budget one) = Some (Check budget workers)
+command_with workers (Prove budget one) = Some (Prove budget workers)
 command_with workers (Supplements budget one) = Some (Supplements budget workers)
 command_with workers (Compare day file budget one) = Some (Compare day file budget workers)
 command_with workers (Require file budget one) = Some (Require file budget workers)
 command_with workers (Changes file budget one) = Some (Changes file budget workers)
 command_with workers (Order day ordered) = None
-command_with workers (Prove budget) = None
 command_with workers (Verify file) = None
 command_with workers (Free day ordered budget) = None
 command_with workers (Why day ordered budget) = None

@@ -131,7 +131,8 @@ fn prove_of(budget: Option<&str>, operands: &[&str]) -> Option<Task>
     ensures { result ≡ prove_of (lent_option budget.entry) (lent operands.now) }
 {
     let budget = budget_alone(budget, operands)?;
-    Some(Task::Book(BookCommand::Prove { budget }))
+    let workers = Workers::of(1);
+    Some(Task::Book(BookCommand::Prove { budget, workers }))
 }
 
 fn supplements_of(budget: Option<&str>, operands: &[&str]) -> Option<Task>

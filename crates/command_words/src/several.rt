@@ -128,6 +128,7 @@ fn command_with(command: BookCommand, workers: Workers) -> Option<BookCommand>
 {
     match command {
         BookCommand::Check { budget, .. } => Some(BookCommand::Check { budget, workers }),
+        BookCommand::Prove { budget, .. } => Some(BookCommand::Prove { budget, workers }),
         BookCommand::Supplements { budget, .. } => {
             Some(BookCommand::Supplements { budget, workers })
         }
@@ -156,7 +157,6 @@ fn command_with(command: BookCommand, workers: Workers) -> Option<BookCommand>
         BookCommand::Free { .. } => None,
         BookCommand::Why { .. } => None,
         BookCommand::Ask { .. } => None,
-        BookCommand::Prove { .. } => None,
         BookCommand::Verify { .. } => None,
         BookCommand::Days { .. } => None,
     }

@@ -58,9 +58,11 @@ pub enum BookCommand {
         budget: Budget,
         workers: Workers,
     },
-    /// A certificate that nothing keeps the book from its release, or what does, with this budget for each question.
+    /// A certificate that nothing keeps the book from its release, or what does, with this budget for each question, by so many
+    /// workers.
     Prove {
         budget: Budget,
+        workers: Workers,
     },
     /// Whether the certificate in this file shows that the book can be released.
     Verify {

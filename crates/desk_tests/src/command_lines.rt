@@ -65,7 +65,7 @@ fn put_named(text: &mut Text, word: &str, name: &str, numbers: &[u32]) -> Result
 fn put_command(text: &mut Text, command: &BookCommand) -> Result<(), Memory> {
     match command {
         BookCommand::Check { budget, .. } => put_numbers(text, "check", &[budget.clauses()]),
-        BookCommand::Prove { budget } => put_numbers(text, "prove", &[budget.clauses()]),
+        BookCommand::Prove { budget, .. } => put_numbers(text, "prove", &[budget.clauses()]),
         BookCommand::Supplements { budget, .. } => {
             put_numbers(text, "supplements", &[budget.clauses()])
         }

@@ -4,6 +4,7 @@ pub mod ToldLaws
 pub mod SliceLaws
 pub mod BookLaws
 pub mod SharedLaws
+pub mod CheckLaws
 pub mod SolverLaws
 pub mod AgainLaws
 pub mod LeftLaws

@@ -5,3 +5,4 @@ pub mod Outcomes
 pub mod Answering
 pub mod Checkable
 pub mod Core
+pub mod Checked

@@ -1,11 +1,10 @@
 //! The check of a book.
-ghost use Rattle.std.specs.Prelude.{◌≡◌, ◌↔◌, ℕ, ◌<◌, ◌≤◌, List, [], ◌∷◌, All, IfOk, IfSome, IsSome, OnOk, Err, false, length, ◌++◌, ◌||◌};
+ghost use Rattle.std.specs.Prelude.{◌≡◌, ◌↔◌, ℕ, ◌<◌, ◌≤◌, List, [], ◌∷◌, All, IfOk, IfSome, IsSome, OnOk, Err, Ok, false, length, ◌++◌, ◌||◌};
 ghost use Rattle.std.specs.List.{list_any};
 ghost use Rattle.std.specs.Option.{is_none};
 ghost use Rattle.pb_base.specs.Answers.{IfRefused};
-ghost use Rattle.book_model.specs.Slices.{IsOrdered, IsSteady};
 ghost use Rattle.book_model.specs.Sound.{IsReleasable};
-ghost use Rattle.derivation.specs.Limits.{AreWithin, asked_of, slices_within};
+ghost use Rattle.derivation.specs.Limits.{slices_within};
 ghost use Rattle.derivation.specs.Written.{IsBegun};
 ghost use Rattle.derivation.specs.declared.slice_proof.SliceProof.{SliceProof};
 ghost use Rattle.book_model.specs.declared.record.Slice.{Slice};
@@ -14,18 +13,18 @@ ghost use Rattle.findings.specs.Notes.{InParts, IsReport, SliceNotes, verdict_of
 ghost use Rattle.slice_hints.specs.Found.{KnowsUsages};
 ghost use Rattle.findings.specs.Answering.{IsShownIn, ShowsUnlessStopped, inquiry, stops};
 ghost use Rattle.derivation.specs.Accepted.{IsAccepted};
-ghost use Rattle.pb_base.specs.declared.limits.TheConstants.{MOST_BUDGET, MOST_QUESTIONS};
+ghost use Rattle.pb_base.specs.declared.limits.TheConstants.{MOST_BUDGET};
 
 use crate::earlier::Earlier;
 use crate::laws::book_laws;
 use crate::report::{Ask, Note, Report, Verdict};
-use crate::slice::{SliceCheck, check_slice};
+use crate::slice::SliceCheck;
+use crate::slice_checks::check_one;
 use crate::slice_reports::{joined, reports_of};
-use crate::task::{Effort, SliceTask};
+use crate::task::Effort;
 use book_model::{Book, LimitFault, Slice};
 use derivation::{SliceProof, begin_cert, end_cert, put_proof, slices_within};
 use pb_base::{Body, Fail, Memory, Text};
-use slice_chains::shorten;
 use std::alloc::Global;
 
 /// What a check of a book tells, and the certificate that nothing keeps it from its release.
@@ -56,21 +55,9 @@ pub fn check_book(
     book_laws(book);
     let slices = slices_within(alloc, book)?;
     let effort = Effort { ask, budget };
-    let checked = check_slices(alloc, book, slices.as_slice(), effort)?;
-    let SliceChecks {
-        notes,
-        text,
-        stopped,
-    } = checked;
-    let report = Report::of(notes);
-    if stopped {
-        return Ok(Checked { report, cert: None });
-    }
-    let cert = end_cert(text, book)?;
-    Ok(Checked {
-        report,
-        cert: Some(cert),
-    })
+    let all = check_slices(alloc, book, slices.as_slice(), effort)?;
+    let checked = concluded(book, all)?;
+    Ok(checked)
 }
 
 /// The report alone. No certificate is written, and no more is kept of a slice than the next one may use.
@@ -111,24 +98,48 @@ fn report_slices(
     Ok(notes)
 }
 
-// What a check of slices tells: their notes, and where none of these keeps the book from its release, a certificate with a proof
-// of each of them.
+/// What a check of slices tells: their notes, and where none of these keeps the book from its release, a certificate with a proof
+/// of each of them.
 #[derive(Drop)]
-struct SliceChecks {
-    notes: Vec<Note>,
-    text: Text,
-    stopped: bool,
+pub(crate) struct SliceChecks {
+    pub(crate) notes: Vec<Note>,
+    pub(crate) text: Text,
+    pub(crate) stopped: bool,
 }
 
-fn check_slices(
+/// What the checks of all slices of a book come to.
+pub(crate) fn concluded(book: &Book, all: SliceChecks) -> Result<Checked, Memory>
+    requires { all.stopped ≡ list_any stops all.notes.items }
+    ensures report { IfOk result (λ c. c.report ≡ all.notes.items) }
+    ensures cert { IfOk result (λ c. IsSome c.cert ↔ (verdict_of c.report ≡ Verdict.Releasable)) }
+    ensures accepted { (slices : List Slice) → slices_within book.now ≡ Ok slices
+        → (all.stopped ≡ false → IsShownIn book.now slices (length slices) all.text)
+        → IfOk result (λ c. IfSome c.cert (IsAccepted book.now)) }
+{
+    let SliceChecks {
+        notes,
+        text,
+        stopped,
+    } = all;
+    let report = Report::of(notes);
+    if stopped {
+        return Ok(Checked { report, cert: None });
+    }
+    let cert = end_cert(text, book)?;
+    Ok(Checked {
+        report,
+        cert: Some(cert),
+    })
+}
+
+/// Checks slices one after the other.
+pub(crate) fn check_slices(
     alloc: Global,
     book: &Book,
     slices: &[Slice],
     effort: Effort,
 ) -> Result<SliceChecks, Memory>
-    requires steady { All (IsSteady book.now) slices.now }
-    requires order { All IsOrdered slices.now }
-    requires few { AreWithin book.now slices.now }
+    requires slices { All (IsCheckable book.now) slices.now }
     requires some { 0 < effort.budget }
     requires budget { effort.budget ≤ MOST_BUDGET }
     ensures notes { IfOk result (λ c.
@@ -137,12 +148,7 @@ fn check_slices(
     ensures shown { IfOk result (λ c.
         c.stopped ≡ false → IsShownIn book.now slices.now (length slices.now) c.text) }
 {
-    let text = begin_cert(alloc, book, slices)?;
-    let mut all = SliceChecks {
-        notes: Vec::new(alloc),
-        text,
-        stopped: false,
-    };
+    let mut all = SliceChecks::begun(alloc, book, slices)?;
     let mut earlier = Earlier::none(alloc);
     check_each(alloc, book, slices, effort, &mut earlier, &mut all)?;
     Ok(all)
@@ -157,9 +163,7 @@ fn check_each(
     earlier: &mut Earlier,
     all: &mut SliceChecks,
 ) -> Result<(), Memory>
-    requires steady { All (IsSteady book.now) slices.now }
-    requires order { All IsOrdered slices.now }
-    requires few { AreWithin book.now slices.now }
+    requires slices { All (IsCheckable book.now) slices.now }
     requires some { 0 < effort.budget }
     requires budget { effort.budget ≤ MOST_BUDGET }
     requires notes { all.old.notes.items ≡ [] }
@@ -173,40 +177,34 @@ fn check_each(
         (all.new.stopped ≡ false → IsShownIn book.now slices.now (length slices.now) all.new.text) }
 {
     for (number, slice) in slices.iter().enumerate() {
-        let task = SliceTask {
-            slice: *slice,
-            effort,
-        };
-        let checked = check_slice(alloc, book, task, earlier)?;
-        let checked = with_short_proof(alloc, book, slice, checked)?;
+        let checked = check_one(alloc, book, *slice, effort, earlier)?;
         all.put(book, number, checked)?;
     }
     Ok(())
 }
 
-// The same with a proof of no more steps than its closings rest on.
-fn with_short_proof(
-    alloc: Global,
-    book: &Book,
-    slice: &Slice,
-    checked: SliceCheck,
-) -> Result<SliceCheck, Memory>
-    requires few { asked_of book.now slice.now ≤ MOST_QUESTIONS }
-    requires proof { ShowsUnlessStopped book.now slice.now checked.notes.items checked.proof }
-    ensures notes { IfOk result (λ c. c.notes.items ≡ checked.notes.items) }
-    ensures proof { IfOk result (λ c. ShowsUnlessStopped book.now slice.now c.notes.items c.proof) }
-{
-    let SliceCheck { notes, proof } = checked;
-    let Some(proof) = proof else {
-        return Ok(SliceCheck { notes, proof: None });
-    };
-    let proof = Some(shorten(alloc, book, slice, proof)?);
-    Ok(SliceCheck { notes, proof })
-}
-
 impl SliceChecks {
-    // Puts down what the check of a further slice tells, which has this number.
-    fn put(&mut self, book: &Book, number: usize, checked: SliceCheck) -> Result<(), Memory>
+    /// With nothing put down of any of these slices.
+    pub(crate) fn begun(alloc: Global, book: &Book, slices: &[Slice]) -> Result<SliceChecks, Memory>
+        ensures notes { IfOk result (λ c. c.notes.items ≡ []) }
+        ensures text { IfOk result (λ c. IsBegun book.now (length slices.now) [] c.text) }
+        ensures stopped { IfOk result (λ c. c.stopped ≡ false) }
+    {
+        let text = begin_cert(alloc, book, slices)?;
+        Ok(SliceChecks {
+            notes: Vec::new(alloc),
+            text,
+            stopped: false,
+        })
+    }
+
+    /// Puts down what the check of a further slice tells, which has this number.
+    pub(crate) fn put(
+        &mut self,
+        book: &Book,
+        number: usize,
+        checked: SliceCheck,
+    ) -> Result<(), Memory>
         requires { IfSome checked.proof (λ p. length p.set ≡ length book.now.codes) }
         ensures notes { OnOk result (self.new.notes.items ≡ self.old.notes.items ++ checked.notes.items) }
         ensures stopped { OnOk result (self.new.stopped ≡ (self.old.stopped || is_none checked.proof)) }

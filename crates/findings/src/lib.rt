@@ -5,6 +5,7 @@
 mod answer;
 mod assuming;
 mod check;
+mod check_by;
 mod core_known;
 mod core_pairs;
 mod core_report;
@@ -19,11 +20,13 @@ mod refuting;
 mod report;
 mod report_by;
 mod slice;
+mod slice_checks;
 mod slice_core;
 mod slice_reports;
 mod task;
 
 pub use check::{Checked, check_book, report_book};
+pub use check_by::check_book_by;
 pub use laws::report_laws;
 pub use report::{Ask, Note, Report, Verdict, verdict_of};
 pub use report_by::report_book_by;

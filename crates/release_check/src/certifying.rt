@@ -12,9 +12,10 @@ ghost use Rattle.pb_base.specs.declared.limits.TheConstants.{MOST_BUDGET};
 use crate::not_released::NotReleased;
 use book_model::Book;
 use book_text::read_book;
-use findings::{Ask, Checked, Report, Verdict, check_book, verdict_of};
+use findings::{Ask, Checked, Report, Verdict, check_book, check_book_by, verdict_of};
 use pb_base::{Body, Fail};
 use std::alloc::Global;
+use std::thread::Threads;
 
 /// A book, and a certificate that it can be released.
 #[derive(Drop)]
@@ -40,6 +41,30 @@ pub fn certify_text(
         Err(fail) => return Err(fail.map(NotReleased::Text)),
     };
     match check_book(alloc, &book, budget, Ask::Blocking) {
+        Ok(checked) => by_check(book, checked),
+        Err(fail) => Err(fail.map(NotReleased::Limit)),
+    }
+}
+
+/// The same by so many workers, who share the slices of the book.
+pub fn certify_text_by<R: Threads + Sync>(
+    rt: &R,
+    alloc: Global,
+    text: &[u8],
+    budget: u32,
+    workers: u32,
+) -> Result<CertifiedBook, Fail<NotReleased>>
+    requires some { 0 < budget }
+    requires most { budget ≤ MOST_BUDGET }
+    requires workers { 0 < workers }
+    ensures certified { IfOk result (λ c. IsCertifiedBook text.now budget c.book c.cert) }
+    ensures refused { IfRefused result (IsRefusal text.now budget) }
+{
+    let book = match read_book(alloc, text) {
+        Ok(book) => book,
+        Err(fail) => return Err(fail.map(NotReleased::Text)),
+    };
+    match check_book_by(rt, alloc, &book, budget, Ask::Blocking, workers) {
         Ok(checked) => by_check(book, checked),
         Err(fail) => Err(fail.map(NotReleased::Limit)),
     }

@@ -7,7 +7,7 @@ mod laws;
 mod not_released;
 mod releasing;
 
-pub use certifying::{CertifiedBook, certify_text};
+pub use certifying::{CertifiedBook, certify_text, certify_text_by};
 pub use checking::{NotChecked, ReportedBook, check_text, check_text_by};
 pub use laws::release_laws;
 pub use not_released::NotReleased;

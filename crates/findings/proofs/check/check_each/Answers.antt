@@ -19,8 +19,8 @@ loop-number-init c = record {
 pub put-requires : goal.put-requires
 put-requires c =
     let s : Slice = get_or c.args.slices.now c.loop-number.number (record { first = 0; last = 0 }) in
-    let own = c.in_ok-checked-2.checked in
-    codes_shown c.args.book.now s own.notes.items own.proof c.in_ok-checked-2.ensures.proof
+    let own = c.in_ok-checked.checked in
+    codes_shown c.args.book.now s own.notes.items own.proof c.in_ok-checked.ensures.checked.shown
 
 pub loop-number-preserved : goal.loop-number-preserved
 loop-number-preserved c =
@@ -33,19 +33,18 @@ loop-number-preserved c =
     let below : k < length slices = omega arith in
     let next : take (k + 1) slices ≡ take k slices ++ s ∷ [] = take_more slices k none below in
     let all = c.loop-number.all in
-    let own = c.in_ok-checked-2.checked in
+    let own = c.in_ok-checked.checked in
     let so_far = c.loop-number.invariant in
     let count : k ≡ length (take k slices) = sym (length-take-le k slices (omega arith)) in
     record {
       notes =
           subst (λ (ss : List Slice). InParts (SliceNotes i) ss c.put.new.self.notes.items) (sym next)
           (subst (InParts (SliceNotes i) (take k slices ++ s ∷ [])) (sym c.in_ok-put.ensures.notes)
-          (parts_more (SliceNotes i) (take k slices) s all.notes.items own.notes.items so_far.notes
-          (subst (SliceNotes i s) (sym c.in_ok-checked-2.ensures.notes) c.in_ok-checked.ensures.notes)));
-      stopped = c.in_ok-put.ensures.stopped ∙ stopped_more b s all.notes.items own.notes.items all.stopped own.proof so_far.stopped c.in_ok-checked-2.ensures.proof ∙ ap (list_any stops) (sym c.in_ok-put.ensures.notes);
+          (parts_more (SliceNotes i) (take k slices) s all.notes.items own.notes.items so_far.notes c.in_ok-checked.ensures.checked.notes));
+      stopped = c.in_ok-put.ensures.stopped ∙ stopped_more b s all.notes.items own.notes.items all.stopped own.proof so_far.stopped c.in_ok-checked.ensures.checked.shown ∙ ap (list_any stops) (sym c.in_ok-put.ensures.notes);
       shown = λ free.
           subst (λ (ss : List Slice). IsShownIn b ss (length slices) c.put.new.self.text) (sym next)
-          (c.in_ok-put.ensures.shown (take k slices) s (length slices) count c.in_ok-checked-2.ensures.proof so_far.shown free);
+          (c.in_ok-put.ensures.shown (take k slices) s (length slices) count c.in_ok-checked.ensures.checked.shown so_far.shown free);
       earlier = c.in_ok-checked.ensures.earlier;
     }
 
