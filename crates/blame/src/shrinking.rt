@@ -11,6 +11,7 @@ ghost use Rattle.blame.specs.Blame.{AreFew, IsNone, IsBlame, IsSettled};
 use crate::blamed::Blamed;
 use crate::entries::Entry;
 use crate::looking::look;
+use crate::rotating::rotate;
 use book_model::Book;
 use item_search::Outcome;
 use pb_base::{Day, Formula, Memory};
@@ -53,8 +54,37 @@ fn untried(alloc: Global, entries: Vec<Entry>) -> Result<Blamed, Memory>
     Ok(Blamed { entries, needed })
 }
 
-// Lets the entry at a place go, if no set meets the others together with the rule. If one does, the entry is needed.
+// Lets the entry at a place go, if no set meets the others together with the rule. If one does, the entry is needed. Nothing is
+// tried where that is known.
 fn try_without(
+    alloc: Global,
+    book: &Book,
+    day: Day,
+    rule: &Formula,
+    budget: u32,
+    blamed: &mut Blamed,
+    at: usize,
+) -> Result<(), Memory>
+    requires fit { All (EntryFits book.now day) blamed.old.entries.items }
+    requires few { AreFew blamed.old.entries.items }
+    requires rule { RuleFits (length book.now.codes) rule.now }
+    requires there { at < length blamed.old.entries.items }
+    requires blame { IsBlame book.now day rule.now blamed.old.entries.items blamed.old.needed.items }
+    requires some { 0 < budget }
+    requires most { budget ≤ MOST_BUDGET }
+    ensures blame { OnOk result (IsBlame book.now day rule.now blamed.new.entries.items blamed.new.needed.items) }
+    ensures among { OnOk result (Among blamed.old.entries.items blamed.new.entries.items) }
+    ensures in_range { OnOk result (at ≤ length blamed.new.entries.items) }
+{
+    if blamed.needed.get(at) == Some(&true) {
+        return Ok(());
+    }
+    search_without(alloc, book, day, rule, budget, blamed, at)?;
+    Ok(())
+}
+
+// The same by a search.
+fn search_without(
     alloc: Global,
     book: &Book,
     day: Day,
@@ -77,7 +107,29 @@ fn try_without(
     let others = without(alloc, &blamed.entries, at)?;
     let looked = look(alloc, book, day, rule, &others, budget)?;
     settle(blamed, at, &looked.outcome);
+    rotate_shown(alloc, book, day, rule, blamed, &looked.outcome)?;
     Ok(())
+}
+
+// Where a search showed a set, notes what else is needed by it.
+fn rotate_shown(
+    alloc: Global,
+    book: &Book,
+    day: Day,
+    rule: &Formula,
+    blamed: &mut Blamed,
+    outcome: &Outcome,
+) -> Result<(), Memory>
+    requires rule { RuleFits (length book.now.codes) rule.now }
+    requires blame { IsBlame book.now day rule.now blamed.old.entries.items blamed.old.needed.items }
+    ensures entries { blamed.new.entries.items ≡ blamed.old.entries.items }
+    ensures blame { IsBlame book.now day rule.now blamed.new.entries.items blamed.new.needed.items }
+{
+    match outcome {
+        Outcome::Shown(set) => rotate(alloc, book, day, rule, blamed, set),
+        Outcome::NotShown(_) => Ok(()),
+        Outcome::Left(_) => Ok(()),
+    }
 }
 
 // The entries but for that at a place.

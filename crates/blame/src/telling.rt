@@ -10,7 +10,9 @@ use crate::entries::{Entry, all_entries, marked};
 use crate::looking::{Looked, look};
 use crate::near::near_entries;
 use crate::shrinking::shrink;
+use crate::used::marks_by;
 use book_model::Book;
+use clause_pool::{Kernel, Ref};
 use item_search::Outcome;
 use pb_base::{Day, Formula, Memory};
 use std::alloc::Global;
@@ -36,15 +38,66 @@ pub fn find_or_blame(
 {
     let _codes = book.codes();
     let all = all_entries(alloc, book, day, chosen)?;
-    let near = blame_near(alloc, book, day, chosen, rule, budget, &all)?;
+    let near = near_among(alloc, book, day, chosen, rule, budget, &all)?;
     match near {
         Some(blamed) => Ok(Told::NoCar(blamed)),
         None => find_among_all(alloc, book, day, chosen, rule, budget, all),
     }
 }
 
+/// What is to blame of the codes and of the rules in which one of them stands, where these alone leave no set that meets the rule.
+/// Where they leave one, or a search was left, nothing is said.
+pub fn blame_near(
+    alloc: Global,
+    book: &Book,
+    day: Day,
+    chosen: &[u32],
+    rule: &Formula,
+    budget: u32,
+) -> Result<Option<Blamed>, Memory>
+    requires chosen { All (λ c. c < length book.now.codes) chosen.now }
+    requires few { length chosen.now ≤ MOST_CODES }
+    requires rule { RuleFits (length book.now.codes) rule.now }
+    requires some { 0 < budget }
+    requires most { budget ≤ MOST_BUDGET }
+    ensures { IfOk result (λ found. IfSome found (AreBlamed book.now day chosen.now rule.now)) }
+{
+    let _codes = book.codes();
+    let all = all_entries(alloc, book, day, chosen)?;
+    near_among(alloc, book, day, chosen, rule, budget, &all)
+}
+
+/// What is to blame by a hint: the clause at a place of a kernel over the active rules of the day, of which the clauses begin at these
+/// starts, supplementing rules first, each in record order. Of the rules on which the clause rests, and of the codes of which it has
+/// the literals, those that are to blame, where no set meets them all and the rule. Where one does, or a search was left, nothing is
+/// said.
+pub fn blame_by(
+    alloc: Global,
+    book: &Book,
+    day: Day,
+    chosen: &[u32],
+    rule: &Formula,
+    budget: u32,
+    kernel: &Kernel,
+    at: Ref,
+    starts: &[Ref],
+) -> Result<Option<Blamed>, Memory>
+    requires chosen { All (λ c. c < length book.now.codes) chosen.now }
+    requires few { length chosen.now ≤ MOST_CODES }
+    requires rule { RuleFits (length book.now.codes) rule.now }
+    requires some { 0 < budget }
+    requires most { budget ≤ MOST_BUDGET }
+    ensures { IfOk result (λ found. IfSome found (AreBlamed book.now day chosen.now rule.now)) }
+{
+    let _codes = book.codes();
+    let all = all_entries(alloc, book, day, chosen)?;
+    let marks = marks_by(alloc, kernel, at, starts, chosen)?;
+    let used = marked(alloc, &all, &marks)?;
+    blame_some(alloc, book, day, chosen, rule, budget, &all, used)
+}
+
 // What is to blame of the codes and of the rules that are near to them, if these alone leave no set that meets the rule.
-fn blame_near(
+fn near_among(
     alloc: Global,
     book: &Book,
     day: Day,
@@ -65,10 +118,33 @@ fn blame_near(
     if near.len() <= chosen.len() {
         return Ok(None);
     }
-    let looked = look(alloc, book, day, rule, &near, budget)?;
+    blame_some(alloc, book, day, chosen, rule, budget, all, near)
+}
+
+// What is to blame of some entries, if these alone leave no set that meets the rule.
+fn blame_some(
+    alloc: Global,
+    book: &Book,
+    day: Day,
+    chosen: &[u32],
+    rule: &Formula,
+    budget: u32,
+    all: &[Entry],
+    first: Vec<Entry>,
+) -> Result<Option<Blamed>, Memory>
+    requires all { all.now ≡ all_entries book.now day chosen.now }
+    requires fit { All (EntryFits book.now day) all.now }
+    requires few { AreFew all.now }
+    requires among { Among all.now first.items }
+    requires rule { RuleFits (length book.now.codes) rule.now }
+    requires some { 0 < budget }
+    requires most { budget ≤ MOST_BUDGET }
+    ensures { IfOk result (λ found. IfSome found (AreBlamed book.now day chosen.now rule.now)) }
+{
+    let looked = look(alloc, book, day, rule, &first, budget)?;
     match looked.outcome {
         Outcome::NotShown(_) => {
-            let blamed = blamed_of(alloc, book, day, rule, budget, near, &looked.marks)?;
+            let blamed = blamed_of(alloc, book, day, rule, budget, first, &looked.marks)?;
             Ok(Some(blamed))
         }
         Outcome::Shown(_) => Ok(None),
@@ -131,7 +207,7 @@ fn blamed_of(
 }
 
 // Of all entries those that a search used, if a second search, over them alone, finds that no set meets them together with the
-// rule; else all.
+// rule; else all. Where the search used them all there is nothing to look for.
 fn core_of(
     alloc: Global,
     book: &Book,
@@ -151,6 +227,9 @@ fn core_of(
     ensures none { IfOk result (λ m. IsNone book.now day rule.now m.items) }
 {
     let used = marked(alloc, &all, marks)?;
+    if used.len() == all.len() {
+        return Ok(all);
+    }
     let looked = look(alloc, book, day, rule, &used, budget)?;
     match looked.outcome {
         Outcome::NotShown(_) => Ok(used),

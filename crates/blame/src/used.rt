@@ -1,12 +1,12 @@
 //! Which given clauses a derived clause rests on. That is a hint: nothing is claimed of it.
 ghost use Rattle.std.specs.Prelude.{◌<◌, length};
 
-use clause_pool::{Kernel, Ref};
+use clause_pool::{Kernel, Lit, Ref};
 use pb_base::Memory;
 use std::alloc::Global;
 
 /// For each run of given clauses, of which these are the first ones, whether the clause at a place rests on one of them. A run ends
-/// where the next begins; the last has none.
+/// where the next begins, and the last where the given ones do.
 pub(crate) fn used_marks(
     alloc: Global,
     kernel: &Kernel,
@@ -18,11 +18,32 @@ pub(crate) fn used_marks(
     for place in 0..starts.len() {
         let end = match starts.get(place + 1) {
             Some(next) => *next,
-            None => 0,
+            None => kernel.given(),
         };
         marks.push(is_used_between(&used, starts[place], end))?;
     }
     Ok(marks)
+}
+
+/// The same, and behind it for each code whether the clause says that it is not there.
+pub(crate) fn marks_by(
+    alloc: Global,
+    kernel: &Kernel,
+    at: Ref,
+    starts: &[Ref],
+    codes: &[u32],
+) -> Result<Vec<bool>, Memory> {
+    let mut marks = used_marks(alloc, kernel, at, starts)?;
+    for code in codes {
+        marks.push(is_denied(kernel, at, *code))?;
+    }
+    Ok(marks)
+}
+
+fn is_denied(kernel: &Kernel, at: Ref, code: u32) -> bool {
+    let pool = kernel.pool();
+    let denied = Lit::new(code, false);
+    at < pool.len() && pool.lits(at).iter().any(|lit| *lit == denied)
 }
 
 // For each clause of the kernel, whether that at a place rests on it.

@@ -3,17 +3,17 @@ ghost use Rattle.std.specs.Prelude.{◌≡◌, ◌<◌, ◌≤◌, IfOk, false};
 ghost use Rattle.pb_base.specs.Rule.{always as true_rule};
 ghost use Rattle.pb_base.specs.declared.limits.TheConstants.{MOST_BUDGET};
 ghost use Rattle.blame.specs.Blame.{AreBlamed};
-ghost use Rattle.order_stays.specs.Stays.{IsCarWith, IsStay};
+ghost use Rattle.order_stays.specs.Stays.{IsCarWith, IsStay, IsStaying};
 ghost use Rattle.order_repair.specs.Ordered.{AreOrdered};
 ghost use Rattle.order_repair.specs.Repair.{IsRepair};
 
 use crate::answer::{Kept, Repair};
 use crate::changing::change_of;
 use crate::places::left_out;
-use blame::{Blamed, Told, find_or_blame};
+use blame::Blamed;
 use book_model::Book;
-use order_stays::{Stay, Staying, codes_that_stay};
-use pb_base::{CodeSet, Day, Formula, Memory};
+use order_stays::{Stay, Staying, Together, stay_or_blame};
+use pb_base::{CodeSet, Day, Memory};
 use std::alloc::Global;
 
 /// How an order of these codes would be accepted that isn't.
@@ -30,12 +30,13 @@ pub(crate) fn repair(
     ensures { IfOk result (IsRepair book.now day chosen.now budget false) }
 {
     let _codes = book.codes();
-    let always = Formula::yes(alloc)?;
-    let told = find_or_blame(alloc, book, day, chosen, &always, budget)?;
-    match told {
-        Told::Car(car) => keep_all(alloc, book, day, chosen, budget, car),
-        Told::NoCar(clash) => keep_some(alloc, book, day, chosen, budget, clash),
-        Told::Undecided(learnt) => Ok(Repair::Undecided(learnt)),
+    let together = stay_or_blame(alloc, book, day, chosen, budget)?;
+    match together {
+        Together::Car(car) => keep_all(alloc, book, day, chosen, budget, car),
+        Together::Apart(clash, staying) => keep_some(
+            alloc, book, day, chosen, budget, clash, staying,
+        ),
+        Together::Undecided(learnt) => Ok(Repair::Undecided(learnt)),
     }
 }
 
@@ -63,7 +64,7 @@ fn keep_all(
     }))
 }
 
-// No car has all the codes, and these are to blame.
+// No car has all the codes, these are to blame, and so many of them stay.
 fn keep_some(
     alloc: Global,
     book: &Book,
@@ -71,15 +72,14 @@ fn keep_some(
     chosen: &[u32],
     budget: u32,
     clash: Blamed,
+    staying: Staying,
 ) -> Result<Repair, Memory>
-    requires some { 0 < budget }
-    requires most { budget ≤ MOST_BUDGET }
     requires ordered { AreOrdered book.now day chosen.now }
     requires clash { AreBlamed book.now day chosen.now true_rule clash }
+    requires staying { IsStaying book.now day chosen.now budget staying }
     ensures { IfOk result (IsRepair book.now day chosen.now budget false) }
 {
-    let _codes = book.codes();
-    match codes_that_stay(alloc, book, day, chosen, budget)? {
+    match staying {
         Staying::Codes(stay) => keep_these(alloc, book, day, chosen, budget, clash, stay),
         Staying::NoCar => Ok(Repair::NoOrder(clash)),
         Staying::Undecided(learnt) => Ok(Repair::Undecided(learnt)),

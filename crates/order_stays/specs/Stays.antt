@@ -4,6 +4,7 @@
 --     IsGreedy b day before chosen kept    from the left a code stays just where some car has it and all that stay so far, `before` first
 --     IsStay b day chosen s        the codes that stay so, with a car that has them; none of the others can be put to them
 --     IsStaying b day chosen budget answer    what is told
+--     IsTogether b day chosen budget together    what is told of whether the codes stay together
 --     IsFoundWith b day kept budget found    what comes of a search for a car that has the codes
 --     codes_literals kept            the literals that the codes are there
 use Rattle.std.specs.Prelude.{◌≡◌, ◌⊎◌, ℕ, ◌==◌, Bool, true, false, List, [], ◌∷◌, ◌++◌, map, Option, Some, None}
@@ -14,13 +15,15 @@ use Rattle.book_model.specs.Contents.{Contents}
 use Rattle.book_model.specs.Good.{is_good}
 use Rattle.clause_pool.specs.Literal.{literal}
 use Rattle.clause_pool.specs.PoolContents.{PoolContents}
-use Rattle.blame.specs.Blame.{IsGivenUp}
+use Rattle.blame.specs.Blame.{AreBlamed, IsGivenUp}
 use Rattle.blame.specs.Entries.{all_entries, Among}
 use Rattle.order_stays.specs.declared.finding.Found.{Found}
 use Rattle.order_stays.specs.declared.finding.Found.TheVariants as found
 use Rattle.order_stays.specs.declared.stay.Stay.{Stay}
 use Rattle.order_stays.specs.declared.stay.Staying.{Staying}
 use Rattle.order_stays.specs.declared.stay.Staying.TheVariants.{Codes, NoCar, Undecided}
+use Rattle.order_stays.specs.declared.stay.Together.{Together}
+use Rattle.order_stays.specs.declared.stay.Together.TheVariants as together
 
 pub record IsCarWith (b : Contents) (day : ℕ) (kept : List ℕ) (x : List Bool) : Type 0 where
   pub good : is_good b day x ≡ true
@@ -53,6 +56,12 @@ abbrev pub IsStaying : Contents → ℕ → List ℕ → ℕ → Staying → Typ
 IsStaying b day chosen budget (Codes s) = IsStay b day chosen s
 IsStaying b day chosen budget NoCar = (x : List Bool) → is_good b day x ≡ false
 IsStaying b day chosen budget (Undecided learnt) = IsLeftWith b day budget learnt.clauses
+
+-- a car with all the codes; or none has them, by what is to blame, and these stay; or a search was left
+abbrev pub IsTogether : Contents → ℕ → List ℕ → ℕ → Together → Type 0
+IsTogether b day chosen budget (together.Car x) = IsCarWith b day chosen x
+IsTogether b day chosen budget (together.Apart clash staying) = AreBlamed b day chosen always clash × IsStaying b day chosen budget staying
+IsTogether b day chosen budget (together.Undecided learnt) = IsLeftWith b day budget learnt.clauses
 
 -- one more code: it stays, with a car that has it, or none beside those that stay has it, or the search was left
 pub record IsOneMore (b : Contents) (day : ℕ) (code : ℕ) (old new : Stay) : Type 0 where

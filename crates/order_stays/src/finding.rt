@@ -12,7 +12,7 @@ ghost use Rattle.order_stays.specs.Stays.{IsFoundWith, codes_literals};
 use blame::{Told, find_or_blame};
 use book_model::Book;
 use clause_pool::{Lit, Pool};
-use clausify::{Encoder, add_rules};
+use clausify::{Encoder, Start, add_rules};
 use item_search::{Outcome, search, solver_over};
 use pb_base::{CodeSet, Day, Formula, Memory};
 use solver::Solver;
@@ -37,13 +37,14 @@ pub(crate) fn solver_for(
 ) -> Result<Solver, Memory>
     ensures { IfOk result (IsOver (length book.now.codes) (rule_items book.now day)) }
 {
-    let mut solver = solver_of(alloc, book, day)?;
+    let mut starts = Vec::new(alloc);
+    let mut solver = solver_of(alloc, book, day, &mut starts)?;
     hint_codes(alloc, &mut solver, chosen)?;
     Ok(solver)
 }
 
-// Hints that the next search should show these codes, the first ones first.
-fn hint_codes(alloc: Global, solver: &mut Solver, chosen: &[u32]) -> Result<(), Memory>
+/// Hints that the next search should show these codes, the first ones first.
+pub(crate) fn hint_codes(alloc: Global, solver: &mut Solver, chosen: &[u32]) -> Result<(), Memory>
     ensures { solver.new ≡ solver.old }
 {
     let mut hints = Vec::new(alloc);
@@ -55,13 +56,17 @@ fn hint_codes(alloc: Global, solver: &mut Solver, chosen: &[u32]) -> Result<(), 
     Ok(())
 }
 
-// A solver over the rules of a day.
-fn solver_of(alloc: Global, book: &Book, day: Day) -> Result<Solver, Memory>
+/// A solver over the rules of a day. Where the clauses of each begin comes behind the other starts.
+pub(crate) fn solver_of(
+    alloc: Global,
+    book: &Book,
+    day: Day,
+    starts: &mut Vec<Start>,
+) -> Result<Solver, Memory>
     ensures { IfOk result (IsOver (length book.now.codes) (rule_items book.now day)) }
 {
     let mut encoder = Encoder::new(alloc, book.codes().len())?;
-    let mut starts = Vec::new(alloc);
-    add_rules(&mut encoder, &mut starts, book, day)?;
+    add_rules(&mut encoder, starts, book, day)?;
     solver_over(alloc, encoder)
 }
 
@@ -90,8 +95,8 @@ pub(crate) fn find_with(
     }
 }
 
-// The same by the solver alone.
-fn search_with(
+/// The same by the solver alone.
+pub(crate) fn search_with(
     alloc: Global,
     book: &Book,
     day: Day,

@@ -4,6 +4,8 @@
 mod finding;
 mod stay;
 mod staying;
+mod together;
 
-pub use stay::{Stay, Staying};
+pub use stay::{Stay, Staying, Together};
 pub use staying::codes_that_stay;
+pub use together::stay_or_blame;

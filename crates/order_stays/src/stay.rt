@@ -1,5 +1,6 @@
 //! What is told of the codes of an order.
 
+use blame::Blamed;
 use clause_pool::Pool;
 use pb_base::CodeSet;
 
@@ -19,6 +20,17 @@ pub enum Staying {
     Codes(Stay),
     /// There is no car on the day at all.
     NoCar,
+    /// A search was left when these clauses had been learnt, as many as the budget allows.
+    Undecided(Pool),
+}
+
+/// Whether codes stay together.
+#[derive(Drop)]
+pub enum Together {
+    /// This car of the day has them all.
+    Car(CodeSet),
+    /// No car has. These are to blame, and so many of the codes stay.
+    Apart(Blamed, Staying),
     /// A search was left when these clauses had been learnt, as many as the budget allows.
     Undecided(Pool),
 }

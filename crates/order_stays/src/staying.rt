@@ -32,9 +32,28 @@ pub fn codes_that_stay(
     ensures { IfOk result (IsStaying book.now day chosen.now budget) }
 {
     let mut solver = solver_for(alloc, book, day, chosen)?;
-    let found = find_with(alloc, book, day, &mut solver, &[], budget)?;
+    staying_with(alloc, book, day, chosen, budget, &mut solver)
+}
+
+/// The same by a solver over the rules of the day.
+pub(crate) fn staying_with(
+    alloc: Global,
+    book: &Book,
+    day: Day,
+    chosen: &[u32],
+    budget: u32,
+    solver: &mut Solver,
+) -> Result<Staying, Memory>
+    requires chosen { All (λ c. c < length book.now.codes) chosen.now }
+    requires few { length chosen.now ≤ MOST_CODES }
+    requires over { IsOver (length book.now.codes) (rule_items book.now day) solver.old }
+    requires some { 0 < budget }
+    requires most { budget ≤ MOST_BUDGET }
+    ensures { IfOk result (IsStaying book.now day chosen.now budget) }
+{
+    let found = find_with(alloc, book, day, solver, &[], budget)?;
     match found {
-        Found::Car(car) => stay_from(alloc, book, day, chosen, budget, &mut solver, car),
+        Found::Car(car) => stay_from(alloc, book, day, chosen, budget, solver, car),
         Found::NoCar => Ok(Staying::NoCar),
         Found::Undecided(learnt) => Ok(Staying::Undecided(learnt)),
     }

@@ -1,29 +1,11 @@
-use Rattle.std.proofs.Common.{refl, subst}
-use Rattle.blame.specs.Blame.{IsNone}
-use Rattle.blame.proofs.ShrinkLaws.{blamed_by, fit_among, few_among, moved_among}
+use Rattle.std.proofs.Common.{◌∙◌}
+use Rattle.blame.proofs.EntryLaws.{all_fit, all_few}
 use Rattle.blame.proofs.telling.blame_near.Goals as goal
 
-pub look-requires-clause-fit : goal.look-requires-clause-fit
-look-requires-clause-fit c =
-    fit_among c.args.book.now c.args.day c.args.all.now c.deref.result.now c.requires.fit
-    (moved_among c.args.all.now c.args.all.now c.in_ok-near.near.items c.deref.result.now refl c.deref.ensures.value c.in_ok-near.ensures)
+pub near_among-requires-clause-fit : goal.near_among-requires-clause-fit
+near_among-requires-clause-fit c =
+    all_fit c.args.book.now c.args.day c.args.chosen.now c.deref.result.now c.requires.chosen (c.deref.ensures.value ∙ c.in_ok-all.ensures)
 
-pub look-requires-clause-few : goal.look-requires-clause-few
-look-requires-clause-few c =
-    few_among c.args.all.now c.deref.result.now c.requires.few
-    (moved_among c.args.all.now c.args.all.now c.in_ok-near.near.items c.deref.result.now refl c.deref.ensures.value c.in_ok-near.ensures)
-
-pub blamed_of-requires-clause-fit : goal.blamed_of-requires-clause-fit
-blamed_of-requires-clause-fit c = fit_among c.args.book.now c.args.day c.args.all.now c.in_ok-near.near.items c.requires.fit c.in_ok-near.ensures
-
-pub blamed_of-requires-clause-few : goal.blamed_of-requires-clause-few
-blamed_of-requires-clause-few c = few_among c.args.all.now c.in_ok-near.near.items c.requires.few c.in_ok-near.ensures
-
-pub blamed_of-requires-clause-none : goal.blamed_of-requires-clause-none
-blamed_of-requires-clause-none c =
-    subst (IsNone c.args.book.now c.args.day c.args.rule.now) c.deref.ensures.value (rw c.in-NotShown.is at c.in_ok-looked.ensures)
-
-pub returns-in_ok-blamed-in-NotShown : goal.returns-in_ok-blamed-in-NotShown
-returns-in_ok-blamed-in-NotShown c =
-    blamed_by c.args.book.now c.args.day c.args.rule.now c.args.chosen.now c.args.all.now c.in_ok-near.near.items c.in_ok-blamed-in-NotShown.blamed
-    c.requires.all c.in_ok-near.ensures c.in_ok-blamed-in-NotShown.ensures.among c.in_ok-blamed-in-NotShown.ensures.blame
+pub near_among-requires-clause-few : goal.near_among-requires-clause-few
+near_among-requires-clause-few c =
+    all_few c.args.book.now c.args.day c.codes-codes.ensures.book c.args.chosen.now c.deref.result.now c.requires.few (c.deref.ensures.value ∙ c.in_ok-all.ensures)

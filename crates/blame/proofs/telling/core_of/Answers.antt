@@ -27,3 +27,6 @@ returns-in-Shown-clause-among c = among_self c.args.all.items
 
 pub returns-in-Left-clause-among : goal.returns-in-Left-clause-among
 returns-in-Left-clause-among c = among_self c.args.all.items
+
+pub returns-then-len-clause-among : goal.returns-then-len-clause-among
+returns-then-len-clause-among c = among_self c.args.all.items

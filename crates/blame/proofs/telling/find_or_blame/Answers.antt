@@ -2,12 +2,12 @@ use Rattle.std.proofs.Common.{◌∙◌}
 use Rattle.blame.proofs.EntryLaws.{all_fit, all_few}
 use Rattle.blame.proofs.telling.find_or_blame.Goals as goal
 
-pub blame_near-requires-clause-fit : goal.blame_near-requires-clause-fit
-blame_near-requires-clause-fit c =
+pub near_among-requires-clause-fit : goal.near_among-requires-clause-fit
+near_among-requires-clause-fit c =
     all_fit c.args.book.now c.args.day c.args.chosen.now c.deref.result.now c.requires.chosen (c.deref.ensures.value ∙ c.in_ok-all.ensures)
 
-pub blame_near-requires-clause-few : goal.blame_near-requires-clause-few
-blame_near-requires-clause-few c =
+pub near_among-requires-clause-few : goal.near_among-requires-clause-few
+near_among-requires-clause-few c =
     all_few c.args.book.now c.args.day c.codes-codes.ensures.book c.args.chosen.now c.deref.result.now c.requires.few (c.deref.ensures.value ∙ c.in_ok-all.ensures)
 
 pub find_among_all-requires-clause-fit : goal.find_among_all-requires-clause-fit
