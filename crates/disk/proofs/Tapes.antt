@@ -5,39 +5,36 @@ use Rattle.std.proofs.lemmas.List.{take_all, take-append-le, drop-append-le, nil
 use Rattle.disk.specs.declared.memory_disk.Call.{Call}
 use Rattle.disk.specs.declared.memory_disk.Call.TheVariants as call
 use Rattle.disk.specs.Disk.{Elapses}
-use Rattle.disk.specs.Tape.{Done, Wrote, TriedWrite, Cut, TriedCut, Synced, content_after, leaves_after, content_of, leaves_of, BeginsWithin, AreWithin, left_now, LeftSince}
+use Rattle.disk.specs.Tape.{Done, Wrote, TriedWrite, Cut, TriedCut, Synced, TriedSync, content_after, leaves_after, synced_after, content_of, leaves_of, synced_of, BeginsWithin, AreWithin, left_now, LeftSince}
 use Rattle.disk.specs.Calls.{dones, total}
-use Rattle.disk.proofs.Torn.{untouched, whole}
 
 pub content_more : (file : List ℕ) (calls : List Done) (c : Done) → content_of file (calls ++ c ∷ []) ≡ content_after (content_of file calls) c
 content_more file [] c = refl
 content_more file (d ∷ calls) c = content_more (content_after file d) calls c
 
-pub leaves_to : (file : List ℕ) (leaves : List ℕ → Type 0) (calls : List Done) (c : Done) (image : List ℕ) → leaves_of file leaves (calls ++ c ∷ []) image
-    → leaves_after (content_of file calls) (leaves_of file leaves calls) c image
-leaves_to file leaves [] c image left = left
-leaves_to file leaves (d ∷ calls) c image left = leaves_to (content_after file d) (leaves_after file leaves d) calls c image left
+pub leaves_to : (leaves synced : List ℕ → Type 0) (calls : List Done) (c : Done) (image : List ℕ) → leaves_of leaves synced (calls ++ c ∷ []) image
+    → leaves_after (leaves_of leaves synced calls) (synced_of leaves synced calls) c image
+leaves_to leaves synced [] c image left = left
+leaves_to leaves synced (d ∷ calls) c image left = leaves_to (leaves_after leaves synced d) (synced_after leaves synced d) calls c image left
 
-pub leaves_from : (file : List ℕ) (leaves : List ℕ → Type 0) (calls : List Done) (c : Done) (image : List ℕ) → leaves_after (content_of file calls) (leaves_of file leaves calls) c image
-    → leaves_of file leaves (calls ++ c ∷ []) image
-leaves_from file leaves [] c image left = left
-leaves_from file leaves (d ∷ calls) c image left = leaves_from (content_after file d) (leaves_after file leaves d) calls c image left
+pub leaves_from : (leaves synced : List ℕ → Type 0) (calls : List Done) (c : Done) (image : List ℕ) → leaves_after (leaves_of leaves synced calls) (synced_of leaves synced calls) c image
+    → leaves_of leaves synced (calls ++ c ∷ []) image
+leaves_from leaves synced [] c image left = left
+leaves_from leaves synced (d ∷ calls) c image left = leaves_from (leaves_after leaves synced d) (synced_after leaves synced d) calls c image left
+
+pub synced_to : (leaves synced : List ℕ → Type 0) (calls : List Done) (c : Done) (image : List ℕ) → synced_of leaves synced (calls ++ c ∷ []) image
+    → synced_after (leaves_of leaves synced calls) (synced_of leaves synced calls) c image
+synced_to leaves synced [] c image left = left
+synced_to leaves synced (d ∷ calls) c image left = synced_to (leaves_after leaves synced d) (synced_after leaves synced d) calls c image left
+
+pub synced_from : (leaves synced : List ℕ → Type 0) (calls : List Done) (c : Done) (image : List ℕ) → synced_after (leaves_of leaves synced calls) (synced_of leaves synced calls) c image
+    → synced_of leaves synced (calls ++ c ∷ []) image
+synced_from leaves synced [] c image left = left
+synced_from leaves synced (d ∷ calls) c image left = synced_from (leaves_after leaves synced d) (synced_after leaves synced d) calls c image left
 
 pub within_more : (file : List ℕ) (calls : List Done) (c : Done) → AreWithin file calls → BeginsWithin (content_of file calls) c → AreWithin file (calls ++ c ∷ [])
 within_more file [] c within one = (one, tt)
 within_more file (d ∷ calls) c within one = (within.0, within_more (content_after file d) calls c within.1 one)
-
-possible_after : (file : List ℕ) (leaves : List ℕ → Type 0) (c : Done) → BeginsWithin file c → leaves file → leaves_after file leaves c (content_after file c)
-possible_after file leaves (Wrote at bytes) within here = (file, here, whole at bytes file within)
-possible_after file leaves (TriedWrite at count) within here = (file, here, untouched at count file)
-possible_after file leaves (Cut len) within here = (file, here, inr refl)
-possible_after file leaves (TriedCut len) within here = (file, here, inl refl)
-possible_after file leaves Synced within here = refl
-
--- a stop may leave the file as it is
-pub possible : (file : List ℕ) (leaves : List ℕ → Type 0) (calls : List Done) → AreWithin file calls → leaves file → leaves_of file leaves calls (content_of file calls)
-possible file leaves [] within here = here
-possible file leaves (c ∷ calls) within here = possible (content_after file c) (leaves_after file leaves c) calls within.1 (possible_after file leaves c within.0 here)
 
 -- ---- time
 
@@ -90,6 +87,7 @@ dones_write (call.TriedWrite a l ∷ calls) written bytes at n fits long = ap (�
 dones_write (call.Cut l ∷ calls) written bytes at n fits long = ap (λ ds. Cut l ∷ ds) (dones_write calls written bytes at n fits long)
 dones_write (call.TriedCut l ∷ calls) written bytes at n fits long = ap (λ ds. TriedCut l ∷ ds) (dones_write calls written bytes at n fits long)
 dones_write (call.Synced ∷ calls) written bytes at n fits long = ap (λ ds. Synced ∷ ds) (dones_write calls written bytes at n fits long)
+dones_write (call.TriedSync ∷ calls) written bytes at n fits long = ap (λ ds. TriedSync ∷ ds) (dones_write calls written bytes at n fits long)
 
 pub dones_other : (calls : List Call) (written : List ℕ) (c : Call) (d : Done) → ((bytes : List ℕ) → dones (c ∷ []) bytes ≡ d ∷ []) → dones (calls ++ c ∷ []) written ≡ dones calls written ++ d ∷ []
 dones_other [] written c d one = one written
@@ -98,6 +96,7 @@ dones_other (call.TriedWrite a l ∷ calls) written c d one = ap (λ ds. TriedWr
 dones_other (call.Cut l ∷ calls) written c d one = ap (λ ds. Cut l ∷ ds) (dones_other calls written c d one)
 dones_other (call.TriedCut l ∷ calls) written c d one = ap (λ ds. TriedCut l ∷ ds) (dones_other calls written c d one)
 dones_other (call.Synced ∷ calls) written c d one = ap (λ ds. Synced ∷ ds) (dones_other calls written c d one)
+dones_other (call.TriedSync ∷ calls) written c d one = ap (λ ds. TriedSync ∷ ds) (dones_other calls written c d one)
 
 pub total_more : (calls : List Call) (c : Call) → total (calls ++ c ∷ []) ≡ total calls + total (c ∷ [])
 total_more [] c = omega arith
@@ -106,3 +105,4 @@ total_more (call.TriedWrite a l ∷ calls) c = total_more calls c
 total_more (call.Cut l ∷ calls) c = total_more calls c
 total_more (call.TriedCut l ∷ calls) c = total_more calls c
 total_more (call.Synced ∷ calls) c = total_more calls c
+total_more (call.TriedSync ∷ calls) c = total_more calls c

@@ -1,11 +1,8 @@
 -- How a disk in memory keeps its calls: the bytes of all writes stand one behind the other.
-use Rattle.std.specs.Prelude.{◌≡◌, ℕ, ◌+◌, ◌≤◌, List, [], ◌∷◌, take, drop, Result, Ok, Err}
-use Rattle.pb_outside.specs.Faults.{Rose}
-use Rattle.pb_outside.specs.declared.error.OutError.{OutError}
-use Rattle.pb_outside.specs.declared.error.OutError.TheVariants.{Failed, Memory}
+use Rattle.std.specs.Prelude.{ℕ, ◌+◌, List, [], ◌∷◌, take, drop}
 use Rattle.disk.specs.declared.memory_disk.Call.{Call}
 use Rattle.disk.specs.declared.memory_disk.Call.TheVariants as call
-use Rattle.disk.specs.Tape.{Done, Wrote, TriedWrite, Cut, TriedCut, Synced}
+use Rattle.disk.specs.Tape.{Done, Wrote, TriedWrite, Cut, TriedCut, Synced, TriedSync}
 
 abbrev pub dones : List Call → List ℕ → List Done
 dones [] bytes = []
@@ -14,6 +11,7 @@ dones (call.TriedWrite at len ∷ calls) bytes = TriedWrite at len ∷ dones cal
 dones (call.Cut len ∷ calls) bytes = Cut len ∷ dones calls bytes
 dones (call.TriedCut len ∷ calls) bytes = TriedCut len ∷ dones calls bytes
 dones (call.Synced ∷ calls) bytes = Synced ∷ dones calls bytes
+dones (call.TriedSync ∷ calls) bytes = TriedSync ∷ dones calls bytes
 
 -- how many bytes the writes take
 abbrev pub total : List Call → ℕ
@@ -23,9 +21,4 @@ total (call.TriedWrite at len ∷ calls) = total calls
 total (call.Cut len ∷ calls) = total calls
 total (call.TriedCut len ∷ calls) = total calls
 total (call.Synced ∷ calls) = total calls
-
--- a call that goes counts nothing, and one that fails counts a fault
-abbrev pub IsAnswered : {T : Type 0} → Result T OutError → ℕ → ℕ → Type 0
-IsAnswered (Ok answer) before after = after ≡ before
-IsAnswered (Err Failed) before after = Rose before after × (before ≤ after)
-IsAnswered (Err Memory) before after = ⊥
+total (call.TriedSync ∷ calls) = total calls

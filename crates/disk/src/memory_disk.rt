@@ -1,10 +1,10 @@
 //! A disk in memory.
-ghost use Rattle.std.specs.Prelude.{◌≡◌, ◌≢◌, ◌≤◌, ◌+◌, ◌⊎◌, ◌↔◌, true, false, List, ℕ, Some, Err, [], ◌∷◌, ◌++◌, length, take, replicate, IfOk, OnOk, OnErr};
+ghost use Rattle.std.specs.Prelude.{◌≡◌, ◌≢◌, ◌<◌, ◌≤◌, ◌+◌, ◌↔◌, true, false, List, ℕ, Some, Err, [], ◌∷◌, ◌++◌, length, take, replicate, vec_len, vec_capacity, IfOk, OnOk, OnErr};
 ghost use Rattle.std.specs.Option.{option_map};
-ghost use Rattle.pb_outside.specs.Faults.{Rose};
+ghost use Rattle.pb_outside.specs.Faults.{Rose, raised};
 ghost use Rattle.disk.specs.Disk.{overwritten, Torn, Overwrites, IsCut, IsCutOrNot, WhereTold, Becomes, Follows, Elapses, CountsFaults};
-ghost use Rattle.disk.specs.Calls.{dones, total, IsAnswered};
-ghost use Rattle.disk.specs.Tape.{Wrote, TriedWrite, Cut, TriedCut, Synced, content_of, AreWithin, left_now, left_synced, LeftSince, is_stopped, is_due, has_room};
+ghost use Rattle.disk.specs.Calls.{dones, total};
+ghost use Rattle.disk.specs.Tape.{Wrote, TriedWrite, Cut, TriedCut, Synced, TriedSync, content_of, AreWithin, left_now, left_synced, LeftSince, is_stopped, is_due, has_room, GoesOn};
 
 use crate::Disk;
 use pb_base::Memory;
@@ -21,10 +21,12 @@ enum Call {
     Cut(u64),
     TriedCut(u64),
     Synced,
+    TriedSync,
 }
 
 /// A file in memory, with chosen calls that fail, and one in which the disk stops. It tells all. A call that fails
-/// changes no byte of the file, but a stop may then leave it done in part.
+/// changes no byte of the file, but a stop may then leave it done in part. What was written before a sync that failed may be
+/// lost, though a read still gives it.
 #[derive(Drop)]
 pub struct MemoryDisk {
     first: Vec<u8>,
@@ -41,7 +43,6 @@ pub struct MemoryDisk {
 }
 
 impl Model for MemoryDisk {
-    ghost use Rattle.disk.specs.Calls.{dones, total, IsAnswered};
     ghost use Rattle.disk.specs.Tape.{Tape};
 
     ghost Value = { Tape };
@@ -80,11 +81,15 @@ fn has_room(calls_left: u64, room_left: u64, bytes: u64) -> bool
     calls_left > 0 && bytes <= room_left
 }
 
-// Begins the next call. It is recorded where there is room for one more, and it goes only where there is room for all of
-// it.
-fn fate_of(plan: &mut FaultPlan, stop: Option<u64>, is_recorded: bool, has_room: bool) -> Fate
+// Begins the next call. Where there is a place to record it, it may be done in part, and it goes only where there is room
+// for all of it.
+fn fate_of(plan: &mut FaultPlan, stop: Option<u64>, has_place: bool, has_room: bool) -> Fate
     ensures due { is_due plan.old stop has_room ≡ true → result ≢ Fate.Goes }
     ensures not_due { is_due plan.old stop has_room ≡ false → result ≡ Fate.Goes }
+    ensures room { result ≡ Fate.Goes → has_room ≡ true }
+    ensures place { result ≡ Fate.Fails → has_place ≡ true }
+    ensures same_fails { plan.new.fails ≡ plan.old.fails }
+    ensures next_call { plan.new.next_call ≡ raised plan.old.next_call }
     ensures later { plan.old.faults ≤ plan.new.faults }
     ensures goes { result ≡ Fate.Goes → plan.new.faults ≡ plan.old.faults }
     ensures fails { result ≢ Fate.Goes → Rose plan.old.faults plan.new.faults }
@@ -93,11 +98,11 @@ fn fate_of(plan: &mut FaultPlan, stop: Option<u64>, is_recorded: bool, has_room:
     let stops = is_stopped(stop, number);
     let has_stopped = number > 0 && is_stopped(stop, number - 1);
     if plan.begin_call() {
-        return unmade(is_recorded && !has_stopped);
+        return unmade(has_place && !has_stopped);
     }
     if stops {
         plan.count_fault();
-        return unmade(is_recorded && !has_stopped);
+        return unmade(has_place && !has_stopped);
     }
     if !has_room {
         plan.count_fault();
@@ -108,7 +113,8 @@ fn fate_of(plan: &mut FaultPlan, stop: Option<u64>, is_recorded: bool, has_room:
 
 // A call that doesn't go.
 fn unmade(is_recorded: bool) -> Fate
-    ensures { result ≢ Fate.Goes }
+    ensures not { result ≢ Fate.Goes }
+    ensures recorded { result ≡ Fate.Fails → is_recorded ≡ true }
 {
     if is_recorded {
         Fate::Fails
@@ -117,11 +123,14 @@ fn unmade(is_recorded: bool) -> Fate
     }
 }
 
-// Puts together in `spare` what a write makes of a file.
+// Puts together in `spare` what a write makes of a file. It fails only where `spare` must grow.
 #[tactic(auto, using(std::proofs::lemmas::List::drop_all))]
 fn overwrite(spare: &mut Vec<u8>, file: &[u8], at: usize, bytes: &[u8]) -> Result<(), AllocError>
     requires { at ≤ length file.now }
-    ensures { OnOk result (spare.new.items ≡ overwritten at bytes.now file.now) }
+    ensures done { OnOk result (spare.new.items ≡ overwritten at bytes.now file.now) }
+    ensures len { OnOk result (vec_len spare.new ≤ length file.now + length bytes.now) }
+    ensures capacity { vec_capacity spare.old ≤ vec_capacity spare.new }
+    ensures full { OnErr result (vec_capacity spare.old < length file.now + length bytes.now) }
 {
     spare.clear();
     spare.extend_from_slice(&file[..at])?;
@@ -134,14 +143,14 @@ fn overwrite(spare: &mut Vec<u8>, file: &[u8], at: usize, bytes: &[u8]) -> Resul
 }
 
 // What a stop may leave, of the file at first and the calls: each byte that was written since the last sync reads as 1, and
-// no cut was made.
+// no cut was made. `kept` is what a sync makes last: behind one that failed, what a stop might have left then.
 fn image_of(first: &Vec<u8>, calls: &[Call], written: &[u8]) -> Result<Vec<u8>, Memory>
     requires within { AreWithin first.now.items (dones calls.now written.now) }
     requires bytes { total calls.now ≡ length written.now }
     ensures { IfOk result (λ image. left_now first.now.items (dones calls.now written.now) image.items) }
 {
     let alloc = *first.allocator();
-    let mut content = Vec::from_slice(alloc, first)?;
+    let mut kept = Vec::from_slice(alloc, first)?;
     let mut image = Vec::from_slice(alloc, first)?;
     let mut bytes = written;
     for call in calls {
@@ -149,17 +158,18 @@ fn image_of(first: &Vec<u8>, calls: &[Call], written: &[u8]) -> Result<Vec<u8>, 
             Call::Wrote { at, len } => {
                 let (now, later) = bytes.split_at(len as usize);
                 let mut next = Vec::new(alloc);
-                overwrite(&mut next, &content, at as usize, now)?;
-                content = next;
+                overwrite(&mut next, &kept, at as usize, now)?;
+                kept = next;
                 image = with_ones(alloc, &image, at as usize, len as usize)?;
                 bytes = later;
             }
             Call::TriedWrite { at, len } => {
                 image = with_ones(alloc, &image, at as usize, len as usize)?;
             }
-            Call::Cut(len) => content.truncate(len as usize),
+            Call::Cut(len) => kept.truncate(len as usize),
             Call::TriedCut(_) => {}
-            Call::Synced => image = Vec::from_slice(alloc, &content)?,
+            Call::Synced => image = Vec::from_slice(alloc, &kept)?,
+            Call::TriedSync => kept = Vec::from_slice(alloc, &image)?,
         }
     }
     Ok(image)
@@ -177,57 +187,40 @@ fn with_ones(alloc: Global, file: &[u8], at: usize, len: usize) -> Result<Vec<u8
 }
 
 // Records a write that was made.
-fn record_write(
-    calls: &mut Vec<Call>,
-    written: &mut Vec<u8>,
-    at: u64,
-    bytes: &[u8],
-) -> Result<(), AllocError>
-    requires { total calls.old.items ≡ length written.old.items }
-    ensures done { OnOk result (dones calls.new.items written.new.items
-        ≡ dones calls.old.items written.old.items ++ Wrote at bytes.now ∷ []) }
+fn record_write(calls: &mut Vec<Call>, written: &mut Vec<u8>, at: u64, bytes: &[u8])
+    requires fits { total calls.old.items ≡ length written.old.items }
+    requires place { vec_len calls.old < vec_capacity calls.old }
+    requires room { vec_len written.old + length bytes.now ≤ vec_capacity written.old }
+    ensures done { dones calls.new.items written.new.items
+        ≡ dones calls.old.items written.old.items ++ Wrote at bytes.now ∷ [] }
     ensures total { total calls.new.items ≡ length written.new.items }
-    ensures same_calls { OnErr result (calls.new.items ≡ calls.old.items) }
-    ensures same_bytes { OnErr result (written.new.items ≡ written.old.items) }
+    ensures calls_len { vec_len calls.new ≡ vec_len calls.old + 1 }
+    ensures calls_capacity { vec_capacity calls.old ≤ vec_capacity calls.new }
+    ensures written_len { vec_len written.new ≡ vec_len written.old + length bytes.now }
+    ensures written_capacity { vec_capacity written.old ≤ vec_capacity written.new }
 {
-    let before = written.len();
-    written.extend_from_slice(bytes)?;
-    let call = Call::Wrote {
+    if written.extend_from_slice(bytes).is_err() {
+        unreachable!();
+    }
+    calls.push_reserved(Call::Wrote {
         at,
         len: bytes.len() as u64,
-    };
-    match calls.push(call) {
-        Ok(()) => Ok(()),
-        Err(failed) => {
-            written.truncate(before);
-            Err(AllocError::from(failed))
-        }
-    }
+    });
 }
 
-// Writes, and records it.
-fn make_write(
-    content: &mut Vec<u8>,
-    spare: &mut Vec<u8>,
-    calls: &mut Vec<Call>,
-    written: &mut Vec<u8>,
-    at: u64,
-    bytes: &[u8],
-) -> Result<(), AllocError>
-    requires fits { total calls.old.items ≡ length written.old.items }
+// Writes into the content. There is memory for what it may become.
+fn write_into(content: &mut Vec<u8>, spare: &mut Vec<u8>, at: u64, bytes: &[u8])
     requires within { at ≤ length content.old.items }
-    ensures content { OnOk result (content.new.items ≡ overwritten at bytes.now content.old.items) }
-    ensures calls { OnOk result (dones calls.new.items written.new.items
-        ≡ dones calls.old.items written.old.items ++ Wrote at bytes.now ∷ []) }
-    ensures total { total calls.new.items ≡ length written.new.items }
-    ensures same_content { OnErr result (content.new.items ≡ content.old.items) }
-    ensures same_calls { OnErr result (dones calls.new.items written.new.items
-        ≡ dones calls.old.items written.old.items) }
+    requires room { vec_len content.old + length bytes.now ≤ vec_capacity spare.old }
+    ensures content { content.new.items ≡ overwritten at bytes.now content.old.items }
+    ensures len { vec_len content.new ≤ vec_len content.old + length bytes.now }
+    ensures content_capacity { vec_capacity spare.old ≤ vec_capacity content.new }
+    ensures spare_capacity { vec_capacity content.old ≤ vec_capacity spare.new }
 {
-    overwrite(spare, content, at as usize, bytes)?;
-    record_write(calls, written, at, bytes)?;
+    if overwrite(spare, content, at as usize, bytes).is_err() {
+        unreachable!();
+    }
     mem::swap(content, spare);
-    Ok(())
 }
 
 impl MemoryDisk {
@@ -250,13 +243,14 @@ impl MemoryDisk {
         ensures stop { IfOk result (λ disk. disk.stop ≡ stop) }
     {
         let alloc = *content.allocator();
-        let longest = content.len().saturating_add(room as usize);
-        let mut now = Vec::with_capacity(alloc, longest)?;
-        now.extend_from_slice(&content)?;
+        let mut now = Vec::from_slice(alloc, &content)?;
+        now.reserve(room as usize)?;
+        let mut spare = Vec::from_slice(alloc, &content)?;
+        spare.reserve(room as usize)?;
         Ok(MemoryDisk {
             first: content,
             content: now,
-            spare: Vec::with_capacity(alloc, longest)?,
+            spare,
             calls: Vec::with_capacity(alloc, calls as usize)?,
             written: Vec::with_capacity(alloc, room as usize)?,
             calls_left: calls,
@@ -281,108 +275,100 @@ impl MemoryDisk {
         image_of(&self.first, &self.calls, &self.written)
     }
 
-    // A call for which there is no room is a fault.
-    fn no_room(&mut self) -> Result<(), OutError>
-        ensures failed { result ≡ Err OutError.Failed }
-        ensures rose { Rose self.old.plan.faults self.new.plan.faults }
-        ensures later { self.old.plan.faults ≤ self.new.plan.faults }
-        ensures first { self.new.first ≡ self.old.first }
-        ensures calls { self.new.calls ≡ self.old.calls }
-    {
-        self.plan.count_fault();
-        Err(OutError::Failed)
-    }
-
     // A write that is made.
-    fn write(&mut self, at: u64, bytes: &[u8]) -> Result<(), OutError>
-        requires { at ≤ length (content_of self.old.first self.old.calls) }
-        ensures plan { IsAnswered result self.old.plan.faults self.new.plan.faults }
+    fn write(&mut self, at: u64, bytes: &[u8])
+        requires within { at ≤ length (content_of self.old.first self.old.calls) }
+        requires place { 0 < self.old.calls_left }
+        requires room { length bytes.now ≤ self.old.room_left }
+        ensures plan { self.new.plan ≡ self.old.plan }
+        ensures stop { self.new.stop ≡ self.old.stop }
         ensures first { self.new.first ≡ self.old.first }
-        ensures done { OnOk result (self.new.calls ≡ self.old.calls ++ Wrote at bytes.now ∷ []) }
-        ensures unchanged { OnErr result (self.new.calls ≡ self.old.calls) }
+        ensures calls { self.new.calls ≡ self.old.calls ++ Wrote at bytes.now ∷ [] }
+        ensures calls_left { self.new.calls_left + 1 ≡ self.old.calls_left }
+        ensures room_left { self.new.room_left + length bytes.now ≡ self.old.room_left }
     {
-        let made = make_write(
-            &mut self.content,
-            &mut self.spare,
-            &mut self.calls,
-            &mut self.written,
-            at,
-            bytes,
-        );
-        match made {
-            Ok(()) => {
-                self.calls_left = self.calls_left.saturating_sub(1);
-                self.room_left = self.room_left.saturating_sub(bytes.len() as u64);
-                Ok(())
-            }
-            Err(_) => self.no_room(),
-        }
+        record_write(&mut self.calls, &mut self.written, at, bytes);
+        write_into(&mut self.content, &mut self.spare, at, bytes);
+        self.calls_left -= 1;
+        self.room_left -= bytes.len() as u64;
     }
 
     // A cut that is made.
-    fn shorten(&mut self, len: u64) -> Result<(), OutError>
-        ensures plan { IsAnswered result self.old.plan.faults self.new.plan.faults }
+    fn shorten(&mut self, len: u64)
+        requires { 0 < self.old.calls_left }
+        ensures plan { self.new.plan ≡ self.old.plan }
+        ensures stop { self.new.stop ≡ self.old.stop }
         ensures first { self.new.first ≡ self.old.first }
-        ensures done { OnOk result (self.new.calls ≡ self.old.calls ++ Cut len ∷ []) }
-        ensures unchanged { OnErr result (self.new.calls ≡ self.old.calls) }
+        ensures calls { self.new.calls ≡ self.old.calls ++ Cut len ∷ [] }
+        ensures calls_left { self.new.calls_left + 1 ≡ self.old.calls_left }
+        ensures room_left { self.new.room_left ≡ self.old.room_left }
     {
-        match self.calls.push(Call::Cut(len)) {
-            Ok(()) => {
-                self.content.truncate(len as usize);
-                self.calls_left = self.calls_left.saturating_sub(1);
-                Ok(())
-            }
-            Err(_) => self.no_room(),
-        }
+        self.calls.push_reserved(Call::Cut(len));
+        self.content.truncate(len as usize);
+        self.calls_left -= 1;
     }
 
     // A sync that is made.
-    fn settle(&mut self) -> Result<(), OutError>
-        ensures plan { IsAnswered result self.old.plan.faults self.new.plan.faults }
+    fn settle(&mut self)
+        requires { 0 < self.old.calls_left }
+        ensures plan { self.new.plan ≡ self.old.plan }
+        ensures stop { self.new.stop ≡ self.old.stop }
         ensures first { self.new.first ≡ self.old.first }
-        ensures done { OnOk result (self.new.calls ≡ self.old.calls ++ Synced ∷ []) }
-        ensures unchanged { OnErr result (self.new.calls ≡ self.old.calls) }
+        ensures calls { self.new.calls ≡ self.old.calls ++ Synced ∷ [] }
+        ensures calls_left { self.new.calls_left + 1 ≡ self.old.calls_left }
+        ensures room_left { self.new.room_left ≡ self.old.room_left }
     {
-        match self.calls.push(Call::Synced) {
-            Ok(()) => {
-                self.calls_left = self.calls_left.saturating_sub(1);
-                Ok(())
-            }
-            Err(_) => self.no_room(),
-        }
+        self.calls.push_reserved(Call::Synced);
+        self.calls_left -= 1;
     }
 
     // A write of which nothing was done, but which a stop may leave done in part.
     fn try_write(&mut self, at: u64, len: u64)
-        requires { at ≤ length (content_of self.old.first self.old.calls) }
+        requires within { at ≤ length (content_of self.old.first self.old.calls) }
+        requires place { 0 < self.old.calls_left }
         ensures plan { self.new.plan ≡ self.old.plan }
+        ensures stop { self.new.stop ≡ self.old.stop }
         ensures first { self.new.first ≡ self.old.first }
-        ensures calls { (self.new.calls ≡ self.old.calls ++ TriedWrite at len ∷ [])
-            ⊎ (self.new.calls ≡ self.old.calls) }
+        ensures calls { self.new.calls ≡ self.old.calls ++ TriedWrite at len ∷ [] }
+        ensures calls_left { self.new.calls_left + 1 ≡ self.old.calls_left }
+        ensures room_left { self.new.room_left ≡ self.old.room_left }
     {
-        match self.calls.push(Call::TriedWrite { at, len }) {
-            Ok(()) => self.calls_left = self.calls_left.saturating_sub(1),
-            Err(_) => {}
-        }
+        self.calls.push_reserved(Call::TriedWrite { at, len });
+        self.calls_left -= 1;
     }
 
     // A cut of which nothing was done, but which a stop may leave done.
     fn try_cut(&mut self, len: u64)
+        requires { 0 < self.old.calls_left }
         ensures plan { self.new.plan ≡ self.old.plan }
+        ensures stop { self.new.stop ≡ self.old.stop }
         ensures first { self.new.first ≡ self.old.first }
-        ensures calls { (self.new.calls ≡ self.old.calls ++ TriedCut len ∷ [])
-            ⊎ (self.new.calls ≡ self.old.calls) }
+        ensures calls { self.new.calls ≡ self.old.calls ++ TriedCut len ∷ [] }
+        ensures calls_left { self.new.calls_left + 1 ≡ self.old.calls_left }
+        ensures room_left { self.new.room_left ≡ self.old.room_left }
     {
-        match self.calls.push(Call::TriedCut(len)) {
-            Ok(()) => self.calls_left = self.calls_left.saturating_sub(1),
-            Err(_) => {}
-        }
+        self.calls.push_reserved(Call::TriedCut(len));
+        self.calls_left -= 1;
+    }
+
+    // A sync that failed: what was written before it may be lost.
+    fn try_settle(&mut self)
+        requires { 0 < self.old.calls_left }
+        ensures plan { self.new.plan ≡ self.old.plan }
+        ensures stop { self.new.stop ≡ self.old.stop }
+        ensures first { self.new.first ≡ self.old.first }
+        ensures calls { self.new.calls ≡ self.old.calls ++ TriedSync ∷ [] }
+        ensures calls_left { self.new.calls_left + 1 ≡ self.old.calls_left }
+        ensures room_left { self.new.room_left ≡ self.old.room_left }
+    {
+        self.calls.push_reserved(Call::TriedSync);
+        self.calls_left -= 1;
     }
 }
 
 impl Disk for MemoryDisk {
-    ghost use Rattle.std.specs.Prelude.{Some, length, ⊤};
-    ghost use Rattle.disk.specs.Tape.{content_of, left_now, left_synced, LeftSince, synced_now, begins_sure, counts_now, only_now};
+    ghost use Rattle.std.specs.Prelude.{◌≡◌, Some, length, false};
+    ghost use Rattle.disk.specs.Tape.{content_of, has_failed_sync, left_now, left_synced, LeftSince, synced_now, begins_sure, counts_now, only_now};
 
     ghost content = { λ d. Some (content_of d.first d.calls) };
 
@@ -394,7 +380,7 @@ impl Disk for MemoryDisk {
 
     ghost left_since = { λ d t image. LeftSince d.first d.calls t image };
 
-    ghost may_begin = { λ _ _. ⊤ };
+    ghost may_begin = { λ d _. has_failed_sync d.calls ≡ false };
 
     ghost failures = { λ d. d.plan.faults };
 
@@ -407,7 +393,9 @@ impl Disk for MemoryDisk {
     ghost only_now = { only_now };
 
     fn read(&mut self, alloc: Global) -> Result<Vec<u8>, OutError>
-        ensures due { (result ≡ Err OutError.Failed) ↔ (is_due self.old.plan self.old.stop true ≡ true) }
+        ensures due { (result ≡ Err OutError.Failed) ↔ (is_due self.old.plan self.old.stop
+            true ≡ true) }
+        ensures goes_on { GoesOn result 0 0 self.old self.new }
         ensures bytes { IfOk result (λ bytes. WhereTold (Some (content_of self.old.first self.old.calls))
             (λ file. bytes.items ≡ file)) }
         ensures kept { Some (content_of self.new.first self.new.calls)
@@ -428,9 +416,9 @@ impl Disk for MemoryDisk {
 
     fn write_at(&mut self, at: u64, bytes: &[u8]) -> Result<(), OutError>
         requires { WhereTold (Some (content_of self.old.first self.old.calls)) (λ file. at ≤ length file) }
-        ensures due { is_due self.old.plan self.old.stop
-            (has_room self.old.calls_left self.old.room_left (length bytes.now)) ≡ true
-            → result ≡ Err OutError.Failed }
+        ensures due { (result ≡ Err OutError.Failed) ↔ (is_due self.old.plan self.old.stop
+            (has_room self.old.calls_left self.old.room_left (length bytes.now)) ≡ true) }
+        ensures goes_on { GoesOn result 1 (length bytes.now) self.old self.new }
         ensures written { OnOk result (Some (content_of self.new.first self.new.calls)
             ≡ option_map (overwritten at bytes.now) (Some (content_of self.old.first self.old.calls))) }
         ensures torn { OnErr result (Becomes (Torn at (length bytes.now))
@@ -452,7 +440,10 @@ impl Disk for MemoryDisk {
         let len = bytes.len() as u64;
         let has_room = has_room(self.calls_left, self.room_left, len);
         match fate_of(&mut self.plan, self.stop, self.calls_left > 0, has_room) {
-            Fate::Goes => self.write(at, bytes),
+            Fate::Goes => {
+                self.write(at, bytes);
+                Ok(())
+            }
             Fate::Fails => {
                 self.try_write(at, len);
                 Err(OutError::Failed)
@@ -462,8 +453,9 @@ impl Disk for MemoryDisk {
     }
 
     fn cut(&mut self, len: u64) -> Result<(), OutError>
-        ensures due { is_due self.old.plan self.old.stop (has_room self.old.calls_left self.old.room_left 0)
-            ≡ true → result ≡ Err OutError.Failed }
+        ensures due { (result ≡ Err OutError.Failed) ↔ (is_due self.old.plan self.old.stop
+            (has_room self.old.calls_left self.old.room_left 0) ≡ true) }
+        ensures goes_on { GoesOn result 1 0 self.old self.new }
         ensures cut { OnOk result (Some (content_of self.new.first self.new.calls)
             ≡ option_map (take len) (Some (content_of self.old.first self.old.calls))) }
         ensures torn { OnErr result (Becomes (IsCutOrNot len)
@@ -484,7 +476,10 @@ impl Disk for MemoryDisk {
     {
         let has_room = has_room(self.calls_left, self.room_left, 0);
         match fate_of(&mut self.plan, self.stop, has_room, has_room) {
-            Fate::Goes => self.shorten(len),
+            Fate::Goes => {
+                self.shorten(len);
+                Ok(())
+            }
             Fate::Fails => {
                 self.try_cut(len);
                 Err(OutError::Failed)
@@ -494,8 +489,9 @@ impl Disk for MemoryDisk {
     }
 
     fn sync(&mut self) -> Result<(), OutError>
-        ensures due { is_due self.old.plan self.old.stop (has_room self.old.calls_left self.old.room_left 0)
-            ≡ true → result ≡ Err OutError.Failed }
+        ensures due { (result ≡ Err OutError.Failed) ↔ (is_due self.old.plan self.old.stop
+            (has_room self.old.calls_left self.old.room_left 0) ≡ true) }
+        ensures goes_on { GoesOn result 1 0 self.old self.new }
         ensures durable { OnOk result ((image : List ℕ) → left_now self.new.first self.new.calls image
             → left_synced self.old.first self.old.calls image) }
         ensures kept { Some (content_of self.new.first self.new.calls)
@@ -511,8 +507,15 @@ impl Disk for MemoryDisk {
     {
         let has_room = has_room(self.calls_left, self.room_left, 0);
         match fate_of(&mut self.plan, self.stop, has_room, has_room) {
-            Fate::Goes => self.settle(),
-            _ => Err(OutError::Failed),
+            Fate::Goes => {
+                self.settle();
+                Ok(())
+            }
+            Fate::Fails => {
+                self.try_settle();
+                Err(OutError::Failed)
+            }
+            Fate::Refused => Err(OutError::Failed),
         }
     }
 

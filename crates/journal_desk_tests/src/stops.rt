@@ -1,4 +1,5 @@
 //! A desk whose journal is on a disk in memory that fails or stops.
+ghost use Rattle.std.specs.Prelude.{◌≡◌, [], IfOk};
 
 use answering::{Alone, NoGate};
 use disk::MemoryDisk;
@@ -46,13 +47,17 @@ fn disk_of(
     content: &[u8],
     fails: &[u64],
     stop: Option<u64>,
-) -> Result<MemoryDisk, Fail> {
+) -> Result<MemoryDisk, Fail>
+    ensures { IfOk result (λ disk. disk.calls ≡ []) }
+{
     let content = content.to_vec(alloc)?;
     Ok(MemoryDisk::new(content, 4096, 100, fails.to_vec(alloc)?, stop)?)
 }
 
 // A desk over this disk that answers the stream, where it starts. It gives the disk back.
-fn run(alloc: Global, disk: MemoryDisk, link: &mut MemoryLink) -> MemoryDisk {
+fn run(alloc: Global, disk: MemoryDisk, link: &mut MemoryLink) -> MemoryDisk
+    requires { disk.calls ≡ [] }
+{
     match Desk::start(alloc, JournalKeeper::new(alloc, disk), "day.journal") {
         Ok(desk) => {
             let mut turns = Alone::new(desk, 100);
@@ -64,7 +69,9 @@ fn run(alloc: Global, disk: MemoryDisk, link: &mut MemoryLink) -> MemoryDisk {
 }
 
 // How much a desk has that is started on this file.
-fn found<A: Abort>(rt: &A, alloc: Global, disk: MemoryDisk) -> DeskCounts {
+fn found<A: Abort>(rt: &A, alloc: Global, disk: MemoryDisk) -> DeskCounts
+    requires { disk.calls ≡ [] }
+{
     match Desk::start(alloc, JournalKeeper::new(alloc, disk), "day.journal") {
         Ok(desk) => {
             let counts = desk.counts();

@@ -1,5 +1,5 @@
 -- What is so after a gate in doubt was written again, and in each part of a put.
-use Rattle.std.proofs.Common.{◌≡◌, inl, inr, ℕ, ◌+◌, ◌≤◌, Bool, true, false, List, [], ◌∷◌, ◌++◌, length, drop, Some, sym, ap, subst, ◌∙◌, append_assoc, arith, length-append}
+use Rattle.std.proofs.Common.{◌≡◌, inl, inr, ℕ, ◌+◌, ◌≤◌, Bool, true, false, List, [], ◌∷◌, ◌++◌, length, drop, Some, sym, ap, ◌∙◌, append_assoc, arith, length-append}
 use Rattle.keeper.specs.Rows.{bare}
 use Rattle.journal_keeper.specs.declared.stage.Stage.TheVariants.{Open}
 use Rattle.disk.specs.Disk.{overwritten, Torn, Overwrites, AfterStep, Follows}

@@ -11,3 +11,4 @@ mod Written
 mod Sets
 mod Doubts
 mod Answered
+mod Held

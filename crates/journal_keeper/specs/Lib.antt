@@ -6,3 +6,5 @@ pub mod Sound
 pub mod Counts
 pub mod Tables
 pub mod Keeping
+pub mod Held
+pub mod Found

@@ -1,14 +1,15 @@
 //! Begins a journal.
-ghost use Rattle.std.specs.Prelude.{◌≡◌, ◌≢◌, true, false, List, ℕ, None, IfOk, OnOk, OnErr};
+ghost use Rattle.std.specs.Prelude.{◌≡◌, ◌≢◌, true, false, List, ℕ, None, IfOk, IfSome, OnOk, OnErr};
 ghost use Rattle.std.specs.Option.{option_map};
 ghost use Rattle.keeper.specs.Rows.{bare, begun};
 ghost use Rattle.disk.specs.Disk.{WhereTold, Becomes, Only, LeavesOnly, CountsFaults};
 ghost use Rattle.journal_keeper.specs.Journal.{unopened};
-ghost use Rattle.journal_keeper.specs.Stage.{seen_by, doubted, counts_empty, IsBlank, KeepsBlank, IsBegun, IsFound};
+ghost use Rattle.journal_keeper.specs.Stage.{seen_by, settled, doubted, counts_empty, IsBlank, KeepsBlank, IsBegun, IsFound};
 ghost use Rattle.journal_keeper.specs.Sound.{IsSound};
+ghost use Rattle.journal_keeper.specs.Held.{Holds};
 
 use crate::Stage;
-use crate::reading::{counts_as_empty, stage_of};
+use crate::reading::{counts_as_empty, is_empty_store, stage_of};
 use disk::{Disk, cut_through, write_through};
 use pb_outside::OutError;
 use std::alloc::Global;
@@ -72,6 +73,8 @@ fn begin_with<D: Disk>(disk: &mut D, stage: &mut Stage, file: &[u8]) -> Result<(
     ensures unchanged { OnErr result (option_map (seen_by stage.new) (D.content disk.new)
         ≡ option_map (seen_by stage.old) (D.content disk.old)) }
     ensures found { OnOk result (WhereTold (D.content disk.new) (IsFound stage.new)) }
+    ensures same_disk { counts_empty stage.old file.now ≡ false → disk.new ≡ disk.old }
+    ensures sure { stage.old ≡ Stage.Shut → counts_empty stage.old file.now ≡ false → settled stage.new ≡ stage.new }
     ensures doubt { doubted stage.new (D.content disk.new) ≡ doubted stage.old (D.content disk.old) }
     ensures any_moment { WhereTold (D.content disk.old) (λ file.
         LeavesOnly D.moment D.left_since disk.old disk.new (IsBegun stage.old file (D.may_leave disk.old))) }
@@ -103,9 +106,25 @@ fn read_synced<D: Disk>(alloc: Global, disk: &mut D) -> Result<Vec<u8>, OutError
     disk.read(alloc)
 }
 
+// What is held of a file with which one begins: all of it, where it stays as it is.
+fn held_of(stage: Stage, file: Vec<u8>) -> Option<Vec<u8>>
+    ensures { IfSome result (λ held. (held ≡ file) × (stage ≡ Stage.Shut) × (counts_empty stage file.items ≡ false)) }
+{
+    match stage {
+        Stage::Shut if !is_empty_store(&file) => Some(file),
+        _ => None,
+    }
+}
+
 /// Begins to keep rows. A store that counts as empty becomes a journal without records, and every other file is left as
-/// it is.
-pub(crate) fn begin<D: Disk>(alloc: Global, disk: &mut D, stage: &mut Stage) -> Result<(), OutError>
+/// it is, and held, so that it need not be read again.
+pub(crate) fn begin<D: Disk>(
+    alloc: Global,
+    disk: &mut D,
+    stage: &mut Stage,
+    held: &mut Option<Vec<u8>>,
+) -> Result<(), OutError>
+    requires none { held.old ≡ None }
     requires sound { IsSound stage.old (D.content disk.old) (D.may_leave disk.old) }
     requires sure { WhereTold (D.content disk.old) (λ file. Only file (D.may_leave_synced disk.old)) }
     ensures sound { IsSound stage.new (D.content disk.new) (D.may_leave disk.new) }
@@ -117,8 +136,12 @@ pub(crate) fn begin<D: Disk>(alloc: Global, disk: &mut D, stage: &mut Stage) -> 
     ensures doubt { doubted stage.new (D.content disk.new) ≡ doubted stage.old (D.content disk.old) }
     ensures any_moment { WhereTold (D.content disk.old) (λ file.
         LeavesOnly D.moment D.left_since disk.old disk.new (IsBegun stage.old file (D.may_leave disk.old))) }
+    ensures holds { Holds held.new stage.new (D.content disk.new) }
     ensures count { CountsFaults result (D.failures disk.old) (D.failures disk.new) }
 {
+    let before = *stage;
     let file = read_synced(alloc, disk)?;
-    begin_with(disk, stage, &file)
+    let done = begin_with(disk, stage, &file);
+    *held = held_of(before, file);
+    done
 }

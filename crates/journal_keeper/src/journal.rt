@@ -23,6 +23,7 @@ pub(crate) fn settle<D: Disk>(disk: &mut D, stage: &mut Stage) -> Result<(), Out
     ensures any_moment { WhereTold (D.content disk.old) (λ file.
         LeavesOnly D.moment D.left_since disk.old disk.new (StillStands stage.old file)) }
     ensures untouched { is_open stage.old ≡ false → disk.new ≡ disk.old }
+    ensures same { settled stage.old ≡ stage.old → disk.new ≡ disk.old }
     ensures stays_open { is_open stage.new ≡ is_open stage.old }
     ensures no_memory { result ≢ Err OutError.Memory }
     ensures count { CountsFaults result (D.failures disk.old) (D.failures disk.new) }

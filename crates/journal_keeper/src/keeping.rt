@@ -26,6 +26,8 @@ pub struct JournalKeeper<D: Disk> {
     disk: D,
     stage: Stage,
     refusals: FaultCount,
+    // What `begin` read of the file, until `load` takes it or a put changes the file.
+    held: Option<Vec<u8>>,
 }
 
 impl<D: Disk> Model for JournalKeeper<D> {
@@ -33,11 +35,11 @@ impl<D: Disk> Model for JournalKeeper<D> {
 
     ghost Value = { Keeping D };
 
-    ghost use Rattle.journal_keeper.specs.Sound.{IsSound};
+    ghost use Rattle.journal_keeper.specs.Held.{IsKept};
 
     ghost view = { λ k. record { disk = k.disk; stage = k.stage; refusals = k.refusals } };
 
-    ghost invariant = { λ k. IsSound k.stage (D.content k.disk) (D.may_leave k.disk) };
+    ghost invariant = { λ k. IsKept k.held k.stage (D.content k.disk) (D.may_leave k.disk) };
 }
 
 impl<D: Disk> JournalKeeper<D> {
@@ -52,6 +54,7 @@ impl<D: Disk> JournalKeeper<D> {
             disk,
             stage: Stage::Shut,
             refusals: FaultCount::new(),
+            held: None,
         }
     }
 
@@ -64,6 +67,7 @@ impl<D: Disk> JournalKeeper<D> {
             disk,
             stage: _,
             refusals: _,
+            held: _,
         } = self;
         disk
     }
@@ -95,7 +99,8 @@ impl<D: Disk> Keeper for JournalKeeper<D> {
         ensures doubt { doubted self.new.stage (D.content self.new.disk)
             ≡ doubted self.old.stage (D.content self.old.disk) }
     {
-        begin(self.alloc, &mut self.disk, &mut self.stage)
+        self.held = None;
+        begin(self.alloc, &mut self.disk, &mut self.stage, &mut self.held)
     }
 
     fn load(&mut self) -> Result<Rows, OutError>
@@ -116,7 +121,8 @@ impl<D: Disk> Keeper for JournalKeeper<D> {
             ≡ doubted self.old.stage (D.content self.old.disk)) }
         ensures stays_open { is_open self.new.stage ≡ is_open self.old.stage }
     {
-        load(self.alloc, &mut self.disk, &mut self.stage)
+        let held = self.held.take();
+        load(self.alloc, &mut self.disk, &mut self.stage, held)
     }
 
     fn put_draft(&mut self, row: &DraftRow) -> Result<(), OutError>
@@ -141,6 +147,7 @@ impl<D: Disk> Keeper for JournalKeeper<D> {
             (D.failures self.old.disk)
             (D.failures self.new.disk) self.old.refusals self.new.refusals }
     {
+        self.held = None;
         put(
             self.alloc,
             &mut self.disk,
@@ -171,6 +178,7 @@ impl<D: Disk> Keeper for JournalKeeper<D> {
         ensures refuses { Refuses result (is_refused self.old.stage (Book row.now)) (D.failures self.old.disk)
             (D.failures self.new.disk) self.old.refusals self.new.refusals }
     {
+        self.held = None;
         put(
             self.alloc,
             &mut self.disk,
@@ -202,6 +210,7 @@ impl<D: Disk> Keeper for JournalKeeper<D> {
             (D.failures self.old.disk)
             (D.failures self.new.disk) self.old.refusals self.new.refusals }
     {
+        self.held = None;
         put(
             self.alloc,
             &mut self.disk,
@@ -233,6 +242,7 @@ impl<D: Disk> Keeper for JournalKeeper<D> {
             (D.failures self.old.disk)
             (D.failures self.new.disk) self.old.refusals self.new.refusals }
     {
+        self.held = None;
         put(
             self.alloc,
             &mut self.disk,

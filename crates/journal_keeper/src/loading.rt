@@ -6,7 +6,9 @@ ghost use Rattle.disk.specs.Disk.{WhereTold, LeavesOnly, CountsFaults};
 ghost use Rattle.journal_keeper.specs.Journal.{entries_from, rows_of, kept_in};
 ghost use Rattle.journal_keeper.specs.Stage.{seen_by, doubted, is_open, StillStands};
 ghost use Rattle.journal_keeper.specs.Sound.{IsSound};
+ghost use Rattle.journal_keeper.specs.Held.{IsKept};
 ghost use Rattle.journal_keeper.specs.Tables.{kept_where_found};
+ghost use Rattle.journal_keeper.specs.Found.{kept_by_found};
 
 use crate::Stage;
 use crate::journal::settle;
@@ -49,24 +51,56 @@ fn gathered(alloc: Global, body: &[u8]) -> Result<Option<Tables>, Memory>
     Ok(Some(tables))
 }
 
-// The rows that a file keeps.
-fn rows_in(alloc: Global, file: &[u8]) -> Result<Rows, Memory>
-    ensures { IfOk result (λ rows. kept_of rows ≡ kept_in file.now) }
+// What a file keeps.
+#[derive(Drop)]
+enum Found {
+    // No rows, and this form.
+    Bare(u64),
+    Journal(Tables),
+}
+
+fn found_in(alloc: Global, file: &[u8]) -> Result<Found, Memory>
+    ensures { IfOk result (λ found. kept_by_found found ≡ kept_in file.now) }
 {
     if is_empty_store(file) {
-        return Ok(no_rows(alloc, 0));
+        return Ok(Found::Bare(0));
     }
     let Some(body) = body_of(file) else {
-        return Ok(no_rows(alloc, 3));
+        return Ok(Found::Bare(3));
     };
     match gathered(alloc, body)? {
-        Some(tables) => tables.into_rows(alloc),
-        None => Ok(no_rows(alloc, 3)),
+        Some(tables) => Ok(Found::Journal(tables)),
+        None => Ok(Found::Bare(3)),
+    }
+}
+
+fn rows_found(alloc: Global, found: Found) -> Result<Rows, Memory>
+    ensures { IfOk result (λ rows. kept_of rows ≡ kept_by_found found) }
+{
+    match found {
+        Found::Bare(form) => Ok(no_rows(alloc, form)),
+        Found::Journal(tables) => tables.into_rows(alloc),
+    }
+}
+
+// The file as it is. What is held of it need not be read again.
+fn file_of<D: Disk>(alloc: Global, disk: &mut D, held: Option<Vec<u8>>) -> Result<Vec<u8>, OutError>
+    requires { IfSome held (λ held. WhereTold (D.content disk.old) (λ file. held.items ≡ file)) }
+    ensures bytes { IfOk result (λ bytes. WhereTold (D.content disk.old) (λ file. bytes.items ≡ file)) }
+    ensures kept { D.content disk.new ≡ D.content disk.old }
+    ensures crash { (image : List ℕ) → D.may_leave disk.new image → D.may_leave disk.old image }
+    ensures any_moment { LeavesOnly D.moment D.left_since disk.old disk.new (D.may_leave disk.old) }
+    ensures count { CountsFaults result (D.failures disk.old) (D.failures disk.new) }
+{
+    match held {
+        Some(file) => Ok(file),
+        None => disk.read(alloc),
     }
 }
 
 // The rows of the file as it is.
-fn read_rows<D: Disk>(alloc: Global, disk: &mut D) -> Result<Rows, OutError>
+fn read_rows<D: Disk>(alloc: Global, disk: &mut D, held: Option<Vec<u8>>) -> Result<Rows, OutError>
+    requires { IfSome held (λ held. WhereTold (D.content disk.old) (λ file. held.items ≡ file)) }
     ensures rows { IfOk result (λ rows. WhereTold (D.content disk.old) (λ file. kept_of rows
         ≡ kept_in file)) }
     ensures kept { D.content disk.new ≡ D.content disk.old }
@@ -74,8 +108,11 @@ fn read_rows<D: Disk>(alloc: Global, disk: &mut D) -> Result<Rows, OutError>
     ensures any_moment { LeavesOnly D.moment D.left_since disk.old disk.new (D.may_leave disk.old) }
     ensures count { CountsFaults result (D.failures disk.old) (D.failures disk.new) }
 {
-    let file = disk.read(alloc)?;
-    Ok(rows_in(alloc, &file)?)
+    let file = file_of(alloc, disk, held)?;
+    let found = found_in(alloc, &file)?;
+    // The tables have copies of its texts.
+    drop(file);
+    Ok(rows_found(alloc, found)?)
 }
 
 /// All rows, in the order of their keys.
@@ -83,8 +120,9 @@ pub(crate) fn load<D: Disk>(
     alloc: Global,
     disk: &mut D,
     stage: &mut Stage,
+    held: Option<Vec<u8>>,
 ) -> Result<Rows, OutError>
-    requires { IsSound stage.old (D.content disk.old) (D.may_leave disk.old) }
+    requires { IsKept held stage.old (D.content disk.old) (D.may_leave disk.old) }
     ensures rows { IfOk result (λ rows. IfSome (option_map (seen_by stage.old) (D.content disk.old))
         (λ kept. kept_of rows ≡ kept)) }
     ensures sound { IsSound stage.new (D.content disk.new) (D.may_leave disk.new) }
@@ -101,5 +139,5 @@ pub(crate) fn load<D: Disk>(
         return Ok(no_rows(alloc, 0));
     }
     settle(disk, stage)?;
-    read_rows(alloc, disk)
+    read_rows(alloc, disk, held)
 }

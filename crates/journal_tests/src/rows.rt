@@ -1,4 +1,5 @@
 //! Rows for the tests, and a text that shows those that are loaded.
+ghost use Rattle.std.specs.Prelude.{◌≡◌, [], IfOk};
 
 use disk::MemoryDisk;
 use journal_keeper::JournalKeeper;
@@ -18,7 +19,9 @@ pub(crate) fn disk(
     content: &[u8],
     fails: &[u64],
     stop: Option<u64>,
-) -> Result<MemoryDisk, Fail> {
+) -> Result<MemoryDisk, Fail>
+    ensures { IfOk result (λ disk. disk.calls ≡ []) }
+{
     let content = content.to_vec(alloc)?;
     Ok(MemoryDisk::new(content, 4096, 100, fails.to_vec(alloc)?, stop)?)
 }

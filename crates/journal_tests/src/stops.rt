@@ -93,6 +93,31 @@ fn a_put_that_failed_late_is_made_anew_and_there_once(rt: HostRuntime) -> Result
     Ok(())
 }
 
+// Makes five puts, each once more where a call of it failed, and starts anew on an image.
+fn tried_again(alloc: Global, fails: u64) -> Result<Text, Fail> {
+    let mut keeper = JournalKeeper::new(alloc, disk(alloc, b"", &[fails], None)?);
+    keeper.begin("")?;
+    for step in 0..5 {
+        if put(alloc, &mut keeper, step)?.is_err() {
+            put(alloc, &mut keeper, step)??;
+        }
+    }
+    let image = keeper.into_disk().image()?;
+    started(alloc, &image)
+}
+
+#[test]
+fn what_is_answered_behind_a_call_that_failed_is_left_by_a_stop(
+    rt: HostRuntime,
+) -> Result<(), Fail> {
+    let alloc = rt.alloc();
+    // `begin` takes the calls 0 to 9, and each put 4. What was written before a sync that fails is lost.
+    for fails in 10..30 {
+        assert_eq!(rt; tried_again(alloc, fails)?.bytes(), AFTER[5], "{fails}");
+    }
+    Ok(())
+}
+
 #[test]
 fn the_gate_of_a_put_that_failed_early_is_not_touched(rt: HostRuntime) -> Result<(), Fail> {
     let alloc = rt.alloc();
@@ -110,13 +135,16 @@ fn the_gate_of_a_put_that_failed_early_is_not_touched(rt: HostRuntime) -> Result
 #[test]
 fn another_file_takes_no_puts_and_stays(rt: HostRuntime) -> Result<(), Fail> {
     let alloc = rt.alloc();
-    let mut keeper = JournalKeeper::new(alloc, disk(alloc, b"a text, no journal", &[], None)?);
-    assert_eq!(rt; put(alloc, &mut keeper, 0)?, Err(OutError::Failed));
+    let text = b"a text, no journal";
+    let mut before = JournalKeeper::new(alloc, disk(alloc, text, &[], None)?);
+    assert_eq!(rt; put(alloc, &mut before, 0)?, Err(OutError::Failed));
+    assert_eq!(rt; before.faults(), 1);
+    assert_eq!(rt; before.into_disk().content(), text.as_slice());
+    let mut keeper = JournalKeeper::new(alloc, disk(alloc, text, &[], None)?);
     keeper.begin("")?;
     assert_eq!(rt; put(alloc, &mut keeper, 0)?, Err(OutError::Failed));
     let rows = keeper.load()?;
-    assert_eq!(rt; (rows.form, keeper.faults()), (3, 2));
-    let disk = keeper.into_disk();
-    assert_eq!(rt; disk.content(), b"a text, no journal".as_slice());
+    assert_eq!(rt; (rows.form, keeper.faults()), (3, 1));
+    assert_eq!(rt; keeper.into_disk().content(), text.as_slice());
     Ok(())
 }

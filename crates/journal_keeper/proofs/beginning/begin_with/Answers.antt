@@ -12,6 +12,7 @@ use Rattle.journal_keeper.proofs.Blanks.{counted_blank}
 use Rattle.journal_keeper.proofs.Begins.{told_empty, begun_empty, begun_blank, begun_left, begun_open, found_open_before, found_sound, found_told, found_found}
 use Rattle.journal_keeper.proofs.Doubts.{empty_undoubted_now, found_undoubted}
 use Rattle.journal_keeper.proofs.Answered.{ok_is_no_error, no_fault}
+use Rattle.journal_keeper.proofs.Held.{found_settled}
 use Rattle.journal_keeper.proofs.beginning.begin_with.Goals as goal
 
 -- ---- a store that counts as empty
@@ -69,6 +70,8 @@ returns-in_default g c =
       done = begun_open c.args.stage.now content leaves c.requires.sound full c.in_default.not-Shut;
       unchanged = tt;
       found = found_open_before c.args.stage.now content full c.in_default.not-Shut;
+      same_disk = λ _. refl;
+      sure = λ shut _. absurd (c.in_default.not-Shut shut);
       doubt = refl;
       any_moment = λ file told.
           started g.D.Disk.moment g.D.Disk.left_since c.args.disk.now (IsBegun c.args.stage.now file leaves)
@@ -108,3 +111,6 @@ returns-clause-any_moment g c = λ file told.
     let leaves = g.D.Disk.may_leave c.args.disk.now in
     started g.D.Disk.moment g.D.Disk.left_since c.args.disk.now (IsBegun c.args.stage.now file leaves)
     (λ image left. begun_left c.args.stage.now (g.D.Disk.content c.args.disk.now) leaves file image c.requires.sound told (g.met.D.Disk.only_now c.args.disk.now image left))
+
+pub returns-clause-sure : goal.returns-clause-sure
+returns-clause-sure g c = λ shut full. found_settled c.args.file.now c.stage_of.result c.stage_of.ensures

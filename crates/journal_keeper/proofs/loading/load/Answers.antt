@@ -9,6 +9,7 @@ use Rattle.disk.proofs.Moments.{and_then}
 use Rattle.journal_keeper.proofs.Stages.{sound_stands}
 use Rattle.journal_keeper.proofs.Doubts.{settled_undoubted, settled_open_still}
 use Rattle.journal_keeper.proofs.Answered.{sound_stays, loaded, if_told, told_file, stands_back}
+use Rattle.journal_keeper.proofs.Held.{held_still}
 use Rattle.journal_keeper.proofs.loading.load.Goals as goal
 
 pub returns-clause-sound : goal.returns-clause-sound
@@ -50,3 +51,8 @@ returns-clause-doubt g c =
 
 pub returns-clause-stays_open : goal.returns-clause-stays_open
 returns-clause-stays_open g c = ap is_open c.in_ok-settle.ensures.sure ∙ settled_open_still c.args.stage.now
+
+pub read_rows-requires : goal.read_rows-requires
+read_rows-requires g c =
+    held_still c.args.held c.args.stage.now (g.D.Disk.content c.args.disk.now) (g.D.Disk.content c.settle.new.disk) c.requires.holds
+    (λ settled. ap g.D.Disk.content (c.settle.ensures.same settled))

@@ -1,13 +1,19 @@
-use Rattle.std.proofs.Common.{refl}
+use Rattle.std.proofs.Common.{refl, arith}
 use Rattle.disk.specs.declared.memory_disk.Call.TheVariants as call
 use Rattle.disk.specs.Tape.{Cut}
-use Rattle.disk.proofs.Disks.{keeps_other, recorded}
+use Rattle.disk.proofs.Disks.{keeps_other, recorded, has_place}
 use Rattle.disk.proofs.memory_disk.MemoryDisk.shorten.Goals as goal
 
 pub invariant_of-self : goal.invariant_of-self
 invariant_of-self c =
-    keeps_other c.self.inside (call.Cut c.args.len) (Cut c.args.len) ((λ bytes. refl), refl) c.self.invariant refl refl c.in-Ok.ensures.items tt c.truncate.ensures.items
+    let memory = c.self.invariant.memory in
+    keeps_other c.self.inside (call.Cut c.args.len) (Cut c.args.len) ((λ bytes. refl), refl) c.self.invariant refl refl c.push_reserved.ensures.items tt c.truncate.ensures.items (record {
+      calls = omega (arith, has_place c.self.inside c.args.self.now c.self.view_is c.requires, memory.calls, c.push_reserved.ensures.len, c.push_reserved.ensures.capacity);
+      written = memory.written;
+      content = omega (arith, memory.content, c.truncate.ensures.len, c.truncate.ensures.capacity);
+      spare = omega (arith, memory.spare, c.truncate.ensures.len);
+    })
 
-pub returns-in-Ok-clause-done : goal.returns-in-Ok-clause-done
-returns-in-Ok-clause-done c =
-    recorded c.self.inside c.args.self.now c.push.new.self.items (call.Cut c.args.len) (Cut c.args.len) c.self.view_is ((λ bytes. refl), refl) c.in-Ok.ensures.items
+pub returns-clause-calls : goal.returns-clause-calls
+returns-clause-calls c =
+    recorded c.self.inside c.args.self.now c.push_reserved.new.self.items (call.Cut c.args.len) (Cut c.args.len) c.self.view_is ((λ bytes. refl), refl) c.push_reserved.ensures.items
