@@ -417,6 +417,7 @@ def try_counts(program, given):
     must("it ends as behind its last link", (status, out) == (0, "drafts 1 books 1 orders 2\n"), status, out, said)
     told = counts(said)
     must("requests and orders", (told["requests"], told["orders"]) == (8, 2), said)
+    must("steps that are left", told["steps"] == 1_000_000 - 2 * (8 + told["failed"] + told["open"]), said)
     return f"told of {told['requests']} requests and {told['orders']} orders"
 
 
