@@ -1,6 +1,6 @@
 //! What a row says by itself: the record of its kind, with names in place of what they stand for. The text of a rule, or of a group's codes, stands beside it.
 ghost use Rattle.std.specs.Prelude.{◌≡◌};
-ghost use Rattle.book_text.specs.Entry.{heading_of, entry_of, text_of, code_in, supplement_in, construct_in, group_in, module_record_in, position_in, variant_in};
+ghost use Rattle.book_text.specs.Entry.{heading_of, entry_of, code_in, supplement_in, construct_in, group_in, module_record_in, position_in, variant_in};
 
 use crate::fault::BookKind;
 use crate::fields::{
@@ -97,18 +97,6 @@ pub fn entry_of(heading: &Heading, row: &TextRow<'_>) -> Result<Entry, BookKind>
         Some(Kind::Module) => module_record_in(row),
         Some(Kind::Position) => position_in(term, row),
         Some(Kind::Variant) => variant_in(term, row),
-    }
-}
-
-/// The text that stands in a row beside its record: of its rule, or of a group's codes; an empty one where a record of the kind has neither.
-pub fn text_of<'r>(entry: &Entry, row: &'r TextRow<'_>) -> &'r [u8]
-    ensures { result.now ≡ text_of entry.now row.now }
-{
-    match entry {
-        Entry::Supplement { .. } => field(row, 4),
-        Entry::Construct { .. } | Entry::Group { .. } => field(row, 3),
-        Entry::Variant { .. } => field(row, 5),
-        Entry::Code { .. } | Entry::Module { .. } | Entry::Position { .. } => &[],
     }
 }
 

@@ -17,6 +17,7 @@ mod row_reader;
 mod second_pass;
 mod survey;
 mod text_row;
+mod texts;
 
 pub use fault::{BookFault, BookKind, Which};
 pub use read::read_book;

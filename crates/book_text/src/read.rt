@@ -3,7 +3,6 @@ ghost use Rattle.std.specs.Prelude.{◌≡◌, ◌≤◌, List, Ok, length};
 ghost use Rattle.std.specs.Str.{is_utf8};
 ghost use Rattle.pb_base.specs.Answers.{Answers};
 ghost use Rattle.pb_base.specs.Results.{and_then};
-ghost use Rattle.csv.specs.Records.{fields_of};
 ghost use Rattle.book_model.specs.Book.{IsBook};
 ghost use Rattle.book_text.specs.BookText.{book_of, book_of_rows, book_behind};
 ghost use Rattle.book_text.specs.PartialBook.{records_of, IsGrouped};
@@ -89,14 +88,18 @@ fn book_behind<'t>(
 }
 
 // The book of a heading and of what the first pass keeps of some rows.
-fn surveyed_book(alloc: Global, heading: Heading, survey: Survey) -> Result<Book, Fail<BookFault>>
+fn surveyed_book(
+    alloc: Global,
+    heading: Heading,
+    survey: Survey<'_>,
+) -> Result<Book, Fail<BookFault>>
     requires term { heading.term.from ≤ heading.term.until }
     requires rows { (rows : List Row) × (length rows ≤ MOST_TEXT_BYTES) × (first_pass heading rows ≡ Ok survey.names)
-        × AreSaid heading rows survey.entries.items (fields_of survey.texts) }
-    requires short { IsShort (fields_of survey.texts) }
+        × AreSaid heading rows survey.entries.items survey.texts }
+    requires short { IsShort survey.texts }
     ensures { Answers result
-        (and_then (said_pass survey.names 2 no_records survey.entries.items (fields_of survey.texts))
-        (λ records. Ok (book_with heading survey.names records))) }
+        (and_then (said_pass survey.entry.names 2 no_records survey.entry.entries.items survey.entry.texts)
+        (λ records. Ok (book_with heading survey.entry.names records))) }
 {
     let partial = second_pass(alloc, &survey)?;
     Ok(whole_book(heading, survey.names, partial))

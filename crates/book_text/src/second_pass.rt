@@ -2,12 +2,10 @@
 ghost use Rattle.std.specs.Prelude.{◌≡◌, ◌+◌, ◌<◌, ◌≤◌, ◌^◌, [], ◌∷◌, ◌++◌, Result, Ok, IfOk, OnOk, length};
 ghost use Rattle.pb_base.specs.Answers.{Answers, Gives, Leaves};
 ghost use Rattle.pb_base.specs.Results.{and_then};
-ghost use Rattle.csv.specs.Records.{fields_of};
 ghost use Rattle.book_model.specs.Groups.{AreGroups};
 ghost use Rattle.book_text.specs.PartialBook.{records_of, IsGrouped};
 ghost use Rattle.pb_base.specs.declared.limits.TheConstants.{MOST_TEXT_BYTES};
 ghost use Rattle.book_text.specs.SecondPass.{place_of, places_of, place_if_named, rule_in, supplement_of, construct_of, demand_of, group_of, position_of, variant_of, with_variant, resolved};
-ghost use Rattle.book_text.specs.Fields.{field};
 ghost use Rattle.book_text.specs.Group.{names_in};
 ghost use Rattle.book_text.specs.Said.{said_pass};
 ghost use Rattle.book_text.specs.Records.{no_records};
@@ -20,20 +18,20 @@ use crate::fields::{Days, GroupKind};
 use crate::names::Names;
 use crate::partial_book::PartialBook;
 use crate::survey::Survey;
+use crate::texts::Texts;
 use book_model::{Construct, Demand, Module, Places, Position, Supplement, Variant, VariantGroups};
-use csv::ByteRecord;
 use pb_base::limits::MOST_CHOICES;
 use pb_base::{CodeName, CodeTable, Fail, Formula, Id, Part, Table};
 use rule_text::read_rule;
 use std::alloc::Global;
 
 /// The records that the rows behind the heading say.
-pub fn second_pass(alloc: Global, survey: &Survey) -> Result<PartialBook, Fail<BookFault>>
-    requires count { length survey.now.entries.items ≡ length (fields_of survey.now.texts) }
+pub fn second_pass(alloc: Global, survey: &Survey<'_>) -> Result<PartialBook, Fail<BookFault>>
+    requires count { length survey.now.entries.items ≡ length survey.now.texts }
     requires few { length survey.now.entries.items ≤ MOST_TEXT_BYTES }
-    requires short { IsShort (fields_of survey.now.texts) }
+    requires short { IsShort survey.now.texts }
     ensures value { Gives result records_of
-        (said_pass survey.now.names 2 no_records survey.now.entries.items (fields_of survey.now.texts)) }
+        (said_pass survey.now.names 2 no_records survey.now.entries.items survey.now.texts) }
     ensures grouped { IfOk result (IsGrouped (length survey.now.names.positions)) }
 {
     let mut book = PartialBook::new(alloc, &survey.names)?;
@@ -53,19 +51,19 @@ fn resolve_all(
     book: &mut PartialBook,
     names: &Names,
     entries: &[Entry],
-    texts: &ByteRecord,
+    texts: &Texts<'_>,
 ) -> Result<(), Fail<BookFault>>
-    requires count { length entries.now ≡ length (fields_of texts.now) }
+    requires count { length entries.now ≡ length texts.now }
     requires few { length entries.now + 2 < 2 ^ 32 }
-    requires short { IsShort (fields_of texts.now) }
+    requires short { IsShort texts.now }
     requires none { book.old.variants.items ≡ [] }
     requires grouped { IsGrouped (length names.now.positions) book.old }
     ensures value { Leaves result (records_of book.new)
-        (said_pass names.now 2 (records_of book.old) entries.now (fields_of texts.now)) }
+        (said_pass names.now 2 (records_of book.old) entries.now texts.now) }
     ensures grouped { OnOk result (IsGrouped (length names.now.positions) book.new) }
 {
     for (k, entry) in entries.iter().enumerate() {
-        match resolve(alloc, book, names, entry, text_at(texts, k)) {
+        match resolve(alloc, book, names, entry, texts.get(k)) {
             Ok(()) => {}
             Err(Fail::Refused(kind)) => {
                 let row = k as u32 + 2;
@@ -75,16 +73,6 @@ fn resolve_all(
         }
     }
     Ok(())
-}
-
-// The text beside the record at a place.
-fn text_at(texts: &ByteRecord, place: usize) -> &[u8]
-    ensures { result.now ≡ field (fields_of texts.now) place }
-{
-    match texts.get(place) {
-        Some(text) => text,
-        None => &[],
-    }
 }
 
 // Adds the record that a row says, with this text beside it.

@@ -1,31 +1,30 @@
 //! The first pass over the rows: what each says by itself, and its name beside those before it.
-ghost use Rattle.std.specs.Prelude.{◌≡◌, ◌≤◌, [], Ok, IfOk, OnOk, length};
-ghost use Rattle.csv.specs.Records.{fields_of, partial_of};
+ghost use Rattle.std.specs.Prelude.{◌≡◌, ◌≤◌, ◌++◌, ◌∷◌, [], Ok, IfOk, OnOk, length};
 ghost use Rattle.pb_base.specs.declared.limits.TheConstants.{MOST_TEXT_BYTES};
-ghost use Rattle.book_text.specs.Entry.{entry_of};
+ghost use Rattle.book_text.specs.Entry.{entry_of, text_of};
 ghost use Rattle.pb_base.specs.Answers.{Gives, Leaves};
 ghost use Rattle.book_text.specs.FirstPass.{entered_row, first_pass};
 ghost use Rattle.book_text.specs.Pass.{pass};
 ghost use Rattle.book_text.specs.Rows.{IsShort};
 ghost use Rattle.book_text.specs.Said.{AreSaid};
 
-use crate::entry::{Entry, Heading, entry_of, text_of};
+use crate::entry::{Entry, Heading, entry_of};
 use crate::fault::{BookFault, BookKind};
 use crate::names::Names;
 use crate::row_reader::RowReader;
 use crate::text_row::TextRow;
-use csv::ByteRecord;
-use pb_base::Fail;
+use crate::texts::Texts;
+use pb_base::{Fail, Memory};
 use std::alloc::Global;
 
 /// What the first pass keeps of the rows: the names, by which the second pass finds places, and what each row says.
 #[derive(Drop)]
-pub struct Survey {
+pub struct Survey<'t> {
     pub names: Names,
     /// The record of each row.
     pub entries: Vec<Entry>,
-    /// The text beside each record: of its rule, or of a group's codes. A `csv` record holds them one behind the other, in one buffer.
-    pub texts: ByteRecord,
+    /// The text beside each record: of its rule, or of a group's codes; an empty one where a record of the kind has neither.
+    pub texts: Texts<'t>,
 }
 
 /// Reads the rows behind the heading, the first of which is row 2, each in place of the one that `row` holds.
@@ -34,15 +33,15 @@ pub fn first_pass<'t>(
     heading: &Heading,
     rows: &mut RowReader<'t>,
     row: &mut TextRow<'t>,
-) -> Result<Survey, Fail<BookFault>>
+) -> Result<Survey<'t>, Fail<BookFault>>
     requires { length rows.old ≤ MOST_TEXT_BYTES }
     ensures names { Gives result (λ s. s.names) (first_pass heading.now rows.old) }
-    ensures said { IfOk result (λ s. AreSaid heading.now rows.old s.entries.items (fields_of s.texts)) }
-    ensures short { IfOk result (λ s. IsShort (fields_of s.texts)) }
+    ensures said { IfOk result (λ s. AreSaid heading.now rows.old s.entries.items s.texts) }
+    ensures short { IfOk result (λ s. IsShort s.texts) }
 {
     let mut entries = Vec::with_capacity(alloc, rows.room())?;
     let mut names = Names::new(alloc);
-    let mut texts = ByteRecord::new(alloc);
+    let mut texts = Texts::with_room(alloc, rows.room())?;
     enter_rows(&mut names, &mut entries, &mut texts, heading, rows, row)?;
     Ok(Survey {
         names,
@@ -54,21 +53,21 @@ pub fn first_pass<'t>(
 fn enter_rows<'t>(
     names: &mut Names,
     entries: &mut Vec<Entry>,
-    texts: &mut ByteRecord,
+    texts: &mut Texts<'t>,
     heading: &Heading,
     rows: &mut RowReader<'t>,
     row: &mut TextRow<'t>,
 ) -> Result<(), Fail<BookFault>>
     requires count { length rows.old ≤ MOST_TEXT_BYTES }
-    requires none { (entries.old.items ≡ []) × (fields_of texts.old ≡ []) × (partial_of texts.old ≡ []) }
+    requires none { (entries.old.items ≡ []) × (texts.old ≡ []) }
     ensures names { Leaves result names.new (pass (entered_row heading.now) 2 names.old rows.old) }
-    ensures said { OnOk result (AreSaid heading.now rows.old entries.new.items (fields_of texts.new)) }
-    ensures short { OnOk result (IsShort (fields_of texts.new)) }
+    ensures said { OnOk result (AreSaid heading.now rows.old entries.new.items texts.new) }
+    ensures short { OnOk result (IsShort texts.new) }
 {
     'rows: while rows.read(row)? {
         match enter_row(names, heading, row) {
             Ok(entry) => {
-                texts.push_field(text_of(&entry, row))?;
+                add_text(texts, &entry, row)?;
                 entries.push(entry)?;
             }
             Err(Fail::Refused(kind)) => {
@@ -79,6 +78,18 @@ fn enter_rows<'t>(
         }
     }
     Ok(())
+}
+
+// Adds the text that stands in a row beside its record.
+fn add_text<'t>(texts: &mut Texts<'t>, entry: &Entry, row: &TextRow<'t>) -> Result<(), Memory>
+    ensures { OnOk result (texts.new ≡ texts.old ++ text_of entry.now row.now ∷ []) }
+{
+    match entry {
+        Entry::Supplement { .. } => texts.add(row, 4),
+        Entry::Construct { .. } | Entry::Group { .. } => texts.add(row, 3),
+        Entry::Variant { .. } => texts.add(row, 5),
+        Entry::Code { .. } | Entry::Module { .. } | Entry::Position { .. } => texts.add_empty(),
+    }
 }
 
 // The record of a row, whose name joins the others.

@@ -1,7 +1,8 @@
 //! One row of a book's text.
-ghost use Rattle.std.specs.Prelude.{◌≡◌, [], length};
+ghost use Rattle.std.specs.Prelude.{◌≡◌, [], IfSome, length};
 ghost use Rattle.std.specs.Option.{option_map};
 ghost use Rattle.csv.specs.Records.{field_at};
+ghost use Rattle.book_text.specs.Fields.{field};
 
 use csv::ByteRecord;
 use std::alloc::Global;
@@ -46,6 +47,20 @@ impl<'t> TextRow<'t> {
             return self.quoted.len();
         }
         self.parted.len()
+    }
+
+    /// The field at a place, where commas alone part the row: as it stands in the text. None for one that `csv` read.
+    #[inline(always)]
+    pub fn part(&self, place: usize) -> Option<&'t [u8]>
+        ensures { IfSome result (λ text. text.now ≡ field self.now place) }
+    {
+        if self.is_quoted {
+            return None;
+        }
+        match self.parted.get(place) {
+            Some(text) => Some(*text),
+            None => None,
+        }
     }
 
     /// The field at a place, counted from 0.

@@ -7,4 +7,6 @@ pub mod Nodes
 pub mod Shapes
 pub mod LeafLaws
 pub mod PartLaws
+mod PaddingLemmas
 mod TableLemmas
+pub mod TablePlaces

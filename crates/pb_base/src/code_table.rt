@@ -1,10 +1,11 @@
 //! The codes of a book, by name and by place.
-ghost use Rattle.std.specs.Prelude.{◌≡◌, ◌+◌, ◌<◌, ◌^◌, ◌==◌, [], length, Some, slice_get, true};
+ghost use Rattle.std.specs.Prelude.{◌≡◌, ◌+◌, ◌<◌, ◌^◌, ◌==◌, [], length, IfSome, Some, slice_get, true};
 ghost use Rattle.std.specs.List.{IsDistinct, list_all};
 ghost use Rattle.pb_base.specs.Names.{is_code_name, place_in, same_name};
 ghost use Rattle.pb_base.specs.Table.{AddsName};
 
 use crate::answer::Fail;
+use crate::hints::{Hints, TRIES};
 use crate::names::CodeName;
 use crate::table::Table;
 use std::alloc::Global;
@@ -14,6 +15,7 @@ use std::marker::Model;
 #[derive(Drop)]
 pub struct CodeTable {
     names: Table<CodeName>,
+    hints: Hints,
 }
 
 impl Model for CodeTable {
@@ -35,6 +37,7 @@ impl CodeTable {
     {
         CodeTable {
             names: Table::new(alloc),
+            hints: Hints::new(alloc),
         }
     }
 
@@ -44,14 +47,45 @@ impl CodeTable {
         ensures { AddsName self.old name self.new result }
     {
         name.form_law();
-        self.names.add(name)
+        let added = self.names.add(name);
+        self.hints.note(&self.names, &name, &added);
+        added
     }
 
     /// The place of a name, or None where the table doesn't have it.
     pub fn place_of(&self, name: &CodeName) -> Option<u32>
         ensures { result ≡ place_in self.now name.now }
     {
-        self.names.place_of(name)
+        match self.hinted(name) {
+            Some(place) => Some(place),
+            None => self.names.place_of(name),
+        }
+    }
+
+    // The place of a name, where a hint leads to it.
+    #[inline(always)]
+    fn hinted(&self, name: &CodeName) -> Option<u32>
+        ensures { IfSome result (λ place. place_in self.now name.now ≡ Some place) }
+    {
+        let number = name.number();
+        for step in 0..TRIES {
+            let place = self.hints.place(number, step);
+            if self.stands_at(name, place) {
+                return Some(place);
+            }
+        }
+        None
+    }
+
+    // Whether this name stands at a place, which may be none.
+    #[inline(always)]
+    fn stands_at(&self, name: &CodeName, place: u32) -> bool
+        ensures { result ≡ true → place_in self.now name.now ≡ Some place }
+    {
+        if place >= self.names.len() {
+            return false;
+        }
+        self.names.name_of(place).is(name)
     }
 
     /// The name at a place.

@@ -7,6 +7,7 @@ mod code_table;
 mod day;
 mod digits;
 mod formula;
+mod hints;
 mod leaves;
 pub mod limits;
 mod named_set;

@@ -100,6 +100,20 @@ impl CodeName {
         self.0.bytes()
     }
 
+    // A number that is made of the bytes.
+    #[inline(always)]
+    pub(crate) fn number(&self) -> u64 {
+        self.0.number()
+    }
+
+    // Whether another name is the same.
+    #[inline(always)]
+    pub(crate) fn is(&self, other: &CodeName) -> bool
+        ensures { result ≡ true → self.now ≡ other.now }
+    {
+        self.0.is(&other.0)
+    }
+
     // What is known of every name of a code; the call does nothing.
     pub(crate) fn form_law(&self)
         ensures { is_code_name self.now ≡ true }

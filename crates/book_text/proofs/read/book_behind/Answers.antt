@@ -1,4 +1,3 @@
-use Rattle.csv.specs.Records.{fields_of}
 use Rattle.book_text.specs.Records.{no_records}
 use Rattle.book_text.proofs.PassLemmas.{rows-said}
 use Rattle.book_text.proofs.read.book_behind.Goals as goal
@@ -9,5 +8,5 @@ surveyed_book-requires-clause-rows c = (c.args.rows.now, c.requires.count, c.in_
 pub returns : goal.returns
 returns c =
     let survey = c.in_ok-survey.survey in
-    let second = rows-said c.args.heading survey.names 2 no_records c.args.rows.now survey.entries.items (fields_of survey.texts) c.in_ok-survey.ensures.said in
+    let second = rows-said c.args.heading survey.names 2 no_records c.args.rows.now survey.entries.items survey.texts c.in_ok-survey.ensures.said in
     rw (c.in_ok-survey.ensures.names, second) c.surveyed_book.ensures

@@ -1,6 +1,5 @@
 use Rattle.std.proofs.Common.{ℕ, refl, sym, subst, ◌∙◌, arith}
 use Rattle.std.proofs.lemmas.Result.{err_from_is_err_and}
-use Rattle.csv.specs.Records.{fields_of}
 use Rattle.book_model.specs.Groups.{AreGroups}
 use Rattle.book_text.specs.PartialBook.{records_of}
 use Rattle.book_text.specs.Records.{no_records}
@@ -11,12 +10,12 @@ use Rattle.book_text.proofs.read.surveyed_book.Goals as goal
 
 pub second_pass-requires-clause-count : goal.second_pass-requires-clause-count
 second_pass-requires-clause-count c =
-    let counts = said-counts c.args.heading c.requires.rows.0 c.args.survey.entries.items (fields_of c.args.survey.texts) c.requires.rows.3 in
+    let counts = said-counts c.args.heading c.requires.rows.0 c.args.survey.entries.items c.args.survey.texts c.requires.rows.3 in
     counts.0 ∙ sym counts.1
 
 pub second_pass-requires-clause-few : goal.second_pass-requires-clause-few
 second_pass-requires-clause-few c =
-    let counts = said-counts c.args.heading c.requires.rows.0 c.args.survey.entries.items (fields_of c.args.survey.texts) c.requires.rows.3 in
+    let counts = said-counts c.args.heading c.requires.rows.0 c.args.survey.entries.items c.args.survey.texts c.requires.rows.3 in
     omega (arith, counts.0, c.requires.rows.1)
 
 pub returns-in_err-partial : goal.returns-in_err-partial
@@ -27,14 +26,14 @@ returns-in_err-partial c =
 pub whole_book-requires-clause-book : goal.whole_book-requires-clause-book
 whole_book-requires-clause-book c =
     let survey = c.args.survey in
-    let second = rows-said c.args.heading survey.names 2 no_records c.requires.rows.0 survey.entries.items (fields_of survey.texts) c.requires.rows.3 in
+    let second = rows-said c.args.heading survey.names 2 no_records c.requires.rows.0 survey.entries.items survey.texts c.requires.rows.3 in
     passes-book c.args.heading c.requires.rows.0 survey.names (records_of c.in_ok-partial.partial) c.requires.term c.requires.rows.2 (second ∙ c.in_ok-partial.ensures.value)
 
 pub whole_book-requires-clause-grouped : goal.whole_book-requires-clause-grouped
 whole_book-requires-clause-grouped c =
     let survey = c.args.survey in
     let book = c.in_ok-partial.partial in
-    let second = rows-said c.args.heading survey.names 2 no_records c.requires.rows.0 survey.entries.items (fields_of survey.texts) c.requires.rows.3 in
+    let second = rows-said c.args.heading survey.names 2 no_records c.requires.rows.0 survey.entries.items survey.texts c.requires.rows.3 in
     subst (λ (n : ℕ). AreGroups n book.variants.items book.groups)
     (passes-positions c.args.heading c.requires.rows.0 survey.names (records_of book) c.requires.rows.2 (second ∙ c.in_ok-partial.ensures.value)) c.in_ok-partial.ensures.grouped
 

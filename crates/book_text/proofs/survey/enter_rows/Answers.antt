@@ -1,6 +1,5 @@
 use Rattle.std.proofs.Common.{◌≡◌, ◌+◌, ◌<◌, ◌++◌, [], ◌∷◌, length, append_assoc, refl, sym, ap, ◌∙◌, arith}
 use Rattle.std.proofs.lemmas.List.{append-nil, length_push}
-use Rattle.csv.specs.Records.{fields_of}
 use Rattle.pb_base.specs.declared.limits.TheConstants.{MOST_TEXT_BYTES}
 use Rattle.book_text.specs.Entry.{text_of}
 use Rattle.book_text.specs.FirstPass.{entered_row}
@@ -13,13 +12,12 @@ use Rattle.book_text.proofs.survey.enter_rows.Goals as goal
 pub rows-init : goal.rows-init
 unfolding AreSaid
 rows-init c =
-    let (no_entries, no_texts, whole) = c.requires.none in
+    let (no_entries, no_texts) = c.requires.none in
     record {
       rest = rw no_entries refl;
       said = ([], refl, rw (no_entries, no_texts) tt);
       few = rw no_entries (omega (arith, c.requires.count));
       short = λ place. rw no_texts (omega arith);
-      whole = whole;
     }
 
 pub rows-preserved : goal.rows-preserved
@@ -28,12 +26,10 @@ rows-preserved c =
     let row = c.read.new.row in
     let next : c.rows.rows ≡ row ∷ c.read.new.self = rw c.if-branch.true at c.in_ok-read.ensures.next in
     let short = c.in_ok-read.ensures.short c.if-branch.true in
-    let texts : fields_of c.push_field.new.self ≡ fields_of c.rows.texts ++ text_of c.in-Ok.entry row ∷ [] =
-    rw (inv.whole, c.text_of.ensures) at c.in_ok-push_field-in-Ok.ensures.fields in
     let step = entered_row c.args.heading.now in
     let n = length c.rows.entries.items + 2 in
     let (read, whole, said) = inv.said in
-    rw (c.in_ok-push-in-Ok.ensures.items, texts) (record {
+    rw (c.in_ok-push-in-Ok.ensures.items, c.in_ok-add_text-in-Ok.ensures) (record {
       rest =
           let number : length (c.rows.entries.items ++ c.in-Ok.entry ∷ []) + 2 ≡ n + 1 = omega (arith, length_push c.rows.entries.items c.in-Ok.entry) in
           ap (λ m. pass step m c.enter_row.new.names c.read.new.self) number
@@ -42,11 +38,10 @@ rows-preserved c =
       said = (
         read ++ row ∷ [],
         whole ∙ ap (λ rows. read ++ rows) next ∙ sym (append_assoc read (row ∷ []) c.read.new.self),
-        said-push c.args.heading.now read c.rows.entries.items (fields_of c.rows.texts) row c.in-Ok.entry said c.in-Ok.ensures.entry,
+        said-push c.args.heading.now read c.rows.entries.items c.rows.texts row c.in-Ok.entry said c.in-Ok.ensures.entry,
       );
       few = omega (arith, length_push c.rows.entries.items c.in-Ok.entry, ap length next, inv.few);
-      short = short-push MOST_TEXT_BYTES (fields_of c.rows.texts) (text_of c.in-Ok.entry row) inv.short (text-short c.in-Ok.entry row short);
-      whole = c.in_ok-push_field-in-Ok.ensures.partial;
+      short = short-push MOST_TEXT_BYTES c.rows.texts (text_of c.in-Ok.entry row) inv.short (text-short c.in-Ok.entry row short);
     })
 
 pub rows-smaller : goal.rows-smaller

@@ -1,5 +1,4 @@
-use Rattle.std.proofs.Common.{◌≡◌, ◌≤◌, ◌+◌, ◌++◌, List, [], length}
-use Rattle.csv.specs.Records.{fields_of, partial_of}
+use Rattle.std.proofs.Common.{◌≡◌, ◌≤◌, ◌+◌, ◌++◌, List, length}
 use Rattle.pb_base.specs.declared.limits.TheConstants.{MOST_TEXT_BYTES}
 use Rattle.book_text.specs.FirstPass.{entered_row}
 use Rattle.book_text.specs.Pass.{pass}
@@ -11,10 +10,9 @@ use Rattle.book_text.proofs.survey.enter_rows.Given as goal
 abbrev pub invariant-rows : goal.invariant-rows
 invariant-rows l = record {
   rest : pass (entered_row l.heading) (length l.entries.items + 2) l.names l.rows ≡ pass (entered_row l.heading) 2 l.fn.names l.fn.rows;
-  said : (read : List Row) × (l.fn.rows ≡ read ++ l.rows) × AreSaid l.heading read l.entries.items (fields_of l.texts);
+  said : (read : List Row) × (l.fn.rows ≡ read ++ l.rows) × AreSaid l.heading read l.entries.items l.texts;
   few : length l.entries.items + length l.rows ≤ MOST_TEXT_BYTES;
-  short : IsShort (fields_of l.texts);
-  whole : partial_of l.texts ≡ [];
+  short : IsShort l.texts;
 }
 
 -- each row that is read is one fewer

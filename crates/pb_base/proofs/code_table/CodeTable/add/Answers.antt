@@ -1,4 +1,4 @@
 use Rattle.pb_base.proofs.code_table.CodeTable.add.Goals as goal
 
 pub returns : goal.returns
-returns c = rw (← c.self.view_is) c.add.ensures
+returns c = rw (← c.self.view_is) c.add-added.ensures
