@@ -3,6 +3,8 @@
 #![tactic(auto)]
 
 mod chain;
+mod checker;
+mod in_order;
 mod kernel;
 mod lit;
 mod pool;
@@ -12,6 +14,7 @@ mod running;
 mod steps;
 
 pub use chain::{Pair, ShortPair, StepFault};
+pub use checker::Checker;
 pub use kernel::Kernel;
 pub use lit::Lit;
 pub use pool::{Mark, Pool, Ref};

@@ -2,8 +2,9 @@
 ghost use Rattle.std.specs.Prelude.{◌≡◌, ◌+◌, ◌<◌, ◌≤◌, [], ◌∷◌, ◌++◌, length, take, slice_index_or, IfOk, OnOk, OnErr};
 ghost use Rattle.clause_pool.specs.Clause.{IsRising, clause_of};
 
+use crate::in_order::put_in_order;
 use crate::lit::Lit;
-use crate::region::{append, list_at, make_room};
+use crate::region::{list_at, make_room};
 use pb_base::Memory;
 use std::alloc::Global;
 use std::marker::Model;
@@ -113,11 +114,8 @@ impl Pool {
         ensures uses_lits { self.old.spare_lits ≤ self.new.spare_lits + length lits.now }
     {
         let at = self.starts.len();
-        self.scratch.clear();
-        self.scratch.extend_from_slice(lits).unwrap();
-        self.scratch.sort_unstable();
-        self.scratch.dedup();
-        append(&mut self.lits, &mut self.starts, &self.scratch);
+        self.starts.push_reserved(self.lits.len());
+        put_in_order(&mut self.lits, &mut self.scratch, lits);
         at
     }
 

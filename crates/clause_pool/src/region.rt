@@ -24,14 +24,29 @@ pub(crate) fn list_at<'a, T>(items: &'a [T], starts: &[usize], at: usize) -> &'a
 const LONG: usize = 65_536;
 
 /// Makes room for so many further items. A long vector grows by a quarter, so that little of it is empty.
+#[inline(always)]
 pub fn make_room<T>(items: &mut Vec<T>, more: usize) -> Result<(), AllocError>
     ensures items { items.new.items ≡ items.old.items }
     ensures len { vec_len items.new ≡ vec_len items.old }
     ensures ok { OnOk result (vec_len items.new + more ≤ vec_capacity items.new) }
     ensures capacity { vec_capacity items.old ≤ vec_capacity items.new }
 {
+    if more <= items.capacity() - items.len() {
+        return Ok(());
+    }
+    grow(items, more)
+}
+
+// The same where there is no room yet.
+#[inline(never)]
+fn grow<T>(items: &mut Vec<T>, more: usize) -> Result<(), AllocError>
+    ensures items { items.new.items ≡ items.old.items }
+    ensures len { vec_len items.new ≡ vec_len items.old }
+    ensures ok { OnOk result (vec_len items.new + more ≤ vec_capacity items.new) }
+    ensures capacity { vec_capacity items.old ≤ vec_capacity items.new }
+{
     let len = items.len();
-    if len < LONG || more <= items.capacity() - len {
+    if len < LONG {
         return items.reserve(more);
     }
     items.reserve_exact(more.max(len / 4))

@@ -28,7 +28,7 @@ line_of (Close question clause) pairs = close_line question clause
 line_of End pairs = end_line
 
 abbrev pub so_far_of : OpenSlice → SliceSoFar
-so_far_of s = record { slice = s.slice; clauses = s.kernel.clauses; left = drop s.closed s.to_close.items }
+so_far_of s = record { slice = s.slice; clauses = s.checker; left = drop s.closed s.to_close.items }
 
 abbrev pub stage_of : code.Stage → Stage
 stage_of Top = at_head

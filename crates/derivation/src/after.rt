@@ -13,11 +13,11 @@ ghost use Rattle.derivation.specs.Stage.{within};
 
 use crate::closing::to_close;
 use crate::fault::CertKind;
-use crate::laws::{coded_laws, kernel_laws};
+use crate::laws::{checker_laws, coded_laws};
 use crate::line::Line;
 use crate::stage::{OpenSlice, Stage};
 use book_model::{Book, Slice, is_good};
-use clause_pool::{Kernel, Lit, Pair, Ref, StepFault};
+use clause_pool::{Checker, Lit, Pair, Ref, StepFault};
 use clausify::coded_slice;
 use pb_base::{CodeList, CodeSet, Day, Fail, Memory};
 use std::alloc::Global;
@@ -160,11 +160,11 @@ fn open_slice(alloc: Global, book: &Book, slice: &Slice, number: u32) -> Result<
     let coded = coded_slice(alloc, book, slice)?;
     coded_laws(&coded);
     let to_close = to_close(alloc, &coded.questions)?;
-    let kernel = Kernel::of(alloc, coded.pool);
-    kernel_laws(&kernel);
+    let checker = Checker::of(alloc, coded.pool);
+    checker_laws(&checker);
     Ok(OpenSlice {
         slice: number,
-        kernel,
+        checker,
         to_close,
         closed: 0,
     })
@@ -204,12 +204,12 @@ fn after_within(
 fn derive(slice: &mut OpenSlice, start: Ref, pairs: &[Pair]) -> Result<(), Fail<CertKind>>
     requires { 0 < length pairs.now }
     ensures answer { Leaves result (within (so_far_of slice.new)) (with_clause (so_far_of slice.old)
-        (chain slice.old.kernel.clauses start pairs.now)) }
+        (chain slice.old.checker start pairs.now)) }
     ensures named { NamesKept (so_far_of slice.old) → OnOk result (NamesKept (so_far_of slice.new)) }
 {
-    match slice.kernel.resolve(start, pairs) {
+    match slice.checker.resolve(start, pairs) {
         Ok(_) => {
-            kernel_laws(&slice.kernel);
+            checker_laws(&slice.checker);
             Ok(())
         }
         Err(Fail::Refused(fault)) => Err(Fail::Refused(step_kind(fault))),
@@ -239,7 +239,7 @@ fn close_next(slice: &mut OpenSlice, question: u64, clause: Ref) -> Result<(), F
     if question != u64::from(next.question) {
         return Err(Fail::Refused(CertKind::NotClosed(next.question)));
     }
-    let pool = slice.kernel.pool();
+    let pool = slice.checker.pool();
     if clause >= pool.len() {
         return Err(Fail::Refused(CertKind::NoSuchStep));
     }

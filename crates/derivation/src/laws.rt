@@ -6,7 +6,7 @@ ghost use Rattle.book_model.specs.Book.{IsBook};
 
 use crate::pieces::Pieces;
 use book_model::Book;
-use clause_pool::Kernel;
+use clause_pool::Checker;
 use clausify::Coded;
 
 /// A book meets the conditions on its records, and no two of its codes have one name.
@@ -26,11 +26,11 @@ pub(crate) fn pieces_laws(texts: &Pieces)
     let _is_done = texts.is_done();
 }
 
-/// The clauses of a kernel can be counted.
-pub(crate) fn kernel_laws(kernel: &Kernel)
-    ensures { length kernel.now.clauses < 2 ^ 64 }
+/// The clauses of a checker can be counted.
+pub(crate) fn checker_laws(checker: &Checker)
+    ensures { length checker.now < 2 ^ 64 }
 {
-    let _count = kernel.pool().len();
+    let _count = checker.pool().len();
 }
 
 /// The variables of the clauses of a slice are counted in 32 bits.

@@ -1,7 +1,7 @@
 //! How far a certificate has been read.
 
 use crate::closing::ToClose;
-use clause_pool::Kernel;
+use clause_pool::Checker;
 
 /// What may stand on the next line of a certificate.
 #[derive(Drop)]
@@ -24,7 +24,7 @@ pub(crate) enum Stage {
 #[derive(Drop)]
 pub(crate) struct OpenSlice {
     pub(crate) slice: u32,
-    pub(crate) kernel: Kernel,
+    pub(crate) checker: Checker,
     /// The questions to close, in order.
     pub(crate) to_close: Vec<ToClose>,
     /// How many of them are closed.

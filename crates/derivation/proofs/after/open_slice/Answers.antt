@@ -14,8 +14,7 @@ to_close-requires c =
 pub returns-clause-named : goal.returns-clause-named
 returns-clause-named c =
     let coded = c.in_ok-coded.coded in
-    let kernel = c.of-kernel.result in
-    let clauses = ap (λ k. k.clauses) c.of-kernel.ensures in
+    let checker = c.of-checker.result in
     let asked = few_asked coded.questions.items (questions c.args.book.now c.args.slice.now.first) c.in_ok-coded.ensures.questions c.requires in
-    named_opened (record { slice = c.args.number; clauses = kernel.clauses; left = c.in_ok-to_close.to_close.items }) coded.questions.items coded.vars (omega arith) c.kernel_laws.ensures c.coded_laws.ensures
-    (subst (AreBelow (2 * coded.vars)) (sym clauses) c.in_ok-coded.ensures.ranges.literals_below) asked (c.in_ok-to_close.ensures ∙ ap (to_close 0) c.deref.ensures.value)
+    named_opened (record { slice = c.args.number; clauses = checker; left = c.in_ok-to_close.to_close.items }) coded.questions.items coded.vars (omega arith) c.checker_laws.ensures c.coded_laws.ensures
+    (subst (AreBelow (2 * coded.vars)) (sym c.of-checker.ensures) c.in_ok-coded.ensures.ranges.literals_below) asked (c.in_ok-to_close.ensures ∙ ap (to_close 0) c.deref.ensures.value)
