@@ -1,5 +1,5 @@
 -- An encoder that has made the clauses of items: it begins with none, and takes further ones.
-use Rattle.std.proofs.Common.{◌≡◌, ℕ, ◌+◌, ◌*◌, ◌≤◌, true, List, [], ◌∷◌, ◌++◌, length, sym, ap, subst, ◌∙◌, arith}
+use Rattle.std.proofs.Common.{◌≡◌, ℕ, ◌+◌, ◌*◌, ◌≤◌, Bool, true, List, [], ◌∷◌, ◌++◌, length, sym, ap, subst, ◌∙◌, arith}
 use Rattle.std.proofs.lemmas.List.{append-nil, take_all}
 use Rattle.clause_pool.specs.Literal.{literal}
 use Rattle.clause_pool.specs.Clause.{clause_of, AreBelow}
@@ -8,11 +8,12 @@ use Rattle.clause_pool.proofs.ClauseLaws.{IsBelow-clause_of}
 use Rattle.chains.specs.Growth.{given_of}
 use Rattle.clausify.specs.Encoding.{EncodesItem, EncodesItems}
 use Rattle.clausify.specs.Items.{Item, item_clauses, encoded_items, own_clauses}
+use Rattle.clausify.specs.Lifting.{CodesJust}
 use Rattle.clausify.specs.declared.encoder.Encoder.{Encoder}
 use Rattle.clausify.proofs.ItemLaws.{AllFit, item_clauses-append, variables_of-append}
 use Rattle.clausify.proofs.RangeLaws.{items_below, positive_below}
 use Rattle.solver.specs.Solver.{Solving}
-use Rattle.item_search.specs.Search.{items_variables, IsEncoded, IsOver}
+use Rattle.item_search.specs.Search.{items_variables, IsMadeOf, CodesSets, IsEncoded, IsOver}
 
 -- a new encoder has made no items
 pub encoded_none : (n : ℕ) (e : Encoder) → e.pool.clauses ≡ clause_of (literal n true ∷ []) ∷ [] → e.truth ≡ n → e.next ≡ n + 1 → IsEncoded [] e
@@ -66,11 +67,28 @@ pub made_below : (vars next : ℕ) (clauses given : List (List ℕ)) (kernel : D
 made_below vars next clauses given kernel made are count below =
     subst (AreBelow (2 * vars)) (sym (ap (λ (k : Derivation). k.clauses) made ∙ are)) (subst (λ (v : ℕ). AreBelow (2 * v) given) (sym count) below)
 
-pub made_over : (is : List Item) (e : Encoder) (vars : ℕ) (clauses : List (List ℕ)) (kernel : Derivation) (s : Solving) → IsEncoded is e → kernel ≡ kernel_of clauses
-    → clauses ≡ e.pool.clauses → vars ≡ e.next → s ≡ record { kernel = kernel; vars = vars; codes = e.truth } → IsOver e.truth is s
-made_over is e vars clauses kernel s h made are count solver = record {
-  clauses =
-      ap (λ (t : Solving). given_of t.kernel) solver ∙ ap (λ (k : Derivation). given_of k) made ∙ take_all (length clauses) clauses (omega arith) ∙ are ∙ h.clauses;
-  variables = ap (λ (t : Solving). t.vars) solver ∙ count ∙ h.variables;
+pub made_of : (e : Encoder) (vars : ℕ) (clauses : List (List ℕ)) (kernel : Derivation) (s : Solving) → kernel ≡ kernel_of clauses
+    → clauses ≡ e.pool.clauses → vars ≡ e.next → s ≡ record { kernel = kernel; vars = vars; codes = e.truth } → IsMadeOf e s
+made_of e vars clauses kernel s made are count solver = record {
+  clauses = ap (λ (t : Solving). given_of t.kernel) solver ∙ ap (λ (k : Derivation). given_of k) made ∙ take_all (length clauses) clauses (omega arith) ∙ are;
+  variables = ap (λ (t : Solving). t.vars) solver ∙ count;
   codes = ap (λ (t : Solving). t.codes) solver;
+}
+
+pub made_over : (is : List Item) (e : Encoder) (s : Solving) → IsEncoded is e → IsMadeOf e s → IsOver e.truth is s
+made_over is e s h made = record {
+  clauses = made.clauses ∙ h.clauses;
+  variables = made.variables ∙ h.variables;
+  codes = made.codes;
+}
+
+-- what the encoder's clauses say of sets is what the solver's do
+pub codes_made : (test : List Bool → Bool) (e : Encoder) (s : Solving) → e.truth ≤ e.next → CodesJust e.truth test e.pool.clauses e.next → IsMadeOf e s
+    → CodesSets e.truth test s
+codes_made test e s within codes made = record {
+  just =
+      subst (λ (v : ℕ). CodesJust e.truth test (given_of s.kernel) v) (sym made.variables)
+      (subst (λ (cs : List (List ℕ)). CodesJust e.truth test cs e.next) (sym made.clauses) codes);
+  codes = made.codes;
+  within = omega (arith, made.variables, within);
 }

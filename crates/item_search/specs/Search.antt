@@ -1,17 +1,28 @@
--- What a search over the clauses of items says of sets of codes. The sets that meet the items are told by a test.
+-- What a search over the clauses of a solver says of sets of codes: just the sets that pass a test begin a satisfying assignment.
+-- Where the clauses are those of items, the test tells the sets that meet them.
+--     IsMadeOf e s           a solver is over just the clauses that an encoder made
+--     CodesSets n test s     just the sets of n codes that pass the test begin what satisfies a solver's clauses
 --     items_variables n is   how many variables the items have together with n codes and the variable that is always true
 --     IsEncoded is e         an encoder has made just the clauses of these items
 --     IsOver n is s          a solver is over just the clauses of these items
 --     CodesItems n is test   just the sets that pass the test meet the items
 --     AreTrue x lits         each of these literals of codes is true of the set
 --     IsFound, NoneFound     a set passes the test with these literals true; none does
+--     AreDenied c lits       each literal of a clause is the complement of one of these
+--     IsRefused n test k lits at
+--                            none does, by the clause at a place of a kernel, nor with any other literals that deny this clause
+--     denied_literals k at lits
+--                            those of the literals that the clause at a place denies
+--     IsAnswered n test s lits budget outcome
+--                            what comes of a solver's search for such a set
 --     IsOutcome n is test lits budget outcome
---                            what comes of the search for such a set
-use Rattle.std.specs.Prelude.{◌≡◌, ℕ, ◌+◌, Bool, true, List, length}
+--                            the same over the clauses of items
+use Rattle.std.specs.Prelude.{◌≡◌, ℕ, ◌+◌, ◌≤◌, Bool, true, List, [], Some, length, filter, slice_get, slice_index_or}
 use Rattle.pb_base.specs.Sets.{has as has_code}
 use Rattle.chains.specs.Growth.{given_of}
-use Rattle.clause_pool.specs.Literal.{is_true}
+use Rattle.clause_pool.specs.Literal.{complement, is_true}
 use Rattle.clause_pool.specs.Clause.{has}
+use Rattle.clause_pool.specs.Derivation.{Derivation}
 use Rattle.clausify.specs.Items.{Item, encoded_items, variables_of}
 use Rattle.clausify.specs.Lifting.{CodesJust}
 use Rattle.clausify.specs.declared.encoder.Encoder.{Encoder}
@@ -26,6 +37,16 @@ items_variables n is = n + 1 + variables_of is
 pub record IsEncoded (is : List Item) (e : Encoder) : Type 0 where
   pub clauses : e.pool.clauses ≡ encoded_items e.truth (e.truth + 1) is
   pub variables : e.next ≡ items_variables e.truth is
+
+pub record IsMadeOf (e : Encoder) (s : Solving) : Type 0 where
+  pub clauses : given_of s.kernel ≡ e.pool.clauses
+  pub variables : s.vars ≡ e.next
+  pub codes : s.codes ≡ e.truth
+
+pub record CodesSets (n : ℕ) (test : List Bool → Bool) (s : Solving) : Type 0 where
+  pub just : CodesJust n test (given_of s.kernel) s.vars
+  pub codes : s.codes ≡ n
+  pub within : n ≤ s.vars
 
 pub record IsOver (n : ℕ) (is : List Item) (s : Solving) : Type 0 where
   pub clauses : given_of s.kernel ≡ encoded_items n (n + 1) is
@@ -45,6 +66,24 @@ pub record IsFound (n : ℕ) (test : List Bool → Bool) (lits : List ℕ) (x : 
 
 abbrev pub NoneFound : ℕ → (List Bool → Bool) → List ℕ → Type 0
 NoneFound n test lits = (x : List Bool) → IsFound n test lits x → ⊥
+
+abbrev pub AreDenied : List ℕ → List ℕ → Type 0
+AreDenied clause lits = (l : ℕ) → has clause l ≡ true → has lits (complement l) ≡ true
+
+-- so the literals that the clause denies are enough: what isn't among them may be left out
+pub record IsRefused (n : ℕ) (test : List Bool → Bool) (k : Derivation) (lits : List ℕ) (at : ℕ) : Type 0 where
+  pub clause : List ℕ
+  pub there : slice_get k.clauses at ≡ Some clause
+  pub denied : AreDenied clause lits
+  pub none : (some : List ℕ) → AreDenied clause some → NoneFound n test some
+
+abbrev pub denied_literals : Derivation → ℕ → List ℕ → List ℕ
+denied_literals k at lits = filter (λ l. has (slice_index_or k.clauses at []) (complement l)) lits
+
+abbrev pub IsAnswered : ℕ → (List Bool → Bool) → Solving → List ℕ → ℕ → Outcome → Type 0
+IsAnswered n test s lits budget (Shown x) = IsFound n test lits x
+IsAnswered n test s lits budget (NotShown at) = IsRefused n test s.kernel lits at
+IsAnswered n test s lits budget (Left learnt) = IsSpent s.vars (given_of s.kernel) lits budget learnt.clauses
 
 -- as many clauses as the budget allows were learnt, each of which says what propagation didn't
 abbrev pub IsLeft : ℕ → List Item → List ℕ → ℕ → List (List ℕ) → Type 0

@@ -1,8 +1,10 @@
-//! A solver over the clauses of items, and what its answers say of the sets of codes that meet them.
+//! Searches for sets of codes by a solver, over the clauses of items and over others.
 #![tactic(auto)]
 
+mod denials;
 mod outcome;
 mod searching;
 
+pub use denials::denied;
 pub use outcome::Outcome;
 pub use searching::{search, solver_over};

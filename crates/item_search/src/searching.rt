@@ -1,4 +1,4 @@
-//! Searches for sets that meet items.
+//! Searches for sets that a solver's clauses are satisfied over.
 ghost use Rattle.std.specs.Prelude.{◌≡◌, ◌*◌, ◌<◌, ◌≤◌, ℕ, Bool, List, IfOk};
 ghost use Rattle.pb_base.specs.declared.limits.TheConstants.{MOST_BUDGET};
 ghost use Rattle.clause_pool.specs.Clause.{AreBelow};
@@ -6,7 +6,7 @@ ghost use Rattle.propagate.specs.Trail.{AreBelow as AreLiterals};
 ghost use Rattle.propagate.specs.Quiet.{IsConsistent};
 ghost use Rattle.solver.specs.Solver.{IsRight, Onwards};
 ghost use Rattle.clausify.specs.Items.{Item};
-ghost use Rattle.item_search.specs.Search.{IsEncoded, IsOver, CodesItems, IsOutcome};
+ghost use Rattle.item_search.specs.Search.{IsMadeOf, CodesSets, IsEncoded, IsOver, CodesItems, IsAnswered, IsOutcome};
 
 use crate::outcome::Outcome;
 use clause_pool::{Kernel, Lit};
@@ -19,7 +19,8 @@ use std::alloc::Global;
 pub fn solver_over(alloc: Global, encoder: Encoder) -> Result<Solver, Memory>
     requires below { AreBelow (2 * encoder.next) encoder.pool.clauses }
     requires codes { encoder.truth ≤ encoder.next }
-    ensures { (is : List Item) → IsEncoded is encoder → IfOk result (IsOver encoder.truth is) }
+    ensures made { IfOk result (IsMadeOf encoder) }
+    ensures over { (is : List Item) → IsEncoded is encoder → IfOk result (IsOver encoder.truth is) }
 {
     let codes = encoder.truth;
     let Encoded {
@@ -32,10 +33,10 @@ pub fn solver_over(alloc: Global, encoder: Encoder) -> Result<Solver, Memory>
     Ok(solver)
 }
 
-/// Looks for a set of codes that meets the items of a solver, and of which each of these literals is true. They are literals of
-/// codes, and may be none. A search that learns as many clauses as the budget allows is left. After want of memory the same and
-/// other sets may be looked for.
-#[tactic(auto, using(crate::proofs::SearchLaws::over_onwards))]
+/// Looks for a set of codes that begins what satisfies a solver's clauses, as one that meets its items, and of which each of these
+/// literals is true. They are literals of codes, and may be none. A search that learns as many clauses as the budget allows is left.
+/// After want of memory the same and other sets may be looked for.
+#[tactic(auto, using(crate::proofs::SearchLaws::over_onwards, crate::proofs::SearchLaws::codes_onwards))]
 pub fn search(solver: &mut Solver, lits: &[Lit], budget: u32) -> Result<Outcome, Memory>
     requires within { solver.old.codes ≤ solver.old.vars }
     requires below { AreLiterals lits.now (2 * solver.old.codes) }
@@ -44,6 +45,10 @@ pub fn search(solver: &mut Solver, lits: &[Lit], budget: u32) -> Result<Outcome,
     requires most { budget ≤ MOST_BUDGET }
     ensures onwards { Onwards solver.old solver.new }
     ensures over { (n : ℕ) (is : List Item) → IsOver n is solver.old → IsOver n is solver.new }
+    ensures codes { (n : ℕ) (test : List Bool → Bool) → CodesSets n test solver.old
+        → CodesSets n test solver.new }
+    ensures answered { (n : ℕ) (test : List Bool → Bool) → CodesSets n test solver.old
+        → IfOk result (IsAnswered n test solver.new lits.now budget) }
     ensures outcome { (n : ℕ) (is : List Item) (test : List Bool → Bool) → IsOver n is solver.old
         → CodesItems n is test → IfOk result (IsOutcome n is test lits.now budget) }
 {
@@ -55,8 +60,8 @@ pub fn search(solver: &mut Solver, lits: &[Lit], budget: u32) -> Result<Outcome,
 fn read_answer(solver: &Solver, lits: &[Lit], budget: u32, answer: Answer) -> Outcome
     requires below { AreLiterals lits.now (2 * solver.now.codes) }
     requires right { IsRight solver.now lits.now budget answer }
-    ensures { (n : ℕ) (is : List Item) (test : List Bool → Bool) → IsOver n is solver.now
-        → CodesItems n is test → IsOutcome n is test lits.now budget result }
+    ensures { (n : ℕ) (test : List Bool → Bool) → CodesSets n test solver.now
+        → IsAnswered n test solver.now lits.now budget result }
 {
     match answer {
         Answer::Set(set) => Outcome::Shown(set),

@@ -20,4 +20,4 @@ solver_over-requires-clause-codes c =
 pub returns : goal.returns
 returns c =
     rw c.in_ok-encoder.ensures.truth at
-    (c.solver_over.ensures (blame_items c.args.book.now c.args.entries.now c.args.rule.now) c.in_ok-encoder.ensures.encoded)
+    (c.solver_over.ensures.over (blame_items c.args.book.now c.args.entries.now c.args.rule.now) c.in_ok-encoder.ensures.encoded)

@@ -55,4 +55,4 @@ returns c =
       codes = c.in_ok-add_chosen.ensures;
     } in
     subst (λ (n : ℕ). IfOk c.solver_over.result (IsOver n (left_items b c.args.day chosen))) (made_truth b c.args.day chosen m0 m1 m2 made)
-    (c.solver_over.ensures (left_items b c.args.day chosen) (made_encoded b c.args.day chosen m0 m1 m2 made))
+    (c.solver_over.ensures.over (left_items b c.args.day chosen) (made_encoded b c.args.day chosen m0 m1 m2 made))

@@ -46,4 +46,4 @@ returns c =
       rules = c.in_ok-add_rules.ensures.made;
     } in
     subst (λ (n : ℕ). IfOk c.solver_over.result (IsOver n (rule_items b c.args.day))) (made_truth b c.args.day m0 m1 made)
-    (c.solver_over.ensures (rule_items b c.args.day) (made_encoded b c.args.day m0 m1 made))
+    (c.solver_over.ensures.over (rule_items b c.args.day) (made_encoded b c.args.day m0 m1 made))

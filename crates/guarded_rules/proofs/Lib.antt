@@ -1,0 +1,6 @@
+pub mod GuardLaws
+pub mod GuardedLaws
+pub mod BelowLaws
+pub mod MadeLaws
+pub mod AgreeLaws
+mod WorkedGuards
