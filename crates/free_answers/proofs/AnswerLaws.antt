@@ -18,11 +18,6 @@ use Rattle.parts_usage.specs.Fault.{fault_of_name, order_fault}
 use Rattle.parts_usage.specs.declared.fault.OrderFault.TheVariants.{DayOutsideTerm}
 use Rattle.free_answers.specs.Answer.{chosen_of}
 
-no_name_fault : (within : Bool) (fault : Option NameFault) → cond within (option_map fault_of_name fault) (Some DayOutsideTerm) ≡ None → fault ≡ None
-no_name_fault true None h = refl
-no_name_fault true (Some fault) h = absurd (cc)
-no_name_fault false fault h = absurd (cc)
-
 in_term : (within : Bool) (fault : Option NameFault) → cond within (option_map fault_of_name fault) (Some DayOutsideTerm) ≡ None → within ≡ true
 in_term true fault h = refl
 in_term false fault h = absurd (cc)
@@ -30,10 +25,6 @@ in_term false fault h = absurd (cc)
 -- the day of an order without a fault is in the term
 pub day_in_term : (b : Contents) (day : ℕ) (names : List (List ℕ)) → order_fault b day names ≡ None → is_within b.first b.last day ≡ true
 day_in_term b day names h = in_term (is_within b.first b.last day) (first_fault b.codes [] names) h
-
--- an order without a fault names codes
-pub names_faultless : (b : Contents) (day : ℕ) (names : List (List ℕ)) → order_fault b day names ≡ None → first_fault b.codes [] names ≡ None
-names_faultless b day names h = no_name_fault (is_within b.first b.last day) (first_fault b.codes [] names) h
 
 -- what is answered behind the test for a fault
 pub ok_behind : {A E : Type 0} (fault : Option E) (o o' : A) → unless fault (Ok o) ≡ Ok o' → (fault ≡ None) × (o' ≡ o)
@@ -43,10 +34,6 @@ ok_behind (Some fault) o o' h = absurd (cc)
 pub err_behind : {A E : Type 0} (fault : Option E) (o : A) (e : E) → unless fault (Ok o) ≡ Err e → fault ≡ Some e
 err_behind None o e h = absurd (cc)
 err_behind (Some fault) o e h = cc
-
-pub refused_never : {A E : Type 0} (fault : Option E) (o : A) (e : E) → fault ≡ None → unless fault (Ok o) ≡ Err e → ⊥
-refused_never None o e none h = absurd (cc)
-refused_never (Some fault) o e none h = absurd (cc)
 
 -- a call that fails names the fault, if it refuses
 pub fail_behind : {A E : Type 0} (fault : Option E) (o : A) (fail : Fail E) → Gives {U = A} {A = A} {E = E} (Err fail) (λ value. value) (unless fault (Ok o))

@@ -2,7 +2,6 @@
 ghost use Rattle.std.specs.Prelude.{◌≡◌, ◌<◌, ◌≤◌, IfOk, None, Some};
 ghost use Rattle.pb_base.specs.Answers.{IfRefused};
 ghost use Rattle.pb_base.specs.declared.limits.TheConstants.{MOST_BUDGET};
-ghost use Rattle.pb_base.specs.NamedSet.{named};
 ghost use Rattle.left_cars.specs.Freedom.{IsFree};
 ghost use Rattle.left_laws.specs.Laws.{OrdersAreSo};
 ghost use Rattle.parts_usage.specs.Fault.{order_fault};
@@ -13,7 +12,7 @@ use crate::chosen::chosen_of;
 use book_model::Book;
 use left_cars::{Freedom, free_codes};
 use left_laws::left_laws;
-use parts_usage::{OrderFault, Outcome, outcome};
+use parts_usage::{OrderFault, Outcome, faultless_set, outcome};
 use pb_base::{CodeName, CodeSet, Day, Fail, Memory};
 use std::alloc::Global;
 use supplement::Completer;
@@ -98,20 +97,8 @@ fn completed_set(
     requires { order_fault book.now day names.now ≡ None }
     ensures { IfOk result (λ set. set ≡ completed_of book.now day names.now) }
 {
-    let ordered = ordered_set(alloc, book, day, names)?;
+    let ordered = faultless_set(alloc, book, day, names)?;
     let completer = Completer::new(alloc, book, day)?;
     let completed = completer.complete(alloc, ordered)?;
     Ok(completed.set)
-}
-
-// The set of the codes that the names name.
-fn ordered_set(alloc: Global, book: &Book, day: Day, names: &[CodeName]) -> Result<CodeSet, Memory>
-    requires { order_fault book.now day names.now ≡ None }
-    ensures { IfOk result (λ set. set ≡ named book.now.codes names.now) }
-{
-    match CodeSet::of_names(alloc, book.codes(), names) {
-        Ok(set) => Ok(set),
-        Err(Fail::Refused(_)) => unreachable!(),
-        Err(Fail::Memory) => Err(Memory),
-    }
 }

@@ -1,12 +1,12 @@
 //! Whether an order is accepted, without its parts list.
 ghost use Rattle.std.specs.Prelude.{◌≡◌, IfOk, Some, true, false, length};
-ghost use Rattle.order_added.specs.Accepted.{ordered_of};
 ghost use Rattle.order_added.specs.Judging.{passes, is_buildable};
+ghost use Rattle.parts_usage.specs.Ordered.{ordered_of};
 
 use crate::demanding::Demanding;
-use book_model::{Book, active};
-use parts_usage::{first_broken, first_unfit};
-use pb_base::{CodeName, CodeSet, Day, Fail, Memory};
+use book_model::Book;
+use parts_usage::{find_ordered_set, first_broken, first_unfit};
+use pb_base::{CodeName, CodeSet, Day, Memory};
 use std::alloc::Global;
 use std::marker::Model;
 use supplement::Completer;
@@ -74,7 +74,7 @@ impl<'a> Judge<'a> {
     ) -> Result<bool, Memory>
         ensures { IfOk result (λ passed. passed ≡ passes self.now names.now) }
     {
-        let found = ordered_set(alloc, self.book, self.day, names)?;
+        let found = find_ordered_set(alloc, self.book, self.day, names)?;
         match found {
             Some(ordered) => self.passes_ordered(alloc, names, taken, ordered),
             None => Ok(false),
@@ -109,25 +109,5 @@ impl<'a> Judge<'a> {
             return false;
         }
         !self.positions || first_unfit(self.book, self.day, set).is_none()
-    }
-}
-
-// The set of the codes that an order for this day names; None where the order has a fault.
-fn ordered_set(
-    alloc: Global,
-    book: &Book,
-    day: Day,
-    names: &[CodeName],
-) -> Result<Option<CodeSet>, Memory>
-    ensures { IfOk result (λ found. found ≡ ordered_of book.now day names.now) }
-{
-    let term = book.term();
-    if !active(term.first, term.last, day) {
-        return Ok(None);
-    }
-    match CodeSet::of_names(alloc, book.codes(), names) {
-        Ok(set) => Ok(Some(set)),
-        Err(Fail::Refused(_)) => Ok(None),
-        Err(Fail::Memory) => Err(Memory),
     }
 }

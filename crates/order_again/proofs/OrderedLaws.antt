@@ -1,14 +1,12 @@
 -- What an order comes to, by its codes and the rules alone.
 use Rattle.std.proofs.Common.{All, ◌≡◌, ℕ, suc, Bool, true, false, cond, List, [], ◌∷◌, Option, Some, None, Ok, Err, length, refl, sym, ap, subst, ◌∙◌}
 use Rattle.std.specs.List.{list_any}
-use Rattle.std.specs.Option.{option_map}
-use Rattle.std.specs.Prelude.{is_ok, nat_le, if◌then◌else◌}
+use Rattle.std.specs.Prelude.{is_ok, nat_le}
 use Rattle.std.proofs.lemmas.Bool.{and_from, and_parts, eq-eqb, leb-true, not_from_false, false≢true}
 use Rattle.std.proofs.lemmas.List.{length-map}
 use Rattle.pb_base.specs.Names.{same_name}
-use Rattle.pb_base.specs.NamedSet.{first_fault, named, set_of_names}
+use Rattle.pb_base.specs.NamedSet.{named}
 use Rattle.pb_base.specs.Results.{unless}
-use Rattle.pb_base.specs.declared.named_set.NameFault.{NameFault}
 use Rattle.book_model.specs.Activity.{is_within}
 use Rattle.book_model.specs.Book.{IsBook, SupplementFits}
 use Rattle.book_model.specs.Contents.{Contents}
@@ -17,11 +15,10 @@ use Rattle.book_model.specs.Parts.{parts, selected}
 use Rattle.book_model.specs.Sound.{IsReleasable, is_fit, are_fit_from}
 use Rattle.book_model.specs.declared.record.Position.{Position}
 use Rattle.parts_usage.specs.Broken.{first_broken_of}
-use Rattle.parts_usage.specs.Fault.{fault_of_name, order_fault}
+use Rattle.parts_usage.specs.Fault.{order_fault}
 use Rattle.parts_usage.specs.Outcome.{judged, outcome_of, outcome_of_set}
 use Rattle.parts_usage.specs.Unfit.{first_unfit_from, first_unfit_of}
 use Rattle.parts_usage.specs.declared.fault.OrderFault.{OrderFault}
-use Rattle.parts_usage.specs.declared.fault.OrderFault.TheVariants.{DayOutsideTerm}
 use Rattle.parts_usage.specs.declared.judgement.Outcome.{Outcome}
 use Rattle.parts_usage.specs.declared.judgement.Outcome.TheVariants as outcome
 use Rattle.parts_usage.specs.declared.unfit.Unfit.{Unfit}
@@ -33,43 +30,11 @@ use Rattle.supplement.proofs.Laws.{is_completed-completion}
 use Rattle.chosen_parts.proofs.FewLaws.{few_from_sound}
 use Rattle.chosen_parts.proofs.PlaceLaws.{none_found}
 use Rattle.order_again.specs.Again.{IsSameAgain, IsAgain, IsAgainBy}
-use Rattle.order_again.specs.Ordered.{unless_fault, ordered_of}
+use Rattle.parts_usage.specs.Ordered.{unless_fault, ordered_of}
 use Rattle.order_again.specs.declared.outcome.Again.{Again}
 use Rattle.order_again.specs.declared.outcome.Again.TheVariants.{Refused}
 
 -- the codes of an order
-
-pub outside : (b : Contents) (day : ℕ) (names : List (List ℕ)) → is_within b.first b.last day ≡ false → ordered_of b day names ≡ None
-outside b day names out = ap (λ w. unless_fault (if w then option_map fault_of_name (first_fault b.codes [] names) else Some DayOutsideTerm) (named b.codes names)) out
-
-pub well_named : (b : Contents) (day : ℕ) (names : List (List ℕ)) (set : List Bool) → is_within b.first b.last day ≡ true → set_of_names b.codes names ≡ Ok set → ordered_of b day names ≡ Some set
-well_named b day names set within is =
-    ap (λ w. unless_fault (if w then option_map fault_of_name (first_fault b.codes [] names) else Some DayOutsideTerm) (named b.codes names)) within
-    ∙ by (first_fault b.codes [] names) is
-  where
-    by : (found : Option NameFault) → unless found (Ok (named b.codes names)) ≡ Ok set → unless_fault (option_map fault_of_name found) (named b.codes names) ≡ Some set
-    by None h = cc
-    by (Some fault) h = absurd (cc)
-
-pub misnamed : (b : Contents) (day : ℕ) (names : List (List ℕ)) (fault : NameFault) → is_within b.first b.last day ≡ true → set_of_names b.codes names ≡ Err fault → ordered_of b day names ≡ None
-misnamed b day names fault within is =
-    ap (λ w. unless_fault (if w then option_map fault_of_name (first_fault b.codes [] names) else Some DayOutsideTerm) (named b.codes names)) within
-    ∙ by (first_fault b.codes [] names) is
-  where
-    by : (found : Option NameFault) → unless found (Ok (named b.codes names)) ≡ Err fault → unless_fault (option_map fault_of_name found) (named b.codes names) ≡ None
-    by None h = absurd (cc)
-    by (Some other) h = refl
-
-pub record IsOrdered (b : Contents) (day : ℕ) (names : List (List ℕ)) (set : List Bool) : Type 0 where
-  pub faultless : order_fault b day names ≡ None
-  pub is : set ≡ named b.codes names
-
-pub ordered_is : (b : Contents) (day : ℕ) (names : List (List ℕ)) (set : List Bool) → ordered_of b day names ≡ Some set → IsOrdered b day names set
-ordered_is b day names set h = by (order_fault b day names) refl h
-  where
-    by : (fault : Option OrderFault) → order_fault b day names ≡ fault → unless_fault fault (named b.codes names) ≡ Some set → IsOrdered b day names set
-    by None found is = record { faultless = found; is = cc }
-    by (Some fault) found is = absurd (cc)
 
 pub fault_found : (b : Contents) (day : ℕ) (names : List (List ℕ)) → ordered_of b day names ≡ None → (fault : OrderFault) × (outcome_of b day names ≡ Err fault)
 fault_found b day names h = by (order_fault b day names) refl h

@@ -1,4 +1,3 @@
 pub mod Again
-pub mod Ordered
 pub mod StockText
 pub mod ImpactText

@@ -2,15 +2,16 @@
 ghost use Rattle.std.specs.Prelude.{◌≡◌, None, IfOk, length, true};
 ghost use Rattle.pb_base.specs.NamedSet.{named};
 ghost use Rattle.parts_usage.specs.Fault.{order_fault};
+ghost use Rattle.parts_usage.specs.Ordered.{ordered_of};
 ghost use Rattle.release.specs.Accepting.{accepts};
 ghost use Rattle.release.specs.Orders.{supplemented};
 ghost use Rattle.chosen_parts.specs.Chosen.{AreFew};
 ghost use Rattle.order_again.specs.Again.{IsAgain, IsSameAgain};
-ghost use Rattle.order_again.specs.Ordered.{ordered_of};
 
-use crate::completed::{completed_set, ordered_set};
+use crate::completed::completed_set;
 use crate::outcome::Again;
 use chosen_parts::same_parts;
+use parts_usage::find_ordered_set;
 use pb_base::{CodeName, CodeSet, Day, Fail, Memory};
 use release::{Judged, Released, judge};
 use std::alloc::Global;
@@ -28,7 +29,7 @@ pub(crate) fn judge_again(
     ensures { IfOk result (IsAgain own.now.book to.now.book day codes.now) }
 {
     let book = to.book();
-    let found = ordered_set(alloc, book, day, codes)?;
+    let found = find_ordered_set(alloc, book, day, codes)?;
     match found {
         Some(ordered) => judge_ordered(alloc, own, to, day, codes, ordered),
         None => fault_again(alloc, own, to, day, codes),
@@ -112,7 +113,7 @@ fn own_set(alloc: Global, own: &Released, day: Day, codes: &[CodeName]) -> Resul
 {
     let book = own.book();
     let _codes = book.codes();
-    let found = ordered_set(alloc, book, day, codes)?;
+    let found = find_ordered_set(alloc, book, day, codes)?;
     match found {
         Some(ordered) => {
             let set = completed_set(alloc, own, day, ordered)?;

@@ -1,5 +1,5 @@
 //! What an order comes to, and how it would be accepted.
-ghost use Rattle.std.specs.Prelude.{◌≡◌, ◌<◌, ◌≤◌, IfOk, None, Ok, Some, false};
+ghost use Rattle.std.specs.Prelude.{◌≡◌, ◌<◌, ◌≤◌, IfOk, None, Ok, Some};
 ghost use Rattle.pb_base.specs.Answers.{IfRefused};
 ghost use Rattle.pb_base.specs.NamedSet.{named};
 ghost use Rattle.pb_base.specs.declared.limits.TheConstants.{MOST_BUDGET};
@@ -13,8 +13,8 @@ use crate::answer::{Repair, WhyAnswer};
 use crate::keeping::repair;
 use crate::places::chosen_of;
 use book_model::Book;
-use parts_usage::{OrderFault, Outcome, outcome};
-use pb_base::{CodeName, CodeSet, Day, Fail, Memory};
+use parts_usage::{OrderFault, Outcome, faultless_set, outcome};
+use pb_base::{CodeName, Day, Fail, Memory};
 use std::alloc::Global;
 use supplement::{AddedList, Completer};
 
@@ -84,22 +84,10 @@ fn added_by(alloc: Global, book: &Book, day: Day, names: &[CodeName]) -> Result<
     requires { order_fault book.now day names.now ≡ None }
     ensures { IfOk result (λ added. added ≡ (completion_of book.now day (named book.now.codes names.now)).added) }
 {
-    let ordered = ordered_set(alloc, book, day, names)?;
+    let ordered = faultless_set(alloc, book, day, names)?;
     let completer = Completer::new(alloc, book, day)?;
     let completed = completer.complete(alloc, ordered)?;
     Ok(completed.added)
-}
-
-// The set of the codes that the names name.
-fn ordered_set(alloc: Global, book: &Book, day: Day, names: &[CodeName]) -> Result<CodeSet, Memory>
-    requires { order_fault book.now day names.now ≡ None }
-    ensures { IfOk result (λ set. set ≡ named book.now.codes names.now) }
-{
-    match CodeSet::of_names(alloc, book.codes(), names) {
-        Ok(set) => Ok(set),
-        Err(Fail::Refused(_)) => unreachable!(),
-        Err(Fail::Memory) => Err(Memory),
-    }
 }
 
 // How an order of these codes that comes to this would be accepted.

@@ -1,2 +1,3 @@
 mod Guards
 mod WorkedRows
+pub mod OrderedLaws

@@ -16,6 +16,6 @@ pub use fault::OrderFault;
 pub use guard_table::GuardTable;
 pub use judgement::Outcome;
 pub use order::outcome;
-pub use ordered::ordered_set;
+pub use ordered::{faultless_set, find_ordered_set, ordered_set};
 pub use parts_list::{Line, PartsList, select};
 pub use unfit::{Unfit, first_unfit};

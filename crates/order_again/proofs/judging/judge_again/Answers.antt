@@ -1,7 +1,7 @@
 use Rattle.std.proofs.Common.{◌≡◌, Some, ap, sym, ◌∙◌}
 use Rattle.book_model.specs.Contents.{Contents}
-use Rattle.order_again.specs.Ordered.{ordered_of}
-use Rattle.order_again.proofs.OrderedLaws.{ordered_is}
+use Rattle.parts_usage.specs.Ordered.{ordered_of}
+use Rattle.parts_usage.proofs.OrderedLaws.{ordered_is}
 use Rattle.order_again.proofs.judging.judge_again.Goals as goal
 
 pub judge_ordered-requires-clause-faultless : goal.judge_ordered-requires-clause-faultless

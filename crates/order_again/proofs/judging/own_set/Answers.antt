@@ -1,9 +1,10 @@
-use Rattle.std.proofs.Common.{◌≡◌, Some, length, refl, ap, sym, subst, ◌∙◌}
+use Rattle.std.proofs.Common.{◌≡◌, Some, length, ap, sym, subst, ◌∙◌}
 use Rattle.book_model.specs.Book.{IsBook}
 use Rattle.book_model.specs.Contents.{Contents}
 use Rattle.chosen_parts.specs.Chosen.{AreFew}
-use Rattle.order_again.specs.Ordered.{ordered_of}
-use Rattle.order_again.proofs.OrderedLaws.{IsOrdered, ordered_is, length-named, set_is, accepts_ordered, few_accepted}
+use Rattle.parts_usage.specs.Ordered.{ordered_of}
+use Rattle.parts_usage.proofs.OrderedLaws.{IsOrdered, ordered_is}
+use Rattle.order_again.proofs.OrderedLaws.{length-named, set_is, accepts_ordered, few_accepted}
 use Rattle.order_again.proofs.judging.own_set.Goals as goal
 
 pub completed_set-requires : goal.completed_set-requires

@@ -1,6 +1,6 @@
 use Rattle.std.proofs.Common.{◌≡◌, sym, subst, ◌∙◌}
 use Rattle.std.specs.Prelude.{None}
-use Rattle.order_added.specs.Accepted.{ordered_of}
+use Rattle.parts_usage.specs.Ordered.{ordered_of}
 use Rattle.order_added.specs.Judging.{Judging}
 use Rattle.order_added.proofs.AcceptLaws.{faulty}
 use Rattle.order_added.proofs.judge.Judge.passes.Goals as goal
