@@ -1,5 +1,5 @@
 -- Two callers at one desk: what each of them sees, what is told, and what the definitions refuse.
-use Rattle.std.proofs.Common.{◌≡◌, ℕ, true, false, List, [], ◌∷◌, refl, ap}
+use Rattle.std.proofs.Common.{◌≡◌, ℕ, true, false, List, [], ◌∷◌, Option, refl, ap}
 use Rattle.std.specs.Prelude.{codes}
 use Rattle.std.specs.Fmt.{digits}
 use Rattle.pb_outside.specs.Faults.{Faults}
@@ -75,7 +75,7 @@ orders_unsettled = refl
 drafts_settled : is_settled (answer.Say (reply.Full full.Drafts)) ≡ true
 drafts_settled = refl
 
-module _ (r : Release) (faults : Faults) where
+module _ (r : Release) (faults : Faults) (calls : Option ℕ) where
   abbrev the_book : KeptBook
   the_book = record { draft = codes "T"; revision = 1; released = r; withdrawn = false }
 
@@ -107,13 +107,13 @@ module _ (r : Release) (faults : Faults) where
 
   -- a desk at which all callers share their numbers is refused
   numbers_apart : (new : State)
-      → IsToldAlone one (record { tables = both; faults = faults }) (entry (event.Place one 2 another) (answer.Say (reply.NumberUsed 1)) new ∷ []) → ⊥
+      → IsToldAlone one (record { tables = both; faults = faults; calls = calls }) (entry (event.Place one 2 another) (answer.Say (reply.NumberUsed 1)) new ∷ []) → ⊥
   unfolding place to_place book_of
   numbers_apart new is = let told : answer.Say (reply.NumberUsed 1) ∷ [] ≡ answer.Placed ∷ [] = is.told in cc
 
   -- and so is one that lists the order of another caller
   lists_apart : (new : State)
-      → IsToldAlone third (record { tables = both; faults = faults })
+      → IsToldAlone third (record { tables = both; faults = faults; calls = calls })
       (entry (event.Read (reading.Orders third 0)) (answer.Say (reply.Report (codes "order 1 book 1 day 1\nend\n"))) new ∷ []) → ⊥
   unfolding list_orders orders_text
   lists_apart new is =

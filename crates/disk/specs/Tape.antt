@@ -2,7 +2,7 @@
 --     leaves_of    the images that may be left after some calls
 --     synced_of    those that may be left once a sync has succeeded then
 --     left_since   the images of some moment
-use Rattle.std.specs.Prelude.{◌≡◌, ℕ, ◌+◌, ◌≤◌, Bool, true, false, ◌||◌, ◌&&◌, not, nat_lt, nat_le, List, [], ◌∷◌, length, take, Option, Some, None, Result, OnOk, OnErr}
+use Rattle.std.specs.Prelude.{◌≡◌, ℕ, ◌+◌, ◌≤◌, Bool, true, false, ◌||◌, ◌&&◌, not, nat_lt, nat_le, List, [], ◌∷◌, ◌++◌, length, take, Option, Some, None, Result, OnOk, OnErr}
 use Rattle.std.proofs.Common.{sym, ap, subst, refl, ◌∙◌, arith}
 use Rattle.std.proofs.lemmas.Bool.{both_ways, or_parts}
 use Rattle.std.proofs.lemmas.List.{take_all}
@@ -109,6 +109,22 @@ is_stopped (Some last) number = nat_le last number
 -- the next call is to fail: by its number, since the disk stops, or for want of room
 abbrev pub is_due : Plan → Option ℕ → Bool → Bool
 is_due plan stop has_room = is_to_fail plan || is_stopped stop plan.next_call || not has_room
+
+-- the disk stopped in a call before the one of this number
+abbrev pub has_stopped : Option ℕ → ℕ → Bool
+has_stopped None number = false
+has_stopped (Some last) number = nat_lt last number
+
+-- The next call is to fail, and a stop may leave it done in part: it isn't want of room, the disk has not stopped before, and
+-- there is a place for it.
+abbrev pub is_tried : Plan → Option ℕ → Bool → Bool
+is_tried plan stop has_place = (is_to_fail plan || is_stopped stop plan.next_call) && (has_place && not (has_stopped stop plan.next_call))
+
+-- A call that was made is recorded whole, and one that failed is recorded just where a stop may leave it done in part.
+pub record IsRecorded {T : Type 0} (result : Result T OutError) (whole part : Done) (is_partly : Bool) (before after : List Done) : Type 0 where
+  pub made : OnOk result (after ≡ before ++ whole ∷ [])
+  pub tried : OnErr result (is_partly ≡ true → after ≡ before ++ part ∷ [])
+  pub untried : OnErr result (is_partly ≡ false → after ≡ before)
 
 -- there is room for one call more that writes, cuts or syncs, and for the bytes that it writes
 abbrev pub has_room : ℕ → ℕ → ℕ → Bool

@@ -1,10 +1,10 @@
 //! A disk in memory.
-ghost use Rattle.std.specs.Prelude.{◌≡◌, ◌≢◌, ◌<◌, ◌≤◌, ◌+◌, ◌↔◌, true, false, List, ℕ, Some, Err, [], ◌∷◌, ◌++◌, length, take, replicate, vec_len, vec_capacity, IfOk, OnOk, OnErr};
+ghost use Rattle.std.specs.Prelude.{◌≡◌, ◌≢◌, ◌<◌, ◌≤◌, ◌+◌, ◌↔◌, nat_lt, true, false, List, ℕ, Some, Err, [], ◌∷◌, ◌++◌, length, take, replicate, vec_len, vec_capacity, IfOk, OnOk, OnErr};
 ghost use Rattle.std.specs.Option.{option_map};
 ghost use Rattle.pb_outside.specs.Faults.{Rose, raised};
 ghost use Rattle.disk.specs.Disk.{overwritten, Torn, Overwrites, IsCut, IsCutOrNot, WhereTold, Becomes, Follows, Elapses, CountsFaults};
 ghost use Rattle.disk.specs.Calls.{dones, total};
-ghost use Rattle.disk.specs.Tape.{Wrote, TriedWrite, Cut, TriedCut, Synced, TriedSync, content_of, AreWithin, left_now, left_synced, LeftSince, is_stopped, is_due, has_room, GoesOn};
+ghost use Rattle.disk.specs.Tape.{Wrote, TriedWrite, Cut, TriedCut, Synced, TriedSync, content_of, AreWithin, left_now, left_synced, LeftSince, is_stopped, has_stopped, is_due, is_tried, IsRecorded, has_room, GoesOn};
 
 use crate::Disk;
 use pb_base::Memory;
@@ -74,6 +74,16 @@ fn is_stopped(stop: Option<u64>, number: u64) -> bool
     }
 }
 
+// Whether the disk stopped in a call before the one of this number.
+fn has_stopped(stop: Option<u64>, number: u64) -> bool
+    ensures { result ≡ has_stopped stop number }
+{
+    match stop {
+        Some(last) => last < number,
+        None => false,
+    }
+}
+
 // Whether there is room for one call more, and for the bytes that it writes.
 fn has_room(calls_left: u64, room_left: u64, bytes: u64) -> bool
     ensures { result ≡ has_room calls_left room_left bytes }
@@ -88,6 +98,8 @@ fn fate_of(plan: &mut FaultPlan, stop: Option<u64>, has_place: bool, has_room: b
     ensures not_due { is_due plan.old stop has_room ≡ false → result ≡ Fate.Goes }
     ensures room { result ≡ Fate.Goes → has_room ≡ true }
     ensures place { result ≡ Fate.Fails → has_place ≡ true }
+    ensures tried { is_tried plan.old stop has_place ≡ true → result ≡ Fate.Fails }
+    ensures untried { is_tried plan.old stop has_place ≡ false → result ≢ Fate.Fails }
     ensures same_fails { plan.new.fails ≡ plan.old.fails }
     ensures next_call { plan.new.next_call ≡ raised plan.old.next_call }
     ensures later { plan.old.faults ≤ plan.new.faults }
@@ -96,13 +108,13 @@ fn fate_of(plan: &mut FaultPlan, stop: Option<u64>, has_place: bool, has_room: b
 {
     let number = plan.next_call();
     let stops = is_stopped(stop, number);
-    let has_stopped = number > 0 && is_stopped(stop, number - 1);
+    let is_recorded = has_place && !has_stopped(stop, number);
     if plan.begin_call() {
-        return unmade(has_place && !has_stopped);
+        return unmade(is_recorded);
     }
     if stops {
         plan.count_fault();
-        return unmade(has_place && !has_stopped);
+        return unmade(is_recorded);
     }
     if !has_room {
         plan.count_fault();
@@ -114,7 +126,8 @@ fn fate_of(plan: &mut FaultPlan, stop: Option<u64>, has_place: bool, has_room: b
 // A call that doesn't go.
 fn unmade(is_recorded: bool) -> Fate
     ensures not { result ≢ Fate.Goes }
-    ensures recorded { result ≡ Fate.Fails → is_recorded ≡ true }
+    ensures recorded { is_recorded ≡ true → result ≡ Fate.Fails }
+    ensures unrecorded { is_recorded ≡ false → result ≢ Fate.Fails }
 {
     if is_recorded {
         Fate::Fails
@@ -396,6 +409,7 @@ impl Disk for MemoryDisk {
         ensures due { (result ≡ Err OutError.Failed) ↔ (is_due self.old.plan self.old.stop
             true ≡ true) }
         ensures goes_on { GoesOn result 0 0 self.old self.new }
+        ensures unrecorded { self.new.calls ≡ self.old.calls }
         ensures bytes { IfOk result (λ bytes. WhereTold (Some (content_of self.old.first self.old.calls))
             (λ file. bytes.items ≡ file)) }
         ensures kept { Some (content_of self.new.first self.new.calls)
@@ -419,6 +433,9 @@ impl Disk for MemoryDisk {
         ensures due { (result ≡ Err OutError.Failed) ↔ (is_due self.old.plan self.old.stop
             (has_room self.old.calls_left self.old.room_left (length bytes.now)) ≡ true) }
         ensures goes_on { GoesOn result 1 (length bytes.now) self.old self.new }
+        ensures recorded { IsRecorded result (Wrote at bytes.now) (TriedWrite at (length bytes.now))
+            (is_tried self.old.plan self.old.stop (nat_lt 0 self.old.calls_left))
+            self.old.calls self.new.calls }
         ensures written { OnOk result (Some (content_of self.new.first self.new.calls)
             ≡ option_map (overwritten at bytes.now) (Some (content_of self.old.first self.old.calls))) }
         ensures torn { OnErr result (Becomes (Torn at (length bytes.now))
@@ -456,6 +473,9 @@ impl Disk for MemoryDisk {
         ensures due { (result ≡ Err OutError.Failed) ↔ (is_due self.old.plan self.old.stop
             (has_room self.old.calls_left self.old.room_left 0) ≡ true) }
         ensures goes_on { GoesOn result 1 0 self.old self.new }
+        ensures recorded { IsRecorded result (Cut len) (TriedCut len)
+            (is_tried self.old.plan self.old.stop (nat_lt 0 self.old.calls_left))
+            self.old.calls self.new.calls }
         ensures cut { OnOk result (Some (content_of self.new.first self.new.calls)
             ≡ option_map (take len) (Some (content_of self.old.first self.old.calls))) }
         ensures torn { OnErr result (Becomes (IsCutOrNot len)
@@ -475,7 +495,7 @@ impl Disk for MemoryDisk {
         ensures count { CountsFaults result self.old.plan.faults self.new.plan.faults }
     {
         let has_room = has_room(self.calls_left, self.room_left, 0);
-        match fate_of(&mut self.plan, self.stop, has_room, has_room) {
+        match fate_of(&mut self.plan, self.stop, self.calls_left > 0, has_room) {
             Fate::Goes => {
                 self.shorten(len);
                 Ok(())
@@ -492,6 +512,9 @@ impl Disk for MemoryDisk {
         ensures due { (result ≡ Err OutError.Failed) ↔ (is_due self.old.plan self.old.stop
             (has_room self.old.calls_left self.old.room_left 0) ≡ true) }
         ensures goes_on { GoesOn result 1 0 self.old self.new }
+        ensures recorded { IsRecorded result Synced TriedSync
+            (is_tried self.old.plan self.old.stop (nat_lt 0 self.old.calls_left))
+            self.old.calls self.new.calls }
         ensures durable { OnOk result ((image : List ℕ) → left_now self.new.first self.new.calls image
             → left_synced self.old.first self.old.calls image) }
         ensures kept { Some (content_of self.new.first self.new.calls)
@@ -506,7 +529,7 @@ impl Disk for MemoryDisk {
         ensures count { CountsFaults result self.old.plan.faults self.new.plan.faults }
     {
         let has_room = has_room(self.calls_left, self.room_left, 0);
-        match fate_of(&mut self.plan, self.stop, has_room, has_room) {
+        match fate_of(&mut self.plan, self.stop, self.calls_left > 0, has_room) {
             Fate::Goes => {
                 self.settle();
                 Ok(())

@@ -70,10 +70,10 @@ found_is t found image valid is started = rows_tell found t (started.rows ∙ ap
 
 kept_valid : (t : Tables) (e : Event) (due : Answer) (after : Tables) → IsValid t → Fits t e → effect t e ≡ keeps due after → IsValid after
 kept_valid t e due after valid fits is =
-    let old : State = record { tables = t; faults = record { count = 0; faultless = true } } in
-    let new : State = record { tables = after; faults = record { count = 0; faultless = true } } in
+    let old : State = record { tables = t; faults = record { count = 0; faultless = true }; calls = None } in
+    let new : State = record { tables = after; faults = record { count = 0; faultless = true }; calls = None } in
     let step : Step old e due new = subst (λ f. Follows f old due new) (sym is)
-    (record { never_falls = omega arith; kept = λ k. k }, inl (record { said = refl; changed = refl; count = refl })) in
+    (record { never_falls = omega arith; kept = λ k. k }, inl (record { said = refl; changed = refl; count = refl; once = refl })) in
     step_valid old e due new valid fits step
 
 one_more : (P : Event → Type 0) (t found : Tables) (e : Event) (entry : Entry) (image : List ℕ) → IsValid t → P e → Fits t e → put_of t e ≡ Some entry

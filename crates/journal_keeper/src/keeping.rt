@@ -78,6 +78,8 @@ impl<D: Disk> Keeper for JournalKeeper<D> {
 
     ghost failures = { λ k. count_of (D.failures k.disk) k.refusals };
 
+    ghost calls = { λ _. None };
+
     ghost may_begin = { λ k name. D.may_begin k.disk name };
 
     fn begin(&mut self, name: &str) -> Result<(), OutError>

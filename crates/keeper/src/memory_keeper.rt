@@ -64,6 +64,8 @@ impl Keeper for MemoryKeeper {
 
     ghost failures = { λ k. faults_of k.plan };
 
+    ghost calls = { λ k. Some k.plan.next_call };
+
     ghost may_begin = { λ _ _. ⊤ };
 
     fn begin(&mut self, _: &str) -> Result<(), OutError>

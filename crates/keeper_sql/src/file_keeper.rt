@@ -1,5 +1,5 @@
 //! A keeper over a file of the system.
-ghost use Rattle.std.specs.Prelude.{◌≡◌};
+ghost use Rattle.std.specs.Prelude.{◌≡◌, None};
 
 use crate::SqlKeeper;
 use keeper::{BookRow, DraftRow, Keeper, OrderRow, Rows};
@@ -34,6 +34,8 @@ impl Keeper for FileKeeper {
     ghost told = { λ k. ⟦<SqlKeeper<FileStore<File>> as Keeper>⟧.told k.keeper };
 
     ghost failures = { λ k. ⟦<SqlKeeper<FileStore<File>> as Keeper>⟧.failures k.keeper };
+
+    ghost calls = { λ _. None };
 
     ghost may_begin = { λ k. ⟦<SqlKeeper<FileStore<File>> as Keeper>⟧.may_begin k.keeper };
 

@@ -108,6 +108,8 @@ impl<S: Opens> Keeper for SqlKeeper<S> {
 
     ghost failures = { λ k. fallible k.faults };
 
+    ghost calls = { λ _. None };
+
     ghost may_begin = { λ _ _. ⊤ };
 
     fn begin(&mut self, name: &str) -> Result<(), OutError> {

@@ -26,5 +26,6 @@ pub mod BookDays
 pub mod OwnRows
 pub mod RowsTell
 pub mod StartRead
+pub mod StartCalls
 pub mod KeptOrders
 pub mod Lists

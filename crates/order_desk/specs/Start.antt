@@ -3,11 +3,12 @@
 --     IsCause told before after why         why it isn't started: a row that isn't right, which is the first one where the rows
 --                                           are told, or a call of the keeper that failed
 --     IsLeft told after why                 the rows that the keeper tells afterwards
+--     IsBegun told before after             how many calls of the keeper a start makes
 use Rattle.std.specs.Prelude.{◌≡◌, ◌⊎◌, ℕ, Option, Some, IfSome}
 use Rattle.std.specs.Option.{option_map}
 use Rattle.pb_base.specs.declared.answer.Fail.{Fail}
 use Rattle.pb_base.specs.declared.answer.Fail.TheVariants.{Refused, Memory}
-use Rattle.pb_outside.specs.Faults.{Faults, Fails}
+use Rattle.pb_outside.specs.Faults.{Faults, Fails, raised}
 use Rattle.pb_outside.specs.declared.error.OutError.{OutError}
 use Rattle.pb_outside.specs.declared.error.OutError.TheVariants as out
 use Rattle.keeper.specs.Rows.{Kept, begun}
@@ -46,3 +47,12 @@ abbrev pub IsLeft : Option Kept → Option Kept → Fail StartFault → Type 0
 IsLeft told after (Refused (BadRow table place)) = after ≡ option_map begun told
 IsLeft told after (Refused (Store first last)) = (after ≡ told) ⊎ (after ≡ option_map begun told)
 IsLeft told after Memory = (after ≡ told) ⊎ (after ≡ option_map begun told)
+
+-- two calls of the keeper: it is begun, and its rows are loaded
+abbrev pub loaded : Option ℕ → Option ℕ
+loaded before = option_map raised (option_map raised before)
+
+-- these two, and a third just where the rows are to be migrated
+abbrev pub IsBegun : Option Kept → Option ℕ → Option ℕ → Type 0
+IsBegun told before after =
+    (after ≡ loaded before) ⊎ (IfSome told (λ rows. (begun rows).form ≡ 1) × (after ≡ option_map raised (loaded before)))

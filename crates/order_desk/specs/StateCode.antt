@@ -1,6 +1,6 @@
 -- How states are told apart: by the tuple of what they have.
-use Rattle.std.specs.Prelude.{ℕ, Bool, List, refl}
-use Rattle.std.specs.Coded.{Coded, code_by, coded×, coded_list, coded_bool, coded_ℕ}
+use Rattle.std.specs.Prelude.{ℕ, Bool, List, Option, refl}
+use Rattle.std.specs.Coded.{Coded, code_by, coded×, coded_list, coded_option, coded_bool, coded_ℕ}
 use Rattle.pb_outside.specs.Faults.{Faults}
 use Rattle.release.specs.Release.{Release}
 use Rattle.release.specs.ReleaseCode.{release_code}
@@ -45,4 +45,5 @@ faults_code =
 
 abbrev pub state_code : Coded State
 state_code =
-    code_by (Tables × Faults) (coded× tables_code faults_code) (λ s. (s.tables, s.faults)) (λ t. record { tables = t.0; faults = t.1 }) (λ _. refl)
+    code_by (Tables × (Faults × Option ℕ)) (coded× tables_code (coded× faults_code (coded_option coded_ℕ)))
+    (λ s. (s.tables, (s.faults, s.calls))) (λ t. record { tables = t.0; faults = t.1.0; calls = t.1.1 }) (λ _. refl)

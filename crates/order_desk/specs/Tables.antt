@@ -1,7 +1,8 @@
 -- What the desk keeps.
 --     Tables                        the drafts by their names, the books in the sequence of their releases, and the orders by
 --                                   their callers and numbers: each table in the order of its keys, no key twice
---     State                         these, and what the keeper of the rows tells of its faults
+--     State                         these, and what the keeper of the rows tells of its faults, and of how many calls were
+--                                   made of it
 --     draft_at, book_at, order_at   what stands at a key, if anything does
 --     with_draft, with_book, ..     the tables with one change
 use Rattle.std.specs.Prelude.{ℕ, ◌-◌, ◌==◌, Bool, true, ◌&&◌, List, [], ◌∷◌, ◌++◌, Option, None, slice_get, slice_set, if◌then◌else◌}
@@ -26,6 +27,7 @@ pub record Tables : Type 0 where
 pub record State : Type 0 where
   pub tables : Tables
   pub faults : Faults
+  pub calls : Option ℕ
 
 -- names by their bytes
 abbrev pub by_name : List ℕ → List ℕ → Ordering

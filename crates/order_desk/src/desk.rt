@@ -45,6 +45,7 @@ impl<P: Keeper> Model for Desk<P> {
     ghost view = { λ d. record {
       tables = record { drafts = d.drafts.entries; books = d.books.items; orders = d.orders.entries };
       faults = P.failures d.keeper;
+      calls = P.calls d.keeper;
     } };
 
     ghost invariant = { λ d. IsDesk
@@ -67,6 +68,7 @@ impl<P: Keeper> Desk<P> {
         requires kept { IfSome (P.told keeper) (λ rows. rows ≡ rows_of (tables_in read)) }
         ensures tables { result.tables ≡ tables_in read }
         ensures faults { result.faults ≡ P.failures keeper }
+        ensures calls { result.calls ≡ P.calls keeper }
     {
         let ReadTables {
             drafts,
@@ -106,6 +108,7 @@ impl<P: Keeper> Desk<P> {
     pub fn finish(self) -> P
         ensures rows { IfSome (P.told result) (λ rows. rows ≡ rows_of self.tables) }
         ensures faults { P.failures result ≡ self.faults }
+        ensures calls { P.calls result ≡ self.calls }
         ensures valid { IsValid self.tables }
         // No desk is refused by what it kept itself.
         ensures right { first_bad (rows_of self.tables) ≡ None }
@@ -119,7 +122,8 @@ impl<P: Keeper> Desk<P> {
         keeper
     }
 
-    /// Takes one event. It is answered as its row says, and want of memory or a fault of the store changes nothing but the count.
+    /// Takes one event. It is answered as its row says, and want of memory or a fault of the store changes nothing but the
+    /// counts. Of the keeper it makes at most one call, and none but a write.
     pub fn step(&mut self, event: Event) -> Answer
         requires { Fits self.old.tables event }
         ensures step { Step self.old event result self.new }

@@ -33,7 +33,8 @@ pub trait Hands {
         rows: &[OrderRow],
     ) -> Result<Vec<bool>, Memory>
         requires { AreReady self.now }
-        ensures { IfOk result (λ told. AllZip (IsJudged (map (λ b. b.released) books.now)) rows.now told.items) };
+        ensures { IfOk result
+            (λ told. AllZip (IsJudged (map (λ b. b.released) books.now)) rows.now told.items) };
 }
 
 /// The caller's thread alone.

@@ -2,12 +2,12 @@
 ghost use Rattle.std.specs.Prelude.{if◌then◌else◌, ◌≡◌, ◌⊎◌, IfErr, IfOk, IfSome, OnErr, OnOk, None, Some};
 ghost use Rattle.std.specs.Option.{option_map};
 ghost use Rattle.pb_base.specs.Answers.{Changes, IfRefused};
-ghost use Rattle.pb_outside.specs.Faults.{IsLater};
+ghost use Rattle.pb_outside.specs.Faults.{IsLater, raised};
 ghost use Rattle.keeper.specs.Causes.{HasCause};
 ghost use Rattle.keeper.specs.Rows.{begun, kept_of, migrated};
 ghost use Rattle.order_desk.specs.RightRows.{bad_form, first_bad};
 ghost use Rattle.order_desk.specs.Rows.{rows_of};
-ghost use Rattle.order_desk.specs.Start.{IsCause, IsLeft, store_fault, tables_in};
+ghost use Rattle.order_desk.specs.Start.{IsBegun, IsCause, IsLeft, loaded, store_fault, tables_in};
 ghost use Rattle.order_desk.specs.Tables.{Tables};
 ghost use Rattle.order_desk.specs.Valid.{IsValid};
 
@@ -65,6 +65,7 @@ impl<P: Keeper> Desk<P> {
             IfSome (P.told keeper) (λ rows. first_bad (begun rows) ≡ None)) }
         ensures valid { IfOk result (λ desk. IsValid desk.tables) }
         ensures count { IfOk result (λ desk. desk.faults.count ≡ (P.failures keeper).count) }
+        ensures calls { IfOk result (λ desk. IsBegun (P.told keeper) (P.calls keeper) desk.calls) }
         ensures later { IfOk result (λ desk. IsLater (P.failures keeper) desk.faults) }
         ensures cause { IfErr result (λ n.
             IsCause (P.told keeper) (P.failures keeper) (P.failures n.keeper) n.why) }
@@ -89,6 +90,7 @@ impl<P: Keeper> Desk<P> {
             IfSome (P.told keeper) (λ rows. first_bad (begun rows) ≡ None)) }
         ensures valid { IfOk result (λ desk. IsValid desk.tables) }
         ensures count { IfOk result (λ desk. desk.faults.count ≡ (P.failures keeper).count) }
+        ensures calls { IfOk result (λ desk. IsBegun (P.told keeper) (P.calls keeper) desk.calls) }
         ensures later { IfOk result (λ desk. IsLater (P.failures keeper) desk.faults) }
         ensures cause { IfErr result (λ n.
             IsCause (P.told keeper) (P.failures keeper) (P.failures n.keeper) n.why) }
@@ -104,6 +106,7 @@ impl<P: Keeper> Desk<P> {
 }
 
 // The tables of the keeper's rows, which it has begun and migrated.
+#[tactic(auto, using(crate::proofs::StartCalls::begun_calls))]
 fn read_from<P: Keeper, H: Hands>(
     alloc: Global,
     hands: &H,
@@ -120,6 +123,7 @@ fn read_from<P: Keeper, H: Hands>(
     ensures told { OnOk result
         (P.told keeper.new ≡ option_map migrated (option_map begun (P.told keeper.old))) }
     ensures count { OnOk result ((P.failures keeper.new).count ≡ (P.failures keeper.old).count) }
+    ensures calls { OnOk result (IsBegun (P.told keeper.old) (P.calls keeper.old) (P.calls keeper.new)) }
     ensures cause { IfErr result (λ why.
         IsCause (P.told keeper.old) (P.failures keeper.old) (P.failures keeper.new) why) }
     ensures left { IfErr result (λ why. IsLeft (P.told keeper.old) (P.told keeper.new) why) }
@@ -152,6 +156,7 @@ fn load_from<P: Keeper>(keeper: &mut P, name: &str) -> Result<Rows, OutError>
     ensures left { (P.told keeper.new ≡ P.told keeper.old)
         ⊎ (P.told keeper.new ≡ option_map begun (P.told keeper.old)) }
     ensures count { HasCause result (P.failures keeper.old) (P.failures keeper.new) }
+    ensures calls { OnOk result (P.calls keeper.new ≡ loaded (P.calls keeper.old)) }
 {
     keeper.begin(name)?;
     keeper.load()
@@ -163,6 +168,8 @@ fn migrate_from<P: Keeper>(keeper: &mut P, form: u64) -> Result<(), OutError>
     ensures done { OnOk result (P.told keeper.new ≡ option_map migrated (P.told keeper.old)) }
     ensures unchanged { OnErr result (P.told keeper.new ≡ P.told keeper.old) }
     ensures count { HasCause result (P.failures keeper.old) (P.failures keeper.new) }
+    ensures calls { (P.calls keeper.new ≡ P.calls keeper.old)
+        ⊎ ((form ≡ 1) × (P.calls keeper.new ≡ option_map raised (P.calls keeper.old))) }
 {
     if form == 1 { keeper.migrate() } else { Ok(()) }
 }

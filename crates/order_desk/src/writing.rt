@@ -9,6 +9,7 @@ ghost use Rattle.keeper.specs.Causes.{HasCause};
 ghost use Rattle.keeper.specs.Rows as kept;
 ghost use Rattle.order_desk.specs.Rows.{book_row, draft_row, order_row, codes_text};
 ghost use Rattle.order_desk.specs.Tables.{by_key, by_name};
+ghost use Rattle.order_desk.specs.Writing.{IsOneCall};
 ghost use Rattle.order_desk.specs.declared.kept_book.KeptBook.{KeptBook};
 
 use crate::draft::NewDraft;
@@ -56,6 +57,7 @@ pub(crate) fn write_draft<P: Keeper>(
     ensures unchanged { OnErr result (drafts.new.entries ≡ drafts.old.entries) }
     ensures untold { OnErr result (P.told keeper.new ≡ P.told keeper.old) }
     ensures count { HasCause result (P.failures keeper.old) (P.failures keeper.new) }
+    ensures once { IsOneCall result (P.calls keeper.old) (P.calls keeper.new) }
 {
     let entry = drafts.entry(name)?;
     match write_draft_row(alloc, keeper, &name, draft) {
@@ -82,6 +84,7 @@ fn write_draft_row<P: Keeper>(
         ≡ option_map (kept.with_draft (draft_row (name.now, draft))) (P.told keeper.old)) }
     ensures untold { OnErr result (P.told keeper.new ≡ P.told keeper.old) }
     ensures count { HasCause result (P.failures keeper.old) (P.failures keeper.new) }
+    ensures once { IsOneCall result (P.calls keeper.old) (P.calls keeper.new) }
 {
     let owner = draft.owner;
     let revision = draft.revision;
@@ -139,6 +142,7 @@ pub(crate) fn write_book<P: Keeper>(
     ensures unchanged { OnErr result (books.new.items ≡ books.old.items) }
     ensures untold { OnErr result (P.told keeper.new ≡ P.told keeper.old) }
     ensures count { HasCause result (P.failures keeper.old) (P.failures keeper.new) }
+    ensures once { IsOneCall result (P.calls keeper.old) (P.calls keeper.new) }
 {
     books.reserve(1)?;
     match write_book_row(alloc, keeper, books.len() as u64 + 1, book) {
@@ -162,6 +166,7 @@ fn write_book_row<P: Keeper>(
         ≡ option_map (kept.with_book (book_row number book)) (P.told keeper.old)) }
     ensures untold { OnErr result (P.told keeper.new ≡ P.told keeper.old) }
     ensures count { HasCause result (P.failures keeper.old) (P.failures keeper.new) }
+    ensures once { IsOneCall result (P.calls keeper.old) (P.calls keeper.new) }
 {
     let (book, row) = row_of_book(alloc, number, book)?;
     keeper.put_book(&row)?;
@@ -214,6 +219,7 @@ pub(crate) fn write_withdrawn<P: Keeper>(
     ensures unchanged { OnErr result (books.new.items ≡ books.old.items) }
     ensures untold { OnErr result (P.told keeper.new ≡ P.told keeper.old) }
     ensures count { HasCause result (P.failures keeper.old) (P.failures keeper.new) }
+    ensures once { IsOneCall result (P.calls keeper.old) (P.calls keeper.new) }
 {
     keeper.put_withdrawn(place as u64 + 1)?;
     books[place].withdrawn = true;
@@ -234,6 +240,7 @@ pub(crate) fn write_order<P: Keeper>(
     ensures unchanged { OnErr result (orders.new.entries ≡ orders.old.entries) }
     ensures untold { OnErr result (P.told keeper.new ≡ P.told keeper.old) }
     ensures count { HasCause result (P.failures keeper.old) (P.failures keeper.new) }
+    ensures once { IsOneCall result (P.calls keeper.old) (P.calls keeper.new) }
 {
     let entry = orders.entry(key)?;
     match write_order_row(alloc, keeper, &key, &order) {
@@ -259,6 +266,7 @@ fn write_order_row<P: Keeper>(
         ≡ option_map (kept.with_order (order_row (key.now, order.now))) (P.told keeper.old)) }
     ensures untold { OnErr result (P.told keeper.new ≡ P.told keeper.old) }
     ensures count { HasCause result (P.failures keeper.old) (P.failures keeper.new) }
+    ensures once { IsOneCall result (P.calls keeper.old) (P.calls keeper.new) }
 {
     let row = row_of_order(alloc, key, order)?;
     keeper.put_order(&row)

@@ -19,6 +19,8 @@ impl Keeper for Counted<'_> {
 
     ghost failures = { λ c. ⟦<FileStore as Keeper>⟧.failures c.store };
 
+    ghost calls = { λ _. None };
+
     ghost may_begin = { λ c. ⟦<FileStore as Keeper>⟧.may_begin c.store };
 
     fn begin(&mut self, name: &str) -> Result<(), OutError> {

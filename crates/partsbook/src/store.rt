@@ -29,6 +29,8 @@ impl Keeper for Store<FileKeeper, FileJournal> {
 
     ghost failures = { of_kind (fallible 0) ⟦<FileKeeper as Keeper>⟧.failures ⟦<FileJournal as Keeper>⟧.failures };
 
+    ghost calls = { λ _. None };
+
     ghost may_begin = { may_begin_kind ⟦<FileKeeper as Keeper>⟧.may_begin ⟦<FileJournal as Keeper>⟧.may_begin };
 
     fn begin(&mut self, name: &str) -> Result<(), OutError> {
