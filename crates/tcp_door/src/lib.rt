@@ -8,6 +8,7 @@ mod patience;
 mod port;
 mod system_watch;
 mod watch;
+mod write_both;
 
 pub use door::TcpDoor;
 pub use link::TcpLink;

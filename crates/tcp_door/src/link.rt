@@ -116,7 +116,8 @@ fn read_in_time<S: Source>(
 impl<W: Watch + Drop> Sink for TcpLink<W> {
     fn write(&mut self, piece: &[u8]) -> Result<(), OutError> {
         self.progress = Progress::Awaited;
-        if write_whole(&self.stream, &self.watch, &[], piece) {
+        let mut stream = &self.stream;
+        if write_whole(&mut stream, &self.watch, &[], piece) {
             return Ok(());
         }
         self.write_faults.fail()
@@ -124,7 +125,8 @@ impl<W: Watch + Drop> Sink for TcpLink<W> {
 
     fn write_both(&mut self, first: &[u8], second: &[u8]) -> Result<(), OutError> {
         self.progress = Progress::Awaited;
-        if write_whole(&self.stream, &self.watch, first, second) {
+        let mut stream = &self.stream;
+        if write_whole(&mut stream, &self.watch, first, second) {
             self.watch.note_answered();
             return Ok(());
         }

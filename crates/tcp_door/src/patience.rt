@@ -1,8 +1,12 @@
 //! How long a caller may take. The times are bounds on one connection, so that a silent or slow caller ends its own
 //! connection and no other.
 
+ghost use Rattle.std.specs.Prelude.{◌≡◌, ◌≢◌, ◌++◌, false, true};
+ghost use Rattle.pb_outside.specs.Sink.{TakesFront, TakesPiece};
+
+use crate::write_both::WriteBoth;
 use pb_outside::behind;
-use std::io::{IoSlice, Read};
+use std::io::Read;
 use std::net::{Shutdown, TcpStream};
 use std::time::{Clock, Duration, Instant};
 
@@ -47,7 +51,11 @@ pub(crate) fn bound_waits(stream: &TcpStream) {
 }
 
 /// How far a message is before it is read further. The first read of a message needs no clock.
-pub(crate) fn before_read<C: Clock>(clock: &C, progress: Progress) -> Progress {
+pub(crate) fn before_read<C: Clock>(clock: &C, progress: Progress) -> Progress
+    ensures first { progress ≡ Progress.Awaited → result ≡ Progress.Awaited }
+    ensures second { progress ≡ Progress.Begun → result ≢ Progress.Awaited }
+    ensures later { (begin : Instant) → progress ≡ Progress.Since begin → result ≡ Progress.Since begin }
+{
     match progress {
         Progress::Begun => match Instant::now(clock) {
             Ok(now) => Progress::Since(now),
@@ -58,7 +66,10 @@ pub(crate) fn before_read<C: Clock>(clock: &C, progress: Progress) -> Progress {
 }
 
 /// Whether a message has taken too long. A clock that can't be read says no; each wait is bounded all the same.
-pub(crate) fn is_late<C: Clock>(clock: &C, progress: Progress) -> bool {
+pub(crate) fn is_late<C: Clock>(clock: &C, progress: Progress) -> bool
+    ensures first { progress ≡ Progress.Awaited → result ≡ false }
+    ensures second { progress ≡ Progress.Begun → result ≡ false }
+{
     match progress {
         Progress::Since(begin) => took(clock, begin, LONGEST_MESSAGE),
         Progress::Awaited | Progress::Begun => false,
@@ -75,15 +86,21 @@ fn took<C: Clock>(clock: &C, begin: Instant, seconds: u64) -> bool {
 
 /// Writes two pieces whole, one behind the other, the first with what fits beside it of the second by one call of the
 /// system. The first is short, as the head of a response. False where the stream refused a part, or where it took too long.
-pub(crate) fn write_whole<C: Clock>(
-    stream: &TcpStream,
+#[tactic(auto, using(crate::proofs::WholeLaws::parts_taken, crate::proofs::WholeLaws::front_cut, crate::proofs::WholeLaws::behind_cut))]
+pub(crate) fn write_whole<S: WriteBoth, C: Clock>(
+    stream: &mut S,
     clock: &C,
     first: &[u8],
     second: &[u8],
-) -> bool {
+) -> bool
+    ensures whole { let piece = first.now ++ second.now in
+        result ≡ true → TakesPiece piece (S.contents stream.old) (S.contents stream.new) }
+    ensures cut { let piece = first.now ++ second.now in
+        result ≡ false → TakesFront piece (S.contents stream.old) (S.contents stream.new) }
+{
     let (front, rest) = second.split_at(second.len().min(PART));
     if rest.is_empty() {
-        return write_parts(stream, first, front);
+        return write_parts(stream, first, second);
     }
     let Ok(begin) = Instant::now(clock) else {
         return write_parts(stream, first, second);
@@ -91,19 +108,45 @@ pub(crate) fn write_whole<C: Clock>(
     if !write_parts(stream, first, front) {
         return false;
     }
-    for part in rest.chunks(PART) {
-        if took(clock, begin, LONGEST_RESPONSE) || !write_parts(stream, &[], part) {
+    write_rest(stream, clock, begin, rest)
+}
+
+// Writes the parts of a response behind its first, with a look at the clock before each.
+#[tactic(auto, using(crate::proofs::WholeLaws::rest_taken, crate::proofs::WholeLaws::part_cut, crate::proofs::WholeLaws::none_cut, crate::proofs::WholeLaws::all_taken))]
+fn write_rest<S: WriteBoth, C: Clock>(
+    stream: &mut S,
+    clock: &C,
+    begin: Instant,
+    rest: &[u8],
+) -> bool
+    ensures whole { result ≡ true → TakesPiece rest.now (S.contents stream.old) (S.contents stream.new) }
+    ensures cut { result ≡ false → TakesFront rest.now (S.contents stream.old) (S.contents stream.new) }
+{
+    let mut left = rest;
+    while !left.is_empty() {
+        let (part, further) = left.split_at(left.len().min(PART));
+        if took(clock, begin, LONGEST_RESPONSE) {
             return false;
         }
+        if !write_parts(stream, &[], part) {
+            return false;
+        }
+        left = further;
     }
     true
 }
 
 // Writes two parts, one behind the other, without a look at the clock. False where the stream refused a byte.
-fn write_parts(stream: &TcpStream, first: &[u8], second: &[u8]) -> bool {
+#[tactic(auto, using(crate::proofs::WholeLaws::stopped, crate::proofs::WholeLaws::failed, crate::proofs::WholeLaws::all_taken))]
+fn write_parts<S: WriteBoth>(stream: &mut S, first: &[u8], second: &[u8]) -> bool
+    ensures whole { let piece = first.now ++ second.now in
+        result ≡ true → TakesPiece piece (S.contents stream.old) (S.contents stream.new) }
+    ensures cut { let piece = first.now ++ second.now in
+        result ≡ false → TakesFront piece (S.contents stream.old) (S.contents stream.new) }
+{
     let (mut front, mut rest) = (first, second);
     while !front.is_empty() || !rest.is_empty() {
-        match stream.write_vectored(&[IoSlice::new(front), IoSlice::new(rest)]) {
+        match stream.write_both(front, rest) {
             Ok(0) => return false,
             Ok(count) => (front, rest) = behind(front, rest, count),
             Err(_) => return false,
