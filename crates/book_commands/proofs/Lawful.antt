@@ -6,9 +6,10 @@ use Rattle.book_text.specs.BookText.{book_of}
 use Rattle.pb_outside.specs.Faults.{Rose}
 use Rattle.pb_outside.specs.Files.{FilesTold}
 use Rattle.book_commands.specs.Checks.{IsUnreleasable}
+use Rattle.book_commands.specs.Ends.{LeavesNothing}
 use Rattle.book_commands.specs.Promise.{Promise}
 use Rattle.book_commands.specs.RunReply.{RunReply}
-use Rattle.book_commands.specs.declared.run_status.RunStatus.TheVariants.{Done, Refused, Undecided}
+use Rattle.book_commands.specs.declared.run_status.RunStatus.TheVariants.{Done, Refused}
 
 pub record IsLawful (p : Promise) : Type 0 where
   -- files that nobody touched are kept
@@ -28,9 +29,9 @@ pub record IsLawful (p : Promise) : Type 0 where
       → Done ≡ reply.status → IsOkAnd (book_of input) IsReleasable
   pub unreleasable : (input : List ℕ) (files files' : FilesTold) (reply : RunReply) → IsTrue p.tells_refusal → p.replies input files files' reply
       → Refused ≡ reply.status → IsOkAnd (book_of input) IsUnreleasable
-  -- an ample budget leaves no question
-  pub decided : (input : List ℕ) (files files' : FilesTold) (reply : RunReply) → p.is_ample input → p.replies input files files' reply
-      → Undecided ≡ reply.status → ⊥
+  -- an ample budget leaves nothing
+  pub leaves_nothing : (input : List ℕ) (files files' : FilesTold) (reply : RunReply) → p.is_ample input files.files
+      → p.replies input files files' reply → LeavesNothing reply
 
 -- ---- for an input that was read, which is the one that was given
 

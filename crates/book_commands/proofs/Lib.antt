@@ -9,7 +9,7 @@ pub mod NeverBlocked
 pub mod SampleLaws
 pub mod ReportLaws
 pub mod TextLaws
-pub mod Decided
+pub mod Nothing
 pub mod CompareLaws
 pub mod FreeLaws
 pub mod AskLaws
@@ -20,3 +20,4 @@ pub mod BookFileLaws
 pub mod Lawful
 pub mod Promises
 pub mod AdviceLaws
+pub mod OpenLaws

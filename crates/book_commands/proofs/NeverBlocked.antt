@@ -6,6 +6,7 @@ use Rattle.std.proofs.lemmas.Bool.{false≢true, true≢false, cases_Bool, and_p
 use Rattle.std.proofs.lemmas.List.Elements.{recursion_from_All}
 use Rattle.std.proofs.lemmas.List.Folds.{list_any-append}
 use Rattle.pb_base.specs.Rule.{holds}
+use Rattle.pb_base.specs.InParts.{InParts}
 use Rattle.book_model.specs.Activity.{is_within}
 use Rattle.book_model.specs.Book.{IsBook}
 use Rattle.book_model.specs.Contents.{Contents}
@@ -28,7 +29,7 @@ use Rattle.clausify.proofs.QuestionLaws.{asked_in_order}
 use Rattle.derivation.proofs.Fit.{met_first, unmet_first, chosen_of, filtered}
 use Rattle.derivation.proofs.LimitLaws.{slices_are_all, slices_from_within}
 use Rattle.derivation.proofs.Refuted.{IsRefuted, AllRefuted}
-use Rattle.findings.specs.Notes.{Inquiry, OwnNotes, InParts, AfterVoid, QuestionNotes, SliceNotes, IsReport, is_asked, is_blocking, is_fault, is_left, verdict_of}
+use Rattle.findings.specs.Notes.{Inquiry, OwnNotes, AfterVoid, QuestionNotes, SliceNotes, IsReport, is_asked, is_blocking, is_fault, is_left, verdict_of}
 use Rattle.findings.specs.declared.report.Note.{Note as Told}
 use Rattle.findings.specs.declared.report.Note.TheVariants.{Days, Finding, Undecided}
 use Rattle.findings.specs.declared.report.Verdict.TheVariants as verdicts

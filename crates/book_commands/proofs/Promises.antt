@@ -21,11 +21,11 @@ use Rattle.book_commands.specs.Why.{why_promise}
 use Rattle.book_commands.specs.declared.comparing.Span.TheVariants.{OnDay, AllDays}
 use Rattle.book_commands.proofs.AskLaws.{ask-kind, ask-answered}
 use Rattle.book_commands.proofs.Blocked.{check-blocked, proof-blocked}
-use Rattle.book_commands.proofs.Decided.{check_decided, proof_decided}
 use Rattle.book_commands.proofs.DaysLaws.{days-kind, days-answered}
 use Rattle.book_commands.proofs.FreeLaws.{free-kind, free-answered}
 use Rattle.book_commands.proofs.Lawful.{IsLawful}
 use Rattle.book_commands.proofs.Releasable.{check-releasable, proof-releasable, verified-releasable}
+use Rattle.book_commands.proofs.Nothing.{check_nothing, proof_nothing, supplements_nothing, compare_nothing, free_nothing, why_nothing, ask_nothing}
 use Rattle.book_commands.proofs.RequireLaws.{require-kind, require-told, has_stated}
 use Rattle.book_commands.proofs.Statuses.{same-kind, order-kind, verify-kind, check-kind, proof-kind, supplements-kind, texts-kind}
 use Rattle.book_commands.proofs.Statuses.{order-status, verify-status, check-answered, proof-answered, supplements-answered, compare-answered, changes-told}
@@ -48,7 +48,7 @@ order_lawful day ordered = record {
   answered = λ input files files' reply v h. same-kind IsDecided _ reply h.is_answer (order-status (book_of input) day ordered v.book v.order);
   releasable = λ input files files' reply asks h done. not_asked asks;
   unreleasable = λ input files files' reply asks h refused. not_asked asks;
-  decided = λ input files files' reply ample h left. ample;
+  leaves_nothing = λ input files files' reply ample h. absurd ample;
 }
 
 check_lawful : (budget : ℕ) → IsLawful (check_promise budget)
@@ -60,7 +60,7 @@ check_lawful budget = record {
   answered = λ input files files' reply v h. check-answered (book_of input) budget reply v.no_fault v.limits h.is_answer;
   releasable = λ input files files' reply asks h done. check-releasable (book_of input) budget reply h.is_answer done;
   unreleasable = λ input files files' reply asks h refused. check-blocked input (book_of input) budget reply refl h.is_answer refused;
-  decided = λ input files files' reply ample h left. check_decided input (book_of input) budget reply refl ample h.is_answer left;
+  leaves_nothing = λ input files files' reply ample h. check_nothing input (book_of input) budget reply refl ample h.is_answer;
 }
 
 proof_lawful : (budget : ℕ) → IsLawful (proof_promise budget)
@@ -72,7 +72,7 @@ proof_lawful budget = record {
   answered = λ input files files' reply v h. proof-answered (book_of input) budget reply v.no_fault v.limits h.is_answer;
   releasable = λ input files files' reply asks h done. proof-releasable input (book_of input) budget reply refl h.is_answer done;
   unreleasable = λ input files files' reply asks h refused. proof-blocked input (book_of input) budget reply refl h.is_answer refused;
-  decided = λ input files files' reply ample h left. proof_decided input (book_of input) budget reply refl ample h.is_answer left;
+  leaves_nothing = λ input files files' reply ample h. proof_nothing input (book_of input) budget reply refl ample h.is_answer;
 }
 
 verify_lawful : (file : List ℕ) → IsLawful (verify_promise file)
@@ -84,7 +84,7 @@ verify_lawful file = record {
   answered = λ input files files' reply v h. verify-status (book_of input) file files files' reply v.book v.certificate h;
   releasable = λ input files files' reply asks h done. verified-releasable input file (book_of input) files files' reply refl h done;
   unreleasable = λ input files files' reply asks h refused. not_asked asks;
-  decided = λ input files files' reply ample h left. ample;
+  leaves_nothing = λ input files files' reply ample h. absurd ample;
 }
 
 supplements_lawful : (budget : ℕ) → IsLawful (supplements_promise budget)
@@ -96,7 +96,7 @@ supplements_lawful budget = record {
   answered = λ input files files' reply v h. supplements-answered (book_of input) budget reply v.no_fault v.limits h.is_answer;
   releasable = λ input files files' reply asks h done. not_asked asks;
   unreleasable = λ input files files' reply asks h refused. not_asked asks;
-  decided = λ input files files' reply ample h left. ample;
+  leaves_nothing = λ input files files' reply ample h. supplements_nothing input (book_of input) budget reply refl ample h.is_answer;
 }
 
 compare_lawful : (day : ℕ) (file : List ℕ) (budget : ℕ) → IsLawful (compare_promise day file budget)
@@ -108,7 +108,7 @@ compare_lawful day file budget = record {
   answered = λ input files files' reply v h. compare-answered input file day budget files files' reply v h;
   releasable = λ input files files' reply asks h done. not_asked asks;
   unreleasable = λ input files files' reply asks h refused. not_asked asks;
-  decided = λ input files files' reply ample h left. ample;
+  leaves_nothing = λ input files files' reply ample h. compare_nothing input file day budget files files' reply ample h;
 }
 
 changes_lawful : (file : List ℕ) (budget : ℕ) → IsLawful (changes_promise file budget)
@@ -120,7 +120,7 @@ changes_lawful file budget = record {
   answered = λ input files files' reply v h. changes-told input file budget files files' reply v h;
   releasable = λ input files files' reply asks h done. not_asked asks;
   unreleasable = λ input files files' reply asks h refused. not_asked asks;
-  decided = λ input files files' reply ample h left. ample;
+  leaves_nothing = λ input files files' reply ample h. absurd ample;
 }
 
 require_lawful : (file : List ℕ) (budget : ℕ) → IsLawful (require_promise file budget)
@@ -132,7 +132,7 @@ require_lawful file budget = record {
   answered = λ input files files' reply v h. require-told input file budget files files' reply v h;
   releasable = λ input files files' reply asks h done. not_asked asks;
   unreleasable = λ input files files' reply asks h refused. not_asked asks;
-  decided = λ input files files' reply ample h left. ample;
+  leaves_nothing = λ input files files' reply ample h. absurd ample;
 }
 
 free_lawful : (day : ℕ) (ordered : List (List ℕ)) (budget : ℕ) → IsLawful (free_promise day ordered budget)
@@ -144,7 +144,7 @@ free_lawful day ordered budget = record {
   answered = λ input files files' reply v h. free-answered (book_of input) day ordered budget reply v.book v.order h.is_answer;
   releasable = λ input files files' reply asks h done. not_asked asks;
   unreleasable = λ input files files' reply asks h refused. not_asked asks;
-  decided = λ input files files' reply ample h left. ample;
+  leaves_nothing = λ input files files' reply ample h. free_nothing (book_of input) day ordered budget reply ample h.is_answer;
 }
 
 ask_lawful : (day : ℕ) (text : List ℕ) (budget : ℕ) → IsLawful (ask_promise day text budget)
@@ -156,7 +156,7 @@ ask_lawful day text budget = record {
   answered = λ input files files' reply v h. ask-answered (book_of input) day text budget reply v.book v.day v.rule h.is_answer;
   releasable = λ input files files' reply asks h done. not_asked asks;
   unreleasable = λ input files files' reply asks h refused. not_asked asks;
-  decided = λ input files files' reply ample h left. ample;
+  leaves_nothing = λ input files files' reply ample h. ask_nothing (book_of input) day text budget reply ample h.is_answer;
 }
 
 why_lawful : (day : ℕ) (ordered : List (List ℕ)) (budget : ℕ) → IsLawful (why_promise day ordered budget)
@@ -168,7 +168,7 @@ why_lawful day ordered budget = record {
   answered = λ input files files' reply v h. why-answered (book_of input) day ordered budget reply v.book v.order h.is_answer;
   releasable = λ input files files' reply asks h done. not_asked asks;
   unreleasable = λ input files files' reply asks h refused. not_asked asks;
-  decided = λ input files files' reply ample h left. ample;
+  leaves_nothing = λ input files files' reply ample h. why_nothing (book_of input) day ordered budget reply ample h.is_answer;
 }
 
 days_lawful : (ordered : List (List ℕ)) → IsLawful (days_promise ordered)
@@ -180,7 +180,7 @@ days_lawful ordered = record {
   answered = λ input files files' reply v h. days-answered (book_of input) ordered reply v.book v.order h.is_answer;
   releasable = λ input files files' reply asks h done. not_asked asks;
   unreleasable = λ input files files' reply asks h refused. not_asked asks;
-  decided = λ input files files' reply ample h left. ample;
+  leaves_nothing = λ input files files' reply ample h. absurd ample;
 }
 
 pub lawful : (command : BookCommand) → IsLawful (promise_of command)

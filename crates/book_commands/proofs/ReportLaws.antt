@@ -5,6 +5,7 @@ use Rattle.std.proofs.lemmas.List.Folds.{list_any-append}
 use Rattle.std.proofs.lemmas.Bool.{cases_Bool, or_parts, and_from, true≢false, false≢true, cond-true, cond-false, le-leb}
 use Rattle.std.proofs.lemmas.Option.{slice_get_within, get_or_from_slice_get}
 use Rattle.pb_base.specs.Rule.{holds}
+use Rattle.pb_base.specs.InParts.{InParts}
 use Rattle.book_model.specs.Activity.{is_within}
 use Rattle.book_model.specs.Contents.{Contents}
 use Rattle.book_model.specs.Book.{IsBook}
@@ -25,7 +26,7 @@ use Rattle.derivation.specs.Limits.{slices_within}
 use Rattle.derivation.proofs.LimitLaws.{slices_are_all, slices_from_within}
 use Rattle.derivation.proofs.Refuted.{AllRefuted}
 use Rattle.derivation.proofs.Fit.{sound_from_refuted}
-use Rattle.findings.specs.Notes.{Inquiry, InParts, IsReport, SliceNotes, AfterVoid, OwnNotes, IsNoteOf, is_asked, is_blocking, verdict_of}
+use Rattle.findings.specs.Notes.{Inquiry, IsReport, SliceNotes, AfterVoid, OwnNotes, IsNoteOf, is_asked, is_blocking, verdict_of}
 use Rattle.findings.specs.Answering.{stops}
 use Rattle.findings.specs.Findings.{NeedsNoNote}
 use Rattle.findings.specs.declared.report.Ask.{Ask}

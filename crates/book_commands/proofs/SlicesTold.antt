@@ -4,10 +4,11 @@ use Rattle.book_model.specs.declared.record.Slice.{Slice}
 use Rattle.clausify.specs.Coded.{slice_asked}
 use Rattle.clausify.specs.declared.question.Asked.{Asked}
 use Rattle.derivation.proofs.LimitLaws.{few_slices, slices_from_within}
-use Rattle.findings.specs.Notes.{Inquiry, OwnNotes, InParts, AfterVoid, QuestionNotes, SliceNotes, IsReport}
+use Rattle.findings.specs.Notes.{Inquiry, OwnNotes, AfterVoid, QuestionNotes, SliceNotes, IsReport}
 use Rattle.findings.specs.declared.report.Note.{Note as Told}
 use Rattle.findings.specs.declared.report.Note.TheVariants.{Days, Finding, Undecided}
 use Rattle.pb_base.specs.declared.limits.TheConstants.{MOST_SLICES}
+use Rattle.pb_base.specs.InParts.{InParts}
 use Rattle.book_commands.specs.Logged.{slices_told}
 
 told-append : (own later : List Told) → slices_told (own ++ later) ≡ slices_told own + slices_told later

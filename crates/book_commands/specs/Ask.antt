@@ -17,8 +17,9 @@ use Rattle.parts_usage.specs.declared.fault.OrderFault.TheVariants.{DayOutsideTe
 use Rattle.pb_base.specs.Rule.{Rule}
 use Rattle.rule_text.specs.Reading.{rule_of}
 use Rattle.rule_text.specs.declared.fault.RuleFault.{RuleFault}
+use Rattle.book_commands.specs.Ample.{IsAmpleToMeet}
 use Rattle.book_commands.specs.Ends.{EndsCheck, IsCheckStatus}
-use Rattle.book_commands.specs.Promise.{Promise, RepliesAlone, fails_nowhere, touches_nothing, never_ample}
+use Rattle.book_commands.specs.Promise.{Promise, RepliesAlone, fails_nowhere, touches_nothing}
 use Rattle.book_commands.specs.RunReply.{RunReply, book_fault_reply, order_fault_reply}
 use Rattle.book_commands.specs.declared.log.Note.{Note}
 use Rattle.book_commands.specs.declared.log.Note.TheVariants.{Left, Rule as RuleNote}
@@ -81,5 +82,5 @@ ask_promise day text budget = record {
   is_answer = EndsCheck;
   tells_release = false;
   tells_refusal = false;
-  is_ample = never_ample;
+  is_ample = λ input files. IsAmpleToMeet budget day text input;
 }

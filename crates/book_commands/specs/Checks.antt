@@ -13,7 +13,6 @@ use Rattle.book_text.specs.BookText.{book_of}
 use Rattle.book_text.specs.declared.fault.BookFault.{BookFault}
 use Rattle.derivation.specs.Limits.{slices_within}
 use Rattle.derivation.specs.Accepted.{IsAccepted}
-use Rattle.findings.specs.Left.{IsAmple}
 use Rattle.findings.specs.Notes.{Inquiry, IsReport, verdict_of}
 use Rattle.findings.specs.declared.report.Ask.{Ask}
 use Rattle.findings.specs.declared.report.Ask.TheVariants.{All, Blocking}
@@ -24,6 +23,7 @@ use Rattle.release_check.specs.declared.checking.NotChecked.{NotChecked}
 use Rattle.release_check.specs.declared.checking.NotChecked.TheVariants as not_checked
 use Rattle.release_check.specs.declared.not_released.NotReleased.{NotReleased}
 use Rattle.release_check.specs.declared.not_released.NotReleased.TheVariants as not_released
+use Rattle.book_commands.specs.Ample.{IsAmpleFor}
 use Rattle.book_commands.specs.Ends.{EndsCheck, IsCheckStatus}
 use Rattle.book_commands.specs.Logged.{slices_told}
 use Rattle.book_commands.specs.Promise.{Promise, RepliesAlone, fails_nowhere, touches_nothing}
@@ -101,10 +101,6 @@ IsUnreleasable b = IsReleasable b → ⊥
 
 -- ---- the promises
 
--- the budget is above 3 to the power of the number of variables of the slice, on each day of the book's term
-abbrev pub IsAmpleFor : ℕ → List ℕ → Type 0
-IsAmpleFor budget input = IfOk (book_of input) (λ b. IsAmple b budget)
-
 abbrev pub check_promise : ℕ → Promise
 check_promise budget = record {
   replies = λ input. RepliesAlone (RepliesToCheck (book_of input) budget);
@@ -115,7 +111,7 @@ check_promise budget = record {
   is_answer = EndsCheck;
   tells_release = true;
   tells_refusal = true;
-  is_ample = IsAmpleFor budget;
+  is_ample = λ input files. IsAmpleFor budget input;
 }
 
 abbrev pub proof_promise : ℕ → Promise
@@ -128,5 +124,5 @@ proof_promise budget = record {
   is_answer = EndsCheck;
   tells_release = true;
   tells_refusal = true;
-  is_ample = IsAmpleFor budget;
+  is_ample = λ input files. IsAmpleFor budget input;
 }

@@ -1,9 +1,11 @@
 -- In which statuses a run ends whose reply was told, whatever was read.
 --     EndsCheck status notes      of a check that is not at fault, with these notes in the log
 --     EndsSample status notes     of a sample, which reads nothing
-use Rattle.std.specs.Prelude.{◌≡◌, ◌⊎◌, true, List}
+--     LeavesNothing reply         nothing was left, in the log or by the status
+use Rattle.std.specs.Prelude.{◌≡◌, ◌≢◌, ◌⊎◌, true, false, List}
 use Rattle.std.specs.List.{list_any}
-use Rattle.book_commands.specs.Logged.{is_spent}
+use Rattle.book_commands.specs.Logged.{is_spent, was_left}
+use Rattle.book_commands.specs.RunReply.{RunReply}
 use Rattle.book_commands.specs.declared.log.Note.{Note}
 use Rattle.book_commands.specs.declared.run_status.RunStatus.{RunStatus}
 use Rattle.book_commands.specs.declared.run_status.RunStatus.TheVariants.{Done, Refused, Faulty, Undecided, BadCertificate}
@@ -35,3 +37,7 @@ EndsCheck status notes = IsDecided status ⊎ IsLeft status notes
 
 abbrev pub EndsSample : RunStatus → List Note → Type 0
 EndsSample status notes = (status ≡ Done) ⊎ IsLeft status notes
+
+pub record LeavesNothing (reply : RunReply) : Type 0 where
+  pub none : list_any was_left reply.notes ≡ false
+  pub decided : reply.status ≢ Undecided

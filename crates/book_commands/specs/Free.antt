@@ -16,9 +16,10 @@ use Rattle.left_cars.specs.declared.states.Freedom.{Freedom}
 use Rattle.left_cars.specs.declared.states.Freedom.TheVariants.{NoneLeft, NotDecided, Codes}
 use Rattle.parts_usage.specs.Fault.{order_fault}
 use Rattle.parts_usage.specs.declared.fault.OrderFault.{OrderFault}
+use Rattle.book_commands.specs.Ample.{IsAmpleBeside}
 use Rattle.book_commands.specs.Ends.{EndsCheck, IsCheckStatus}
 use Rattle.book_commands.specs.Order.{IsValidOrder}
-use Rattle.book_commands.specs.Promise.{Promise, RepliesAlone, fails_nowhere, touches_nothing, never_ample}
+use Rattle.book_commands.specs.Promise.{Promise, RepliesAlone, fails_nowhere, touches_nothing}
 use Rattle.book_commands.specs.RunReply.{RunReply, book_fault_reply, order_fault_reply}
 use Rattle.book_commands.specs.declared.log.Note.{Note}
 use Rattle.book_commands.specs.declared.log.Note.TheVariants.{Left}
@@ -83,5 +84,5 @@ free_promise day names budget = record {
   is_answer = EndsCheck;
   tells_release = false;
   tells_refusal = false;
-  is_ample = never_ample;
+  is_ample = λ input files. IsAmpleBeside budget day names input;
 }

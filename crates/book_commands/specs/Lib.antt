@@ -3,6 +3,7 @@ pub mod CertText
 pub mod Logged
 pub mod RunReply
 pub mod Promise
+pub mod Ample
 pub mod Ends
 pub mod Order
 pub mod Checks
@@ -22,3 +23,4 @@ pub mod Due
 pub mod Sample
 pub mod Tells
 pub mod Advice
+pub mod Open

@@ -46,3 +46,8 @@ is_spent (Stated fault) = false
 is_spent (Left learnt) = true
 is_spent (BadRow table place) = false
 is_spent (Count which before after) = false
+
+-- something was left, whether it blocks a release or not
+abbrev pub was_left : Note → Bool
+was_left (Spent slice question learnt) = true
+was_left note = is_spent note

@@ -23,8 +23,8 @@ pub record Promise : Type 1 where
   pub tells_release : Bool
   -- refused says that it can't be
   pub tells_refusal : Bool
-  -- the budget leaves no question of this input
-  pub is_ample : List ℕ → Type 0
+  -- the budget leaves nothing of this input, with these files
+  pub is_ample : List ℕ → Option (List NamedBytes) → Type 0
 
 -- ---- a command that reads no file
 
@@ -48,5 +48,5 @@ pub record ReadsFiles (files files' : FilesTold) : Type 0 where
 
 -- ---- one of which nothing is said of budgets
 
-abbrev pub never_ample : List ℕ → Type 0
-never_ample input = ⊥
+abbrev pub never_ample : List ℕ → Option (List NamedBytes) → Type 0
+never_ample input files = ⊥

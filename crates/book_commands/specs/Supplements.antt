@@ -10,9 +10,10 @@ use Rattle.pb_reports.specs.SupplementText.{supplement_text}
 use Rattle.supplement_findings.specs.Limits.{slices_within}
 use Rattle.supplement_findings.specs.Notes.{SupplementInquiry, IsReport, is_finding, is_undecided}
 use Rattle.supplement_findings.specs.declared.report.SupplementNote.{SupplementNote}
+use Rattle.book_commands.specs.Ample.{IsAmpleForRules}
 use Rattle.book_commands.specs.Checks.{RepliesWithin}
 use Rattle.book_commands.specs.Ends.{EndsCheck, IsCheckStatus}
-use Rattle.book_commands.specs.Promise.{Promise, RepliesAlone, fails_nowhere, touches_nothing, never_ample}
+use Rattle.book_commands.specs.Promise.{Promise, RepliesAlone, fails_nowhere, touches_nothing}
 use Rattle.book_commands.specs.RunReply.{RunReply, book_fault_reply}
 use Rattle.book_commands.specs.declared.log.Note.TheVariants.{Supplement}
 use Rattle.book_commands.specs.declared.run_status.RunStatus.{RunStatus}
@@ -51,5 +52,5 @@ supplements_promise budget = record {
   is_answer = EndsCheck;
   tells_release = false;
   tells_refusal = false;
-  is_ample = never_ample;
+  is_ample = λ input files. IsAmpleForRules budget input;
 }

@@ -12,10 +12,11 @@ use Rattle.order_repair.specs.declared.answer.Repair.{Repair}
 use Rattle.order_repair.specs.declared.answer.Repair.TheVariants.{NotNeeded, Undecided, NoOrder, Keep}
 use Rattle.order_repair.specs.declared.answer.WhyAnswer.{WhyAnswer}
 use Rattle.parts_usage.specs.Fault.{order_fault}
+use Rattle.book_commands.specs.Ample.{IsAmpleForSome}
 use Rattle.book_commands.specs.Ends.{IsDecided, IsOrderStatus}
 use Rattle.book_commands.specs.Free.{RepliesUnless}
 use Rattle.book_commands.specs.Order.{IsValidOrder}
-use Rattle.book_commands.specs.Promise.{Promise, RepliesAlone, fails_nowhere, touches_nothing, never_ample}
+use Rattle.book_commands.specs.Promise.{Promise, RepliesAlone, fails_nowhere, touches_nothing}
 use Rattle.book_commands.specs.RunReply.{RunReply, book_fault_reply, outcome_notes, outcome_status}
 use Rattle.book_commands.specs.declared.log.Note.{Note}
 use Rattle.book_commands.specs.declared.log.Note.TheVariants.{Left}
@@ -52,5 +53,5 @@ why_promise day names budget = record {
   is_answer = λ status notes. IsDecided status;
   tells_release = false;
   tells_refusal = false;
-  is_ample = never_ample;
+  is_ample = λ input files. IsAmpleForSome budget day input;
 }

@@ -1,18 +1,25 @@
--- Which checks and proofs leave no question.
-use Rattle.std.specs.Prelude.{◌≡◌, ℕ, List, IsSomeAnd, take}
+-- Which words leave nothing.
+--     IsAmpleTask task before    the task's budget leaves nothing of what is read
+use Rattle.std.specs.Prelude.{IsSomeAnd, take}
 use Rattle.command_words.specs.Parts.{Words}
+use Rattle.book_commands.specs.Ample.{IsAmpleFor}
 use Rattle.book_commands.specs.Promises.{promise_of}
 use Rattle.book_commands.specs.Inputs.{input_limit}
-use Rattle.command_words.specs.declared.task.BookCommand.{BookCommand}
+use Rattle.book_sample.specs.Lines.{sample_text}
 use Rattle.commands.specs.Outside.{Outside}
 use Rattle.command_words.specs.Meaning.{Asks}
-use Rattle.command_words.specs.declared.task.Task.TheVariants.{Book}
+use Rattle.command_words.specs.declared.task.Task.{Task}
+use Rattle.command_words.specs.declared.task.Task.TheVariants.{Book, Sample}
+use Rattle.pb_base.specs.declared.limits.TheConstants.{DEFAULT_BUDGET}
 
--- the words ask for a check or a proof whose budget is above 3 to the power of the number of variables of the slice, on each day
--- of the term of the book that is read
+-- of other tasks nothing is said
+abbrev pub IsAmpleTask : Task → Outside → Type 0
+IsAmpleTask (Book command) before =
+    IsSomeAnd before.reads.source.left (λ all. (promise_of command).is_ample (take input_limit all) before.reads.files.files)
+IsAmpleTask (Sample size) before = IsAmpleFor DEFAULT_BUDGET (sample_text size.start size.codes)
+IsAmpleTask task before = ⊥
+
 pub record AskAmple (words : Words) (before : Outside) : Type 0 where
-  pub command : BookCommand
-  pub asked : Asks words (Book command)
-  pub input : List ℕ
-  pub given : IsSomeAnd before.reads.source.left (λ all. input ≡ take input_limit all)
-  pub ample : (promise_of command).is_ample input
+  pub task : Task
+  pub asked : Asks words task
+  pub ample : IsAmpleTask task before

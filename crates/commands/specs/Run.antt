@@ -3,6 +3,8 @@ use Rattle.std.specs.Prelude.{◌≡◌, ◌≢◌, ◌⊎◌, IfOk}
 use Rattle.book_text.specs.BookText.{book_of}
 use Rattle.command_words.specs.Parts.{Words}
 use Rattle.book_commands.specs.Advice.{TellsOrders}
+use Rattle.book_commands.specs.Ends.{LeavesNothing}
+use Rattle.book_commands.specs.Open.{TellsOpen}
 use Rattle.book_commands.specs.declared.run_status.RunStatus.{RunStatus}
 use Rattle.book_commands.specs.declared.run_status.RunStatus.TheVariants as statuses
 use Rattle.commands.specs.Ample.{AskAmple}
@@ -24,8 +26,12 @@ pub record IsRun (words : Words) (before after : Outside) (status : RunStatus) :
   pub released : status ≡ statuses.Done → AskRelease words → IsReleasableInput before.reads.source.left
   -- where they ask what keeps it from its release, refused says that it can't be released
   pub blocked : status ≡ statuses.Refused → AskCheck words → IsBlockedInput before.reads.source.left
-  -- where the budget is above the number of clauses that can be new, no question is left
+  -- a question that a check or a proof leaves is open in its slice: propagation doesn't refute it, nor is the budget above the
+  -- number of clauses that can be new
+  pub leaves_open : (h : GivesReply words before after status) → IfOk (book_of h.input) (λ b. TellsOpen h.command b h.reply)
+  -- where the budget is above that number, nothing is left: not by the status, nor by a note of a reply
   pub decided : AskAmple words before → status ≢ statuses.Undecided
+  pub leaves_nothing : AskAmple words before → (h : GivesReply words before after status) → LeavesNothing h.reply
   -- what free, why and ask tell is so of the orders that the book accepts
   pub advises : (h : GivesReply words before after status) → IfOk (book_of h.input) (λ b. TellsOrders h.command b h.reply)
   -- whatever the status, a desk that was started, alone or for many workers, keeps what it promises

@@ -3,6 +3,7 @@ use Rattle.std.proofs.Common.{◌≡◌, ℕ, zero, suc, ◌<◌, List, [], ◌�
 use Rattle.std.specs.Prelude.{IfSome, IsSome}
 use Rattle.std.specs.List.{AllZip}
 use Rattle.std.proofs.lemmas.Bool.{false≢true}
+use Rattle.pb_base.specs.InParts.{InParts}
 use Rattle.book_model.specs.Book.{IsBook}
 use Rattle.book_model.specs.Contents.{Contents}
 use Rattle.book_model.specs.Sound.{IsReleasable}
@@ -10,7 +11,7 @@ use Rattle.book_model.specs.declared.record.Slice.{Slice}
 use Rattle.derivation.specs.Accepted.{IsAccepted}
 use Rattle.findings.specs.Answering.{inquiry}
 use Rattle.findings.specs.Checked.{IsChecked, IsShownBy}
-use Rattle.findings.specs.Notes.{InParts, SliceNotes}
+use Rattle.findings.specs.Notes.{SliceNotes}
 use Rattle.findings.specs.declared.report.Note.{Note}
 use Rattle.findings.specs.declared.slice.SliceCheck.{SliceCheck}
 use Rattle.findings.specs.declared.task.Effort.{Effort}

@@ -4,6 +4,7 @@ use Rattle.std.specs.List.{filter}
 use Rattle.std.proofs.lemmas.Bool.{cases_Bool, cond_both, cond-true, cond-false, true≢false}
 use Rattle.std.proofs.lemmas.List.{take_more}
 use Rattle.std.proofs.lemmas.List.Elements.{filter-append}
+use Rattle.pb_base.specs.InParts.{InParts}
 use Rattle.book_model.specs.Contents.{Contents}
 use Rattle.book_model.specs.declared.record.Slice.{Slice}
 use Rattle.clausify.specs.Coded.{slice_asked}
@@ -13,7 +14,7 @@ use Rattle.clausify.specs.declared.question.Question.{Question}
 use Rattle.clausify.specs.declared.question.Question.TheVariants.{Void}
 use Rattle.clausify.proofs.QuestionLaws.{asked_in_order}
 use Rattle.findings.specs.Findings.{MeetsThrough}
-use Rattle.findings.specs.Notes.{Inquiry, InParts, OwnNotes, SliceNotes, is_asked}
+use Rattle.findings.specs.Notes.{Inquiry, OwnNotes, SliceNotes, is_asked}
 use Rattle.findings.specs.Outcomes.{outcome_of_set, notes_of}
 use Rattle.findings.specs.Core.{AreToldOf, OwnOf, later_questions, outcome_of_none}
 use Rattle.findings.specs.declared.outcome.Outcome.{Outcome}

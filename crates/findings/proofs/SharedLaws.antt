@@ -1,11 +1,11 @@
 -- The notes of each slice, one behind the other, are the notes of all.
 use Rattle.std.proofs.Common.{◌≡◌, ◌≤◌, List, [], ◌∷◌, Ok, All, subst}
 use Rattle.std.specs.List.{AllZip}
+use Rattle.pb_base.specs.InParts.{InParts}
 use Rattle.book_model.specs.Contents.{Contents}
 use Rattle.book_model.specs.declared.record.Slice.{Slice}
 use Rattle.derivation.specs.Limits.{AreWithin, slices_within}
 use Rattle.findings.specs.Checkable.{IsCheckable}
-use Rattle.findings.specs.Notes.{InParts}
 use Rattle.findings.specs.declared.report.Note.{Note}
 use Rattle.findings.proofs.BookLaws.{steady_within, ordered_within}
 

@@ -5,6 +5,7 @@ use Rattle.std.specs.Result.{OnOk}
 use Rattle.std.proofs.lemmas.Bool.{false≢true, or_left, cond_both}
 use Rattle.std.proofs.lemmas.List.{take_all}
 use Rattle.std.proofs.lemmas.Option.{slice_get-get_or}
+use Rattle.pb_base.specs.InParts.{InParts}
 use Rattle.book_model.specs.Contents.{Contents}
 use Rattle.book_model.specs.declared.record.Slice.{Slice}
 use Rattle.clause_pool.proofs.ClauseLaws.{all_found}
@@ -23,7 +24,7 @@ use Rattle.derivation.specs.declared.closing.Closing.{Closing}
 use Rattle.chains.specs.Growth.{Extends}
 use Rattle.solver.specs.Solver.{Solving}
 use Rattle.findings.specs.Findings.{MeetsThrough}
-use Rattle.findings.specs.Notes.{Inquiry, InParts, OwnNotes, IsNoteOf, SliceNotes, is_asked}
+use Rattle.findings.specs.Notes.{Inquiry, OwnNotes, IsNoteOf, SliceNotes, is_asked}
 use Rattle.findings.specs.Answering.{SliceFacts, IsAsked, IsOver, AreTold, ShowsUnlessStopped, proof_in, stops}
 use Rattle.findings.specs.declared.slice.Shown.{Shown}
 use Rattle.findings.specs.declared.slice.SliceCheck.{SliceCheck}

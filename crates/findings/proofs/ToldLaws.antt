@@ -6,6 +6,7 @@ use Rattle.std.proofs.lemmas.List.{get_or_append_left, take_more, length-take-le
 use Rattle.std.proofs.lemmas.List.Elements.{filter-append}
 use Rattle.std.proofs.lemmas.List.Folds.{list_any-append}
 use Rattle.std.proofs.lemmas.Slice.Zip.{all_zipped_more}
+use Rattle.pb_base.specs.InParts.{InParts}
 use Rattle.book_model.specs.Contents.{Contents}
 use Rattle.book_model.specs.declared.record.Slice.{Slice}
 use Rattle.clause_pool.specs.Derivation.{Derivation}
@@ -22,7 +23,7 @@ use Rattle.derivation.specs.declared.closing.Closing.{Closing}
 use Rattle.derivation.specs.declared.closing.ToClose.{ToClose}
 use Rattle.chains.specs.Growth.{Extends}
 use Rattle.findings.specs.Findings.{MeetsThrough}
-use Rattle.findings.specs.Notes.{Inquiry, InParts, OwnNotes, is_asked, is_blocking}
+use Rattle.findings.specs.Notes.{Inquiry, OwnNotes, is_asked, is_blocking}
 use Rattle.findings.specs.Outcomes.{outcome_of_set, outcome_of_clause, notes_of, closings_of}
 use Rattle.findings.specs.Answering.{ClosedAt, IsOutcome, AreTold, stops}
 use Rattle.findings.specs.declared.outcome.Outcome.{Outcome}

@@ -14,6 +14,7 @@
 use Rattle.std.specs.Prelude.{◌≡◌, ◌↔◌, ℕ, ◌*◌, ◌<◌, ◌≤◌, Bool, true, false, ◌||◌, List, [], ◌∷◌, Option, Some, None, IsTrue, filter, length, slice_get}
 use Rattle.std.specs.List.{AllZip, list_any}
 use Rattle.pb_base.specs.declared.limits.TheConstants.{MOST_BUDGET}
+use Rattle.pb_base.specs.InParts.{InParts}
 use Rattle.book_model.specs.Activity.{is_within}
 use Rattle.book_model.specs.Contents.{Contents}
 use Rattle.book_model.specs.declared.record.Slice.{Slice}
@@ -28,7 +29,7 @@ use Rattle.derivation.specs.Stage.{to_close}
 use Rattle.derivation.specs.Written.{IsBegun}
 use Rattle.derivation.specs.declared.slice_proof.SliceProof.{SliceProof}
 use Rattle.solver.specs.Solver.{Solving}
-use Rattle.findings.specs.Notes.{Inquiry, InParts, OwnNotes, is_asked, is_fault, is_left}
+use Rattle.findings.specs.Notes.{Inquiry, OwnNotes, is_asked, is_fault, is_left}
 use Rattle.findings.specs.declared.task.Effort.{Effort}
 use Rattle.findings.specs.declared.task.SliceTask.{SliceTask}
 use Rattle.findings.specs.declared.outcome.Outcome.{Outcome}

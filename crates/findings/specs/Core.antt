@@ -14,6 +14,7 @@ use Rattle.std.specs.Prelude.{◌≡◌, ℕ, ◌*◌, ◌<◌, ◌≤◌, Bool,
 use Rattle.std.specs.List.{flat_map, list_all, list_any}
 use Rattle.pb_base.specs.Rule.{holds}
 use Rattle.pb_base.specs.declared.limits.TheConstants.{MOST_BUDGET}
+use Rattle.pb_base.specs.InParts.{InParts}
 use Rattle.book_model.specs.Activity.{is_within}
 use Rattle.book_model.specs.Contents.{Contents}
 use Rattle.book_model.specs.Good.{is_good}
@@ -29,7 +30,7 @@ use Rattle.clausify.specs.declared.question.Question.{Question}
 use Rattle.derivation.specs.Showing.{StandsOver}
 use Rattle.propagate.specs.Trail.{AreBelow}
 use Rattle.solver.specs.Solver.{Solving}
-use Rattle.findings.specs.Notes.{Inquiry, InParts, OwnNotes, is_asked}
+use Rattle.findings.specs.Notes.{Inquiry, OwnNotes, is_asked}
 use Rattle.findings.specs.declared.outcome.Outcome.{Outcome}
 use Rattle.findings.specs.declared.outcome.Outcome.TheVariants.{Fine, Noted}
 use Rattle.findings.specs.declared.report.Note.{Note}

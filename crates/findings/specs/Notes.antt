@@ -4,6 +4,7 @@
 --     IsReport i notes    a note for each slice of the book in order, each followed by the notes on its questions in order
 use Rattle.std.specs.Prelude.{◌≡◌, ℕ, Bool, true, false, List, [], ◌∷◌, ◌++◌, Ok, filter, if◌then◌else◌}
 use Rattle.std.specs.List.{list_any}
+use Rattle.pb_base.specs.InParts.{InParts}
 use Rattle.book_model.specs.Contents.{Contents}
 use Rattle.book_model.specs.declared.record.Slice.{Slice}
 use Rattle.clausify.specs.Coded.{slice_clauses, slice_variables, slice_asked}
@@ -66,12 +67,6 @@ abbrev pub OwnNotes : Inquiry → Slice → Asked → List Note → Type 0
 OwnNotes i s a [] = NeedsNoNote i.book s a.question
 OwnNotes i s a (note ∷ []) = IsNoteOf i s a note
 OwnNotes i s a (note ∷ second ∷ notes) = ⊥
-
--- one part of the notes for each of these, in order
-abbrev pub InParts : {X N : Type 0} → (X → List N → Type 0) → List X → List N → Type 0
-InParts IsPart [] notes = notes ≡ []
-InParts {X} {N} IsPart (x ∷ xs) notes =
-    (own : List N) × (later : List N) × (notes ≡ own ++ later) × IsPart x own × InParts IsPart xs later
 
 -- behind a note on Void nothing is asked
 abbrev pub AfterVoid : Inquiry → Slice → List Asked → List Note → List Note → Type 0

@@ -9,11 +9,12 @@ ghost use Rattle.derivation.specs.Written.{IsBegun};
 ghost use Rattle.derivation.specs.declared.slice_proof.SliceProof.{SliceProof};
 ghost use Rattle.book_model.specs.declared.record.Slice.{Slice};
 ghost use Rattle.findings.specs.Checkable.{IsCheckable};
-ghost use Rattle.findings.specs.Notes.{InParts, IsReport, SliceNotes, verdict_of};
+ghost use Rattle.findings.specs.Notes.{IsReport, SliceNotes, verdict_of};
 ghost use Rattle.slice_hints.specs.Found.{KnowsUsages};
 ghost use Rattle.findings.specs.Answering.{IsShownIn, ShowsUnlessStopped, inquiry, stops};
 ghost use Rattle.derivation.specs.Accepted.{IsAccepted};
 ghost use Rattle.pb_base.specs.declared.limits.TheConstants.{MOST_BUDGET};
+ghost use Rattle.pb_base.specs.InParts.{InParts};
 
 use crate::earlier::Earlier;
 use crate::laws::book_laws;

@@ -3,13 +3,14 @@ ghost use Rattle.std.specs.Prelude.{◌≡◌, ◌↔◌, ◌<◌, ◌≤◌, Al
 ghost use Rattle.std.specs.List.{AllZip, list_any};
 ghost use Rattle.pb_base.specs.Answers.{IfRefused};
 ghost use Rattle.pb_base.specs.declared.limits.TheConstants.{MOST_BUDGET};
+ghost use Rattle.pb_base.specs.InParts.{InParts};
 ghost use Rattle.book_model.specs.Sound.{IsReleasable};
 ghost use Rattle.derivation.specs.Accepted.{IsAccepted};
 ghost use Rattle.derivation.specs.Limits.{slices_within};
 ghost use Rattle.findings.specs.Answering.{IsShownIn, inquiry, stops};
 ghost use Rattle.findings.specs.Checkable.{IsCheckable};
 ghost use Rattle.findings.specs.Checked.{IsShownBy};
-ghost use Rattle.findings.specs.Notes.{InParts, IsReport, SliceNotes, verdict_of};
+ghost use Rattle.findings.specs.Notes.{IsReport, SliceNotes, verdict_of};
 
 use crate::check::{Checked, SliceChecks, check_slices, concluded};
 use crate::laws::book_laws;

@@ -2,10 +2,11 @@
 ghost use Rattle.std.specs.Prelude.{◌≡◌, ◌<◌, ◌≤◌, All, IfOk, Err};
 ghost use Rattle.pb_base.specs.Answers.{IfRefused};
 ghost use Rattle.pb_base.specs.declared.limits.TheConstants.{MOST_BUDGET};
+ghost use Rattle.pb_base.specs.InParts.{InParts};
 ghost use Rattle.derivation.specs.Limits.{slices_within};
 ghost use Rattle.findings.specs.Answering.{inquiry};
 ghost use Rattle.findings.specs.Checkable.{IsCheckable};
-ghost use Rattle.findings.specs.Notes.{InParts, IsReport, SliceNotes};
+ghost use Rattle.findings.specs.Notes.{IsReport, SliceNotes};
 
 use crate::laws::book_laws;
 use crate::report::{Ask, Note, Report};

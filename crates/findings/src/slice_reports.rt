@@ -5,8 +5,9 @@ ghost use Rattle.book_model.specs.declared.record.Slice.{Slice};
 ghost use Rattle.slice_hints.specs.Found.{KnowsUsages};
 ghost use Rattle.findings.specs.Answering.{inquiry};
 ghost use Rattle.findings.specs.Checkable.{IsCheckable, IsEffort};
-ghost use Rattle.findings.specs.Notes.{InParts, SliceNotes};
+ghost use Rattle.findings.specs.Notes.{SliceNotes};
 ghost use Rattle.pb_base.specs.declared.limits.TheConstants.{MOST_BUDGET};
+ghost use Rattle.pb_base.specs.InParts.{InParts};
 
 use crate::core_report::report_slice;
 use crate::earlier::Earlier;

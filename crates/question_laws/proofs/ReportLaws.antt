@@ -5,6 +5,7 @@ use Rattle.std.proofs.lemmas.Bool.{or_parts, true≢false}
 use Rattle.std.proofs.lemmas.List.{map-append}
 use Rattle.std.proofs.lemmas.List.Folds.{list_any-append}
 use Rattle.pb_base.specs.InParts as base
+use Rattle.pb_base.specs.InParts.{InParts}
 use Rattle.book_model.specs.Contents.{Contents}
 use Rattle.book_model.specs.Slices.{IsOrdered}
 use Rattle.book_model.specs.declared.record.Slice.{Slice}
@@ -12,7 +13,7 @@ use Rattle.clausify.specs.Coded.{slice_asked}
 use Rattle.clausify.specs.declared.question.Asked.{Asked}
 use Rattle.clausify.specs.declared.question.Question.{Question}
 use Rattle.findings.specs.Findings.{NeedsNoNote}
-use Rattle.findings.specs.Notes.{AfterVoid, Inquiry, InParts, IsNoteOf, IsReport, OwnNotes, QuestionNotes, SliceNotes, is_asked, is_fault, is_left, verdict_of}
+use Rattle.findings.specs.Notes.{AfterVoid, Inquiry, IsNoteOf, IsReport, OwnNotes, QuestionNotes, SliceNotes, is_asked, is_fault, is_left, verdict_of}
 use Rattle.findings.specs.declared.report.Ask.{Ask}
 use Rattle.findings.specs.declared.report.Note.{Note}
 use Rattle.findings.specs.declared.report.Note.TheVariants.{Days, Finding, Undecided}

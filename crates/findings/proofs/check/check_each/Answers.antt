@@ -1,8 +1,9 @@
 use Rattle.std.proofs.Common.{◌≡◌, List, [], ◌∷◌, ◌++◌, ◌+◌, ◌<◌, ◌≤◌, get_or, length, take, sym, ap, subst, ◌∙◌, arith}
 use Rattle.std.proofs.lemmas.List.{take_all, take_more, length-take-le}
 use Rattle.std.specs.List.{list_any}
+use Rattle.pb_base.specs.InParts.{InParts}
 use Rattle.book_model.specs.declared.record.Slice.{Slice}
-use Rattle.findings.specs.Notes.{InParts, SliceNotes}
+use Rattle.findings.specs.Notes.{SliceNotes}
 use Rattle.findings.specs.Answering.{IsShownIn, inquiry, stops}
 use Rattle.findings.proofs.BookLaws.{stopped_more, codes_shown, shown_none}
 use Rattle.findings.proofs.ToldLaws.{parts_more}

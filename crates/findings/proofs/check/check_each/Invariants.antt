@@ -1,8 +1,9 @@
 -- The slices so far are told of.
 use Rattle.std.proofs.Common.{◌≡◌, false, length, take, All}
 use Rattle.std.specs.List.{list_any}
+use Rattle.pb_base.specs.InParts.{InParts}
 use Rattle.slice_hints.specs.Found.{KnowsUsages}
-use Rattle.findings.specs.Notes.{InParts, SliceNotes}
+use Rattle.findings.specs.Notes.{SliceNotes}
 use Rattle.findings.specs.Answering.{IsShownIn, inquiry, stops}
 use Rattle.findings.proofs.check.check_each.Given as goal
 

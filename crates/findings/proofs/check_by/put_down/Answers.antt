@@ -4,10 +4,10 @@ use Rattle.std.proofs.lemmas.List.{take_all, take_more, length-take-le}
 use Rattle.std.proofs.lemmas.Slice.Zip.{AllZip-long}
 use Rattle.std.proofs.lemmas.Iterator.Adapters.{YieldsList-from_vec}
 use Rattle.std.proofs.lemmas.Iterator.Consumers.{YieldsList-end, YieldsList-turn}
+use Rattle.pb_base.specs.InParts.{InParts}
 use Rattle.book_model.specs.declared.record.Slice.{Slice}
 use Rattle.findings.specs.Answering.{IsShownIn, stops}
 use Rattle.findings.specs.Checked.{IsShownBy}
-use Rattle.findings.specs.Notes.{InParts}
 use Rattle.findings.specs.declared.report.Note.{Note}
 use Rattle.findings.specs.declared.slice.SliceCheck.{SliceCheck}
 use Rattle.findings.proofs.BookLaws.{stopped_more, codes_shown, shown_none}

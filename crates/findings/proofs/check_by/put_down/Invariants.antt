@@ -1,8 +1,8 @@
 -- The checks so far are put down.
 use Rattle.std.proofs.Common.{◌≡◌, false, List, length, take}
 use Rattle.std.specs.List.{list_any}
+use Rattle.pb_base.specs.InParts.{InParts}
 use Rattle.findings.specs.Answering.{IsShownIn, stops}
-use Rattle.findings.specs.Notes.{InParts}
 use Rattle.findings.specs.declared.report.Note.{Note}
 use Rattle.findings.specs.declared.slice.SliceCheck.{SliceCheck}
 use Rattle.findings.proofs.check_by.put_down.Given as goal

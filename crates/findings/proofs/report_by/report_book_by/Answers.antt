@@ -1,8 +1,9 @@
 use Rattle.std.proofs.Common.{All, List, sym, subst}
+use Rattle.pb_base.specs.InParts.{InParts}
 use Rattle.book_model.specs.declared.record.Slice.{Slice}
 use Rattle.derivation.specs.Limits.{slices_within}
 use Rattle.findings.specs.Checkable.{IsCheckable}
-use Rattle.findings.specs.Notes.{Inquiry, InParts, SliceNotes}
+use Rattle.findings.specs.Notes.{Inquiry, SliceNotes}
 use Rattle.findings.proofs.BookLaws.{refusal_passed}
 use Rattle.findings.proofs.SharedLaws.{checkable_within}
 use Rattle.findings.proofs.report_by.report_book_by.Goals as goal

@@ -1,7 +1,7 @@
 use Rattle.std.proofs.Common.{◌≡◌, List, [], ◌∷◌, ◌++◌, map-id, rules, sym, subst, ◌∙◌}
 use Rattle.std.proofs.lemmas.Iterator.Adapters.{YieldsList-from_vec}
 use Rattle.std.proofs.lemmas.Iterator.Consumers.{YieldsList-end}
-use Rattle.findings.specs.Notes.{InParts}
+use Rattle.pb_base.specs.InParts.{InParts}
 use Rattle.findings.specs.declared.report.Note.{Note}
 use Rattle.findings.proofs.ToldLaws.{parts_more}
 use Rattle.findings.proofs.slice_reports.joined.Goals as goal

@@ -1,5 +1,5 @@
 use Rattle.std.proofs.Common.{◌≡◌, List}
-use Rattle.findings.specs.Notes.{InParts}
+use Rattle.pb_base.specs.InParts.{InParts}
 use Rattle.findings.specs.declared.report.Note.{Note}
 use Rattle.findings.proofs.slice_reports.joined.Given as goal
 

@@ -1,0 +1,64 @@
+-- Budgets that leave nothing: above 3 to the power of the number of variables of each question's clauses, since no more clauses
+-- can be new. Of a text that is no book's there is nothing to leave.
+--     IsAmpleFor budget text                     the questions of a check, on each day of the book's term
+--     IsAmpleForRules budget text                those on its supplementing rules, on each day of the term
+--     IsAmpleForBoth budget day first second     those of the checks of both books, and each position of either on the day
+--     IsAmpleBeside budget day names text        a search for a car of the day that has the codes of an order
+--     IsAmpleForSome budget day text             one for a car of the day that has some codes, whichever they are
+--     IsAmpleToMeet budget day rule text         one for a car of the day that meets the rule
+--     IsAmpleForFile IsAmple file input files    so it is of the input and the content of the file
+use Rattle.std.specs.Prelude.{ℕ, ◌<◌, ◌≤◌, ◌^◌, List, [], Option, IfOk, IsSomeAnd, length}
+use Rattle.std.specs.List.{AllByRecursion}
+use Rattle.blame.specs.Blame.{blame_items}
+use Rattle.blame.specs.Entries.{all_entries}
+use Rattle.book_compare.specs.Asked.{asked_variables}
+use Rattle.book_model.specs.Contents.{Contents}
+use Rattle.book_text.specs.BookText.{book_of}
+use Rattle.chosen_parts.specs.Chosen.{ids_of_either}
+use Rattle.findings.specs.Left.{IsAmple}
+use Rattle.free_answers.specs.Answer.{chosen_of}
+use Rattle.item_search.specs.Search.{items_variables}
+use Rattle.left_cars.specs.Left.{left_items}
+use Rattle.pb_base.specs.Rule.{Rule, always}
+use Rattle.pb_outside.specs.Files.{NamedBytes, content_of}
+use Rattle.rule_text.specs.Reading.{rule_of}
+use Rattle.supplement_findings.specs.Clauses.{question_variables}
+use Rattle.supplement_findings.specs.Questions.{questions}
+
+abbrev pub IsAmpleFor : ℕ → List ℕ → Type 0
+IsAmpleFor budget text = IfOk (book_of text) (λ b. IsAmple b budget)
+
+abbrev pub AreRulesDecided : ℕ → Contents → Type 0
+AreRulesDecided budget b =
+    (day : ℕ) → b.first ≤ day → day ≤ b.last → AllByRecursion (λ q. 3 ^ question_variables b day q < budget) (questions b day)
+
+abbrev pub IsAmpleForRules : ℕ → List ℕ → Type 0
+IsAmpleForRules budget text = IfOk (book_of text) (AreRulesDecided budget)
+
+abbrev pub ArePositionsDecided : ℕ → ℕ → Contents → Contents → Type 0
+ArePositionsDecided budget day one other =
+    AllByRecursion (λ id. 3 ^ asked_variables one other day id < budget) (ids_of_either one other)
+
+pub record IsAmpleForBoth (budget day : ℕ) (first second : List ℕ) : Type 0 where
+  pub first_check : IsAmpleFor budget first
+  pub second_check : IsAmpleFor budget second
+  pub positions : IfOk (book_of first) (λ one. IfOk (book_of second) (ArePositionsDecided budget day one))
+
+abbrev pub IsAmpleBeside : ℕ → ℕ → List (List ℕ) → List ℕ → Type 0
+IsAmpleBeside budget day names text =
+    IfOk (book_of text) (λ b. 3 ^ items_variables (length b.codes) (left_items b day (chosen_of b.codes names)) < budget)
+
+-- the search for a car that has the codes and meets the rule is over so many variables
+abbrev pub met_variables : Contents → ℕ → List ℕ → Rule → ℕ
+met_variables b day kept rule = items_variables (length b.codes) (blame_items b (all_entries b day kept) rule)
+
+abbrev pub IsAmpleForSome : ℕ → ℕ → List ℕ → Type 0
+IsAmpleForSome budget day text = IfOk (book_of text) (λ b. (kept : List ℕ) → 3 ^ met_variables b day kept always < budget)
+
+abbrev pub IsAmpleToMeet : ℕ → ℕ → List ℕ → List ℕ → Type 0
+IsAmpleToMeet budget day rule text =
+    IfOk (book_of text) (λ b. IfOk (rule_of b.codes rule) (λ f. 3 ^ met_variables b day [] f < budget))
+
+-- the file is told and there
+abbrev pub IsAmpleForFile : (List ℕ → List ℕ → Type 0) → List ℕ → List ℕ → Option (List NamedBytes) → Type 0
+IsAmpleForFile IsAmple file input files = IsSomeAnd files (λ all. IsSomeAnd (content_of all file) (IsAmple input))
