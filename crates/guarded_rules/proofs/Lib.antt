@@ -2,5 +2,4 @@ pub mod GuardLaws
 pub mod GuardedLaws
 pub mod BelowLaws
 pub mod MadeLaws
-pub mod AgreeLaws
 mod WorkedGuards
