@@ -295,3 +295,10 @@ module _ (s t : Scene) (c : List ℕ) (v : Visits) (refuted : Option ℕ) (j : J
 
     some_same : (n m : ℕ) → Some n ≡ Some m → n ≡ m
     some_same n m e = cc
+
+-- the same where the lists were laid out before
+pub joined_over : (a : Assigned) (v w : Watching) (t : Scene) (c : List ℕ) → v ≡ w → Joined (scene a v) t c → Joined (scene a w) t c
+joined_over a v w t c e j = subst (λ (x : Watching). Joined (scene a x) t c) e j
+
+pub held_over : (a : Assigned) (h : Visits) (x v w : Watching) → v ≡ w → IsHeld a h x (length v.clauses) → IsHeld a h x (length w.clauses)
+held_over a h x v w e held = subst (λ (u : Watching). IsHeld a h x (length u.clauses)) e held

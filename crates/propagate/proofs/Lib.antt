@@ -2,7 +2,7 @@ pub mod QuietLaws
 pub mod AssignmentLaws
 pub mod AssignmentSteps
 pub mod KeepLaws
-pub mod ListLaws
+pub mod BlockLaws
 pub mod WatchLaws
 pub mod LookLaws
 pub mod EngineLaws

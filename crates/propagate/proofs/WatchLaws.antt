@@ -2,7 +2,7 @@
 use Rattle.std.proofs.Common.{◌≡◌, inl, inr, ℕ, zero, suc, ◌+◌, ◌-◌, ◌<◌, ◌≤◌, true, false, ◌||◌, List, [], ◌∷◌, ◌++◌, Some, length, take, get_or, eqb, refl, sym, subst, ◌∙◌, ap, arith}
 use Rattle.std.specs.List.{AllByRecursion, list_any, slice_get, slice_set, swap_remove}
 use Rattle.std.proofs.lemmas.Bool.{cases_eq, false≢true, or_cases, or_left, or_right, eq-eqb, eqb-true}
-use Rattle.std.proofs.lemmas.List.{get_or-set_same, get_or-set_other, length-set, take-set, length-take-le}
+use Rattle.std.proofs.lemmas.List.{get_or-set_same, get_or-set_other, length-set, take-set, length-take-le, ext_get_or}
 use Rattle.std.proofs.lemmas.List.Folds.{list_any-append}
 use Rattle.std.proofs.lemmas.List.Sorted.{IsPermutation-swap_remove, list_any-IsPermutation}
 use Rattle.std.proofs.lemmas.Option.{get_or_from_slice_get, slice_get-get_or}
@@ -221,3 +221,11 @@ moved_by w code at other open_literal e r lists more is_more is_lists is_r found
 
 pub one_entry : (xs : List Watch) (at : ℕ) (e f : Watch) → slice_get xs at ≡ Some e → slice_get xs at ≡ Some f → e ≡ f
 one_entry xs at e f first second = let same : Some e ≡ Some f = sym first ∙ second in cc
+
+-- before any clause is there, all lists are empty
+no_entries : (w : Watching) (code : ℕ) (entries : List Watch) → length w.clauses ≡ 0 → AllByRecursion (EntryFits w code) entries → entries ≡ []
+no_entries w code [] none h = refl
+no_entries w code (e ∷ entries) none h = let a = h.0.attached in absurd (omega (arith, a, none))
+
+pub lists_anew : (w : Watching) (lists : List (List Watch)) → IsWatching w → length w.clauses ≡ 0 → length lists ≡ length w.lists → ((code : ℕ) → get_or lists code [] ≡ []) → lists ≡ w.lists
+lists_anew w lists ok none count empty = ext_get_or [] lists w.lists count (λ code low. empty code ∙ sym (no_entries w code (list_of w code) none (ok.entries code)))

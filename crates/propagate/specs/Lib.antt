@@ -6,6 +6,7 @@ pub mod Watching
 pub mod Visiting
 pub mod Running
 pub mod Attaching
+pub mod Block
 pub mod Joining
 pub mod Packing
 pub mod Plain

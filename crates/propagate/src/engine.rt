@@ -150,8 +150,9 @@ impl Engine {
         self.watched.count()
     }
 
-    /// Attaches the next clause of a pool; a literal that it forces may become true at once. On want of
-    /// memory the engine is as before. There is no room for 2^31 clauses.
+    /// Attaches the next clause of a pool; a literal that it forces may become true at once. The first call
+    /// makes room for what the pool has by then. On want of memory the engine is as before. There is no room
+    /// for 2^31 clauses.
     pub fn attach(&mut self, pool: &Pool, at: Ref) -> Result<(), Memory>
         requires next { at ≡ length self.old.clauses }
         requires there { at < length pool.now.clauses }
@@ -169,6 +170,7 @@ impl Engine {
         let Ok(clause) = u32::try_from(at) else {
             return Err(Memory);
         };
+        self.watched.lay_out(pool)?;
         if !join(
             &mut self.assignment,
             &mut self.watched,

@@ -8,6 +8,7 @@ mod engine;
 mod plain;
 mod visit;
 mod watch;
+mod watch_lists;
 mod watches;
 
 pub use engine::Engine;

@@ -6,8 +6,9 @@ ghost use Rattle.propagate.specs.Watching.{Watches, IsListed, IsEntryAt, HasAt, 
 ghost use Rattle.propagate.specs.Attaching.{Attached};
 
 use crate::clause_store::ClauseStore;
-use crate::watch::{ShortWatch, Watch, WatchLists, Watched};
-use clause_pool::{Lit, make_room};
+use crate::watch::{ShortWatch, Watch, Watched};
+use crate::watch_lists::{WatchLists, rooms_for};
+use clause_pool::{Lit, Pool, make_room};
 use pb_base::Memory;
 use std::alloc::Global;
 use std::marker::Model;
@@ -43,6 +44,19 @@ impl WatchedClauses {
             watched: Vec::new(alloc),
             lists: WatchLists::new(alloc, literals)?,
         })
+    }
+
+    /// Makes the room that the clauses of a pool need, before any clause is there.
+    pub(crate) fn lay_out(&mut self, pool: &Pool) -> Result<(), Memory>
+        ensures { self.new ≡ self.old }
+    {
+        if self.store.len() > 0 {
+            return Ok(());
+        }
+        let alloc = *self.watched.allocator();
+        let rooms = rooms_for(alloc, pool, self.lists.len())?;
+        self.lists = WatchLists::with_rooms(alloc, &rooms)?;
+        Ok(())
     }
 
     /// The number of clauses.

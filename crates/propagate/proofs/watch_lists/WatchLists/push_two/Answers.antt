@@ -1,5 +1,5 @@
 use Rattle.propagate.proofs.AttachLaws.{pushed_back}
-use Rattle.propagate.proofs.watch.WatchLists.push_two.Goals as goal
+use Rattle.propagate.proofs.watch_lists.WatchLists.push_two.Goals as goal
 
 pub returns-in_default-clause-err : goal.returns-in_default-clause-err
 returns-in_default-clause-err c =
