@@ -31,7 +31,7 @@ use Rattle.clausify.proofs.LiftLaws.{lifted, IsLiftedOver, lift_items, truth_fro
 use Rattle.book_compare.specs.Common.{AreNamed, IsCommon}
 use Rattle.book_compare.specs.Numbering.{numbers_of, missing_from, added_from, alone}
 use Rattle.book_compare.specs.JointItems.{absent_item, absent_items, renamed_item, day_variants, renamed_usage, renamed_usage_items, renamed_usages, second_items, joint_items, first_variable, joint_clauses, first_rules_at, first_usages_at, second_rules_at, second_usages_at, first_usages, second_usages}
-use Rattle.book_compare.proofs.AgreeLaws.{Agree, holds_agree, all_meet_agree, all_fit_more}
+use Rattle.clausify.proofs.AgreeLaws.{Agree, holds_agree, all_meet_agree, all_fit_more}
 use Rattle.book_compare.proofs.NumberLaws.{length-numbers_from, numbers_below, number_has, added_at, all_added, missing_absent, missing_below, added_below}
 use Rattle.book_compare.proofs.RenameLaws.{all_meet_renamed, all_meet_own, all_fit_renamed}
 

@@ -1,4 +1,3 @@
-pub mod AgreeLaws
 pub mod NumberLaws
 pub mod RenameLaws
 pub mod JointLaws

@@ -10,7 +10,7 @@ use Rattle.book_model.specs.Good.{present}
 use Rattle.clausify.specs.Items.{Claim, adds, needed_by, needed, one_of, most_of, free, Item}
 use Rattle.clausify.proofs.ItemLaws.{meets_claim, meets, claim_fits, item_fits, AllFit, AllMeet}
 use Rattle.book_compare.specs.JointItems.{number_at, renamed_claim, renamed_item}
-use Rattle.book_compare.proofs.AgreeLaws.{counted_alike}
+use Rattle.clausify.proofs.AgreeLaws.{counted_alike}
 
 module _ (numbers : List ℕ) (y z : List Bool) (at : AtPlaces numbers y z) where
   has_number : (place : ℕ) → place < length numbers → has z (number_at numbers place) ≡ has y place

@@ -17,5 +17,6 @@ pub mod QuestionLaws
 pub mod RangeLaws
 pub mod MeetLaws
 pub mod MoveLaws
+pub mod AgreeLaws
 mod WorkedSlice
 mod WorkedGroups

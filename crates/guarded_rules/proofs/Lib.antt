@@ -2,4 +2,5 @@ pub mod GuardLaws
 pub mod GuardedLaws
 pub mod BelowLaws
 pub mod MadeLaws
+pub mod FitLaws
 mod WorkedGuards

@@ -1,15 +1,23 @@
--- Sets that agree on the codes of a book meet the same formulas and claims of it.
-use Rattle.std.proofs.Common.{◌≡◌, ℕ, suc, ◌<◌, ◌≤◌, Bool, true, false, not, cond, ltb, nat_le, ◌&&◌, ◌||◌, ◌==◌, List, [], ◌∷◌, length, refl, ap, ◌∙◌, arith}
+-- Sets that agree on the codes of a book meet the same formulas and claims of it, and what speaks of these codes speaks of more.
+use Rattle.std.proofs.Common.{◌≡◌, ℕ, suc, ◌<◌, ◌≤◌, Bool, true, false, not, cond, ltb, nat_le, ◌&&◌, ◌||◌, ◌==◌, List, [], ◌∷◌, ◌++◌, length, take, refl, ap, ◌∙◌, arith}
 use Rattle.std.specs.List.{filter, list_all}
 use Rattle.std.proofs.lemmas.Bool.{and_parts, and_from, ltb-true, lt-ltb}
+use Rattle.std.proofs.lemmas.List.{get_or-take, get_or_append_left}
 use Rattle.pb_base.specs.Rule.{Rule, code, negation, both, either, always, never, holds, codes_below}
 use Rattle.pb_base.specs.Sets.{has}
 use Rattle.book_model.specs.Good.{present}
 use Rattle.clausify.specs.Items.{Claim, adds, needed_by, needed, one_of, most_of, free, Item}
 use Rattle.clausify.proofs.ItemLaws.{meets_claim, meets, claim_fits, item_fits, AllFit, AllMeet}
 
+-- both have the same of the first n codes
 abbrev pub Agree : ℕ → List Bool → List Bool → Type 0
 Agree n x z = (i : ℕ) → i < n → has z i ≡ has x i
+
+pub taken_agree : (n : ℕ) (x : List Bool) → Agree n x (take n x)
+taken_agree n x i low = get_or-take n x i false low
+
+pub appended_agree : (x guards : List Bool) → Agree (length x) x (x ++ guards)
+appended_agree x guards i low = get_or_append_left x guards false i low
 
 pub holds_agree : (n : ℕ) (x z : List Bool) → Agree n x z → (f : Rule) → codes_below n f ≡ true → holds f z ≡ holds f x
 holds_agree n x z same (code place) below = same place (ltb-true place n below)
@@ -44,7 +52,7 @@ claim_agree n x z same (one_of group) t fit = ap (λ k. k == 1) (present_agree n
 claim_agree n x z same (most_of group) t fit = ap (λ k. nat_le k 1) (present_agree n x z same group fit)
 claim_agree n x z same free t fit = refl
 
-meets_agree : (n : ℕ) (x z : List Bool) → Agree n x z → (i : Item) → item_fits n i ≡ true → meets z i ≡ meets x i
+pub meets_agree : (n : ℕ) (x z : List Bool) → Agree n x z → (i : Item) → item_fits n i ≡ true → meets z i ≡ meets x i
 meets_agree n x z same i fit =
     let fits = and_parts (codes_below n i.rule) (claim_fits n i.claim) fit in
     ap (meets_claim z i.claim) (holds_agree n x z same i.rule fits.0) ∙ claim_agree n x z same i.claim (holds i.rule x) fits.1
@@ -80,8 +88,11 @@ claim_more n m more (one_of group) fit = group_more n m more group fit
 claim_more n m more (most_of group) fit = group_more n m more group fit
 claim_more n m more free fit = refl
 
+pub fits_more : (n m : ℕ) → n ≤ m → (i : Item) → item_fits n i ≡ true → item_fits m i ≡ true
+fits_more n m more i fit =
+    let fits = and_parts (codes_below n i.rule) (claim_fits n i.claim) fit in
+    and_from _ _ (codes_more n m more i.rule fits.0) (claim_more n m more i.claim fits.1)
+
 pub all_fit_more : (n m : ℕ) → n ≤ m → (is : List Item) → AllFit n is → AllFit m is
 all_fit_more n m more [] fit = tt
-all_fit_more n m more (i ∷ is) fit =
-    let fits = and_parts (codes_below n i.rule) (claim_fits n i.claim) fit.0 in
-    (and_from _ _ (codes_more n m more i.rule fits.0) (claim_more n m more i.claim fits.1), all_fit_more n m more is fit.1)
+all_fit_more n m more (i ∷ is) fit = (fits_more n m more i fit.0, all_fit_more n m more is fit.1)
