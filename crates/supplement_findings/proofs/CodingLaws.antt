@@ -10,13 +10,16 @@ use Rattle.clause_pool.specs.Literal.{literal}
 use Rattle.clause_pool.specs.Clause.{clause_of}
 use Rattle.clausify.specs.Coded.{construct_variables}
 use Rattle.clausify.specs.Encoding.{EncodesItems}
-use Rattle.clausify.specs.Formulas.{connectives, literals_from}
 use Rattle.clausify.specs.Items.{Item, construct_items, free_item, item_clauses, encoded_items, variables_of}
 use Rattle.clausify.specs.declared.encoder.Encoder.{Encoder}
 use Rattle.clausify.proofs.CodedLaws.{Begun, items_then}
-use Rattle.clausify.proofs.Remaining.{ItemsLeft, items_many}
-use Rattle.supplement_findings.specs.Answering.{question_at}
-use Rattle.supplement_findings.specs.Clauses.{own, question_lits, and_rest, unbroken, unbroken_rules, literal_with, other_own, other_variables, other_lits, all_other, all_other_lits, shared_rules, shared_lits, asked_rules, asked_lits, all_goal_clauses, asked_items, goals_start, goals_clauses}
+use Rattle.wide_clauses.specs.Chains.{wide_variables}
+use Rattle.wide_clauses.specs.Encoding.{WidensItems}
+use Rattle.wide_clauses.specs.WideItems.{taken_by, wide_item_clauses, wide_items, wide_literals}
+use Rattle.wide_clauses.specs.declared.wide.WideEncoder.{WideEncoder}
+use Rattle.wide_clauses.proofs.WideLeft.{WideLeft, wide_many, wide_then}
+use Rattle.supplement_findings.specs.Answering.{goals_of, question_at}
+use Rattle.supplement_findings.specs.Clauses.{and_rest, unbroken, unbroken_rules, unbroken_taken, literal_with, other_own, other_variables, other_lits, all_other, all_other_lits, shared_rules, shared_lits, shared_start, all_goal_clauses, asked_items, asked_start, goals_start, goals_clauses, question_clauses, question_goal, question_variables, questions_clauses, questions_variables, together_clauses, together_items, together_start, together_variables}
 use Rattle.supplement_findings.specs.Touching.{after, afters_at, construct_at, is_active_rule}
 use Rattle.supplement_findings.specs.declared.lits.QuestionLits.{QuestionLits}
 use Rattle.supplement_findings.specs.declared.question.SupplementQuestion.{SupplementQuestion}
@@ -33,20 +36,20 @@ other_left b i qs within =
     ap (λ (ls : List SupplementQuestion). map free_item (all_other b ls)) (left_at qs i within)
     ∙ map-append free_item (other_own b (question_at qs i)) (all_other b (drop (i + 1) qs))
 
-pub other_room_left : (b : Contents) (i limit : ℕ) (qs : List SupplementQuestion) (start m : Encoder) → i < length qs
-    → ItemsLeft start m (map free_item (all_other b qs)) (map free_item (all_other b (drop i qs))) → start.next + variables_of (map free_item (all_other b qs)) < limit
+pub other_room_left : (b : Contents) (i limit : ℕ) (qs : List SupplementQuestion) (start m : WideEncoder) → i < length qs
+    → WideLeft start m (map free_item (all_other b qs)) (map free_item (all_other b (drop i qs))) → start.next + taken_by (map free_item (all_other b qs)) < limit
     → m.next + other_variables b (question_at qs i) < limit
 other_room_left b i limit qs start m within left room =
-    let split : variables_of (map free_item (all_other b (drop i qs))) ≡ other_variables b (question_at qs i) + variables_of (map free_item (all_other b (drop (i + 1) qs))) =
-    ap (λ (ls : List SupplementQuestion). variables_of (map free_item (all_other b ls))) (left_at qs i within) ∙ other_first b (question_at qs i) (drop (i + 1) qs) in
+    let split : taken_by (map free_item (all_other b (drop i qs))) ≡ other_variables b (question_at qs i) + taken_by (map free_item (all_other b (drop (i + 1) qs))) =
+    ap (λ (ls : List SupplementQuestion). taken_by (map free_item (all_other b ls))) (left_at qs i within) ∙ other_first b (question_at qs i) (drop (i + 1) qs) in
     omega (arith, left.next, split)
 
-pub other_made : (b : Contents) (i : ℕ) (qs : List SupplementQuestion) (start m more : Encoder) → i < length qs
-    → ItemsLeft start m (map free_item (all_other b qs)) (map free_item (all_other b (drop i qs))) → EncodesItems m more (map free_item (other_own b (question_at qs i)))
-    → ItemsLeft start more (map free_item (all_other b qs)) (map free_item (all_other b (drop (i + 1) qs)))
+pub other_made : (b : Contents) (i : ℕ) (qs : List SupplementQuestion) (start m more : WideEncoder) → i < length qs
+    → WideLeft start m (map free_item (all_other b qs)) (map free_item (all_other b (drop i qs))) → WidensItems m more (map free_item (other_own b (question_at qs i)))
+    → WideLeft start more (map free_item (all_other b qs)) (map free_item (all_other b (drop (i + 1) qs)))
 other_made b i qs start m more within left made =
-    items_many start m more (map free_item (all_other b qs)) (map free_item (other_own b (question_at qs i))) (map free_item (all_other b (drop (i + 1) qs)))
-    (subst (λ (is : List Item). ItemsLeft start m (map free_item (all_other b qs)) is) (other_left b i qs within) left) made
+    wide_many start m more (map free_item (all_other b qs)) (map free_item (other_own b (question_at qs i))) (map free_item (all_other b (drop (i + 1) qs)))
+    (subst (λ (is : List Item). WideLeft start m (map free_item (all_other b qs)) is) (other_left b i qs within) left) made
 
 pub lits_made : (b : Contents) (codes known : List ℕ) (i v w first : ℕ) (qs : List SupplementQuestion) (old new : List QuestionLits) (lits : QuestionLits) → i < length qs
     → w ≡ v + other_variables b (question_at qs i) → lits ≡ other_lits b codes known v (question_at qs i) → new ≡ old ++ lits ∷ []
@@ -62,9 +65,9 @@ lits_made b codes known i v w first qs old new lits within next is more so_far =
     ∙ so_far
 
 -- the literals of the codes are as many as these
-pub known_count : (b : Contents) (day n v : ℕ) (codes : List ℕ) → length (literals_from n v (unbroken_rules b day codes)) ≡ length codes
+pub known_count : (b : Contents) (day n v : ℕ) (codes : List ℕ) → length (wide_literals n v (unbroken_rules b day codes)) ≡ length codes
 known_count b day n v [] = refl
-known_count b day n v (c ∷ codes) = ap suc (known_count b day n (v + connectives (unbroken b day c)) codes)
+known_count b day n v (c ∷ codes) = ap suc (known_count b day n (v + wide_variables (unbroken b day c)) codes)
 
 -- behind another code the literal is that among the rest
 pub literal_after : (codes lits : List ℕ) (place code d : ℕ) → place < length codes → length lits ≡ length codes → (get_or codes place d ≡ code → ⊥)
@@ -110,28 +113,95 @@ one_of [] one = absurd (omega (arith, one))
 one_of (q ∷ []) one = refl
 one_of (p ∷ q ∷ qs) one = absurd (omega (arith, one))
 
-pub one_asked : (b : Contents) (day : ℕ) (codes : List ℕ) (qs : List SupplementQuestion) → length qs ≡ 1 → asked_rules b day codes qs ≡ own b day (question_at qs 0)
-one_asked b day codes qs one = ap (asked_rules b day codes) (one_of qs one)
+module _ (b : Contents) (day : ℕ) (codes : List ℕ) (qs : List SupplementQuestion) where
+  pub one_clauses : length qs ≡ 1 → questions_clauses b day codes qs ≡ question_clauses b day (question_at qs 0)
+  one_clauses one = ap (questions_clauses b day codes) (one_of qs one)
 
-pub one_lits : (b : Contents) (day v : ℕ) (codes : List ℕ) (qs : List SupplementQuestion) → length qs ≡ 1 → asked_lits b day codes v qs ≡ question_lits b day v (question_at qs 0) ∷ []
-one_lits b day v codes qs one = ap (asked_lits b day codes v) (one_of qs one)
+  pub one_variables : length qs ≡ 1 → questions_variables b day codes qs ≡ question_variables b day (question_at qs 0)
+  one_variables one = ap (questions_variables b day codes) (one_of qs one)
 
-pub more_asked : (b : Contents) (day : ℕ) (codes : List ℕ) (qs : List SupplementQuestion) → (length qs ≡ 1 → ⊥) → asked_rules b day codes qs ≡ shared_rules b day codes qs
-more_asked b day codes [] more = refl
-more_asked b day codes (q ∷ []) more = absurd (more refl)
-more_asked b day codes (p ∷ q ∷ qs) more = refl
+  pub one_goals : length qs ≡ 1 → goals_of (asked_start b day codes qs) qs ≡ question_goal b day (question_at qs 0) ∷ []
+  one_goals one = ap (λ (ls : List SupplementQuestion). goals_of (asked_start b day codes ls) ls) (one_of qs one)
 
-pub more_lits : (b : Contents) (day v : ℕ) (codes : List ℕ) (qs : List SupplementQuestion) → (length qs ≡ 1 → ⊥) → asked_lits b day codes v qs ≡ shared_lits b day codes v qs
-more_lits b day v codes [] more = refl
-more_lits b day v codes (q ∷ []) more = absurd (more refl)
-more_lits b day v codes (p ∷ q ∷ qs) more = refl
+pub more_clauses : (b : Contents) (day : ℕ) (codes : List ℕ) (qs : List SupplementQuestion) → (length qs ≡ 1 → ⊥) → questions_clauses b day codes qs ≡ together_clauses b day codes qs
+more_clauses b day codes [] more = refl
+more_clauses b day codes (q ∷ []) more = absurd (more refl)
+more_clauses b day codes (p ∷ q ∷ qs) more = refl
 
--- the formulas of the codes, and then the others
-pub shared_made : (b : Contents) (day : ℕ) (codes : List ℕ) (qs : List SupplementQuestion) (m0 m1 m2 : Encoder) → EncodesItems m0 m1 (map free_item (unbroken_rules b day codes))
-    → EncodesItems m1 m2 (map free_item (all_other b qs)) → EncodesItems m0 m2 (map free_item (shared_rules b day codes qs))
-shared_made b day codes qs m0 m1 m2 first then =
-    subst (EncodesItems m0 m2) (sym (map-append free_item (unbroken_rules b day codes) (all_other b qs)))
-    (items_then m0 m1 m2 (map free_item (unbroken_rules b day codes)) (map free_item (all_other b qs)) first then)
+pub more_variables : (b : Contents) (day : ℕ) (codes : List ℕ) (qs : List SupplementQuestion) → (length qs ≡ 1 → ⊥) → questions_variables b day codes qs ≡ together_variables b day codes qs
+more_variables b day codes [] more = refl
+more_variables b day codes (q ∷ []) more = absurd (more refl)
+more_variables b day codes (p ∷ q ∷ qs) more = refl
+
+pub more_start : (b : Contents) (day : ℕ) (codes : List ℕ) (qs : List SupplementQuestion) → (length qs ≡ 1 → ⊥) → asked_start b day codes qs ≡ together_start b day codes qs
+more_start b day codes [] more = refl
+more_start b day codes (q ∷ []) more = absurd (more refl)
+more_start b day codes (p ∷ q ∷ qs) more = refl
+
+-- the encoder of several questions begun, with the constructibility rules, with the formulas of the codes, and with the others
+pub record AreWide (b : Contents) (day : ℕ) (codes : List ℕ) (qs : List SupplementQuestion) (m0 m1 m2 m3 : WideEncoder) : Type 0 where
+  pub first : m0.pool.clauses ≡ clause_of (literal (length b.codes) true ∷ []) ∷ []
+  pub truth : m0.truth ≡ length b.codes
+  pub next : m0.next ≡ length b.codes + 1
+  pub constructs : WidensItems m0 m1 (construct_items b day)
+  pub known : WidensItems m1 m2 (map free_item (unbroken_rules b day codes))
+  pub other : WidensItems m2 m3 (map free_item (all_other b qs))
+
+pub wide_whole : (b : Contents) (day : ℕ) (codes : List ℕ) (qs : List SupplementQuestion) (m0 m1 m2 m3 : WideEncoder) → AreWide b day codes qs m0 m1 m2 m3 → WidensItems m0 m3 (together_items b day codes qs)
+wide_whole b day codes qs m0 m1 m2 m3 h =
+    wide_then m0 m1 m3 (construct_items b day) (map free_item (shared_rules b day codes qs)) h.constructs
+    (subst (WidensItems m1 m3) (sym (map-append free_item (unbroken_rules b day codes) (all_other b qs)))
+    (wide_then m1 m2 m3 (map free_item (unbroken_rules b day codes)) (map free_item (all_other b qs)) h.known h.other))
+
+pub wide_start : (b : Contents) (day : ℕ) (codes : List ℕ) (qs : List SupplementQuestion) (m0 m1 m2 m3 : WideEncoder) → AreWide b day codes qs m0 m1 m2 m3 → m3.next ≡ together_start b day codes qs
+wide_start b day codes qs m0 m1 m2 m3 h = (wide_whole b day codes qs m0 m1 m2 m3 h).next ∙ ap (λ (n : ℕ). n + taken_by (together_items b day codes qs)) h.next
+
+pub wide_made : (b : Contents) (day : ℕ) (codes : List ℕ) (qs : List SupplementQuestion) (m0 m1 m2 m3 : WideEncoder) (new : List (List ℕ)) (lits : List QuestionLits) → AreWide b day codes qs m0 m1 m2 m3
+    → lits ≡ shared_lits b day codes (shared_start b day) qs → new ≡ m3.pool.clauses ++ all_goal_clauses m3.next lits → new ≡ together_clauses b day codes qs
+wide_made b day codes qs m0 m1 m2 m3 new lits h are more =
+    let n : ℕ = length b.codes in
+    let is : List Item = together_items b day codes qs in
+    let core : m3.pool.clauses ≡ wide_items n is =
+    (wide_whole b day codes qs m0 m1 m2 m3 h).clauses ∙ ap (λ (cs : List (List ℕ)). cs ++ wide_item_clauses m0.truth m0.next is) h.first
+    ∙ ap (λ (t : ℕ). clause_of (literal n true ∷ []) ∷ wide_item_clauses t m0.next is) h.truth
+    ∙ ap (λ (v : ℕ). clause_of (literal n true ∷ []) ∷ wide_item_clauses n v is) h.next in
+    more ∙ ap (λ (cs : List (List ℕ)). cs ++ all_goal_clauses m3.next lits) core
+    ∙ ap (λ (w : ℕ). wide_items n is ++ all_goal_clauses w lits) (wide_start b day codes qs m0 m1 m2 m3 h)
+    ∙ ap (λ (ls : List QuestionLits). wide_items n is ++ all_goal_clauses (together_start b day codes qs) ls) are
+
+pub are_wide : (b : Contents) (day : ℕ) (codes : List ℕ) (qs : List SupplementQuestion) (m0 m1 m2 m3 : WideEncoder) (count : ℕ) → count ≡ length b.codes
+    → m0.pool.clauses ≡ clause_of (literal count true ∷ []) ∷ [] → m0.truth ≡ count → m0.next ≡ count + 1
+    → WidensItems m0 m1 (construct_items b day) → WidensItems m1 m2 (map free_item (unbroken_rules b day codes)) → WidensItems m2 m3 (map free_item (all_other b qs))
+    → AreWide b day codes qs m0 m1 m2 m3
+are_wide b day codes qs m0 m1 m2 m3 count counted clauses truth next constructs known other = record {
+  first = clauses ∙ ap (λ (n : ℕ). clause_of (literal n true ∷ []) ∷ []) counted;
+  truth = truth ∙ counted;
+  next = next ∙ ap (λ (n : ℕ). n + 1) counted;
+  constructs = constructs;
+  known = known;
+  other = other;
+}
+
+pub shared_begin : (b : Contents) (day : ℕ) (m0 m1 : WideEncoder) → m0.next ≡ length b.codes + 1 → WidensItems m0 m1 (construct_items b day) → m1.next ≡ shared_start b day
+shared_begin b day m0 m1 next constructs = constructs.next ∙ ap (λ (n : ℕ). n + taken_by (construct_items b day)) next
+
+pub goals_room : (b : Contents) (day : ℕ) (codes : List ℕ) (qs : List SupplementQuestion) (m0 m1 m2 m3 : WideEncoder) → AreWide b day codes qs m0 m1 m2 m3
+    → together_variables b day codes qs < 4294967296 → m3.next + length qs < 4294967296
+goals_room b day codes qs m0 m1 m2 m3 h room = omega (arith, room, wide_start b day codes qs m0 m1 m2 m3 h)
+
+pub wide_lits : (b : Contents) (day : ℕ) (codes : List ℕ) (qs : List SupplementQuestion) (m0 m1 m2 m3 : WideEncoder) (known : List ℕ) (lits : List QuestionLits) → AreWide b day codes qs m0 m1 m2 m3
+    → known ≡ wide_literals m1.truth m1.next (unbroken_rules b day codes) → lits ≡ all_other_lits b codes known m2.next qs
+    → lits ≡ shared_lits b day codes (shared_start b day) qs
+wide_lits b day codes qs m0 m1 m2 m3 known lits h known_are are =
+    let n : ℕ = length b.codes in
+    let rules : List Rule = unbroken_rules b day codes in
+    let begin : m1.next ≡ shared_start b day = shared_begin b day m0 m1 h.next h.constructs in
+    are
+    ∙ ap (λ (ks : List ℕ). all_other_lits b codes ks m2.next qs) known_are
+    ∙ ap (λ (t : ℕ). all_other_lits b codes (wide_literals t m1.next rules) m2.next qs) (h.constructs.truth ∙ h.truth)
+    ∙ ap (λ (v : ℕ). all_other_lits b codes (wide_literals n v rules) m2.next qs) begin
+    ∙ ap (λ (w : ℕ). all_other_lits b codes (wide_literals n (shared_start b day) rules) w qs)
+    (h.known.next ∙ ap (λ (v : ℕ). v + unbroken_taken b day codes) begin)
 
 -- the encoder begun, with the constructibility rules, and with further formulas
 pub record AreMade (b : Contents) (day : ℕ) (rules : List Rule) (m0 m1 m2 : Encoder) : Type 0 where

@@ -16,7 +16,7 @@ use Rattle.book_model.specs.declared.record.Supplement.{Supplement}
 use Rattle.clausify.specs.Questions.{and_none, none_rule}
 use Rattle.clausify.proofs.ListLaws.{all-append, all-map, all_filtered, all_weaker}
 use Rattle.clausify.proofs.ItemLaws.{AllBelow}
-use Rattle.supplement_findings.specs.Clauses.{own, and_all, all_rule, unbroken_rules, other_own, all_other, shared_rules, asked_rules}
+use Rattle.supplement_findings.specs.Clauses.{own, and_all, all_rule, unbroken_rules, other_own, all_other, shared_rules}
 use Rattle.supplement_findings.specs.Questions.{no_rule, rule_at, QuestionFits}
 use Rattle.supplement_findings.specs.Touching.{touches, no_other, after, touched, afters}
 use Rattle.supplement_findings.specs.declared.question.SupplementQuestion.{SupplementQuestion}
@@ -93,11 +93,6 @@ all_other_below b [] book fits = tt
 all_other_below b (q ∷ qs) book fits =
     all-append (λ (f : Rule). codes_below (length b.codes) f ≡ true) (other_own b q) (all_other b qs) (other_below b q book fits.0) (all_other_below b qs book fits.1)
 
-shared_below : (b : Contents) (day : ℕ) (codes : List ℕ) (qs : List SupplementQuestion) → IsBook b → AllByRecursion (QuestionFits b) qs → AllBelow (length b.codes) (shared_rules b day codes qs)
+pub shared_below : (b : Contents) (day : ℕ) (codes : List ℕ) (qs : List SupplementQuestion) → IsBook b → AllByRecursion (QuestionFits b) qs → AllBelow (length b.codes) (shared_rules b day codes qs)
 shared_below b day codes qs book fits =
     all-append (λ (f : Rule). codes_below (length b.codes) f ≡ true) (unbroken_rules b day codes) (all_other b qs) (unbroken_below b day codes book) (all_other_below b qs book fits)
-
-pub asked_below : (b : Contents) (day : ℕ) (codes : List ℕ) (qs : List SupplementQuestion) → IsBook b → AllByRecursion (QuestionFits b) qs → AllBelow (length b.codes) (asked_rules b day codes qs)
-asked_below b day codes [] book fits = shared_below b day codes [] book fits
-asked_below b day codes (q ∷ []) book fits = own_below b day q book fits.0
-asked_below b day codes (p ∷ q ∷ qs) book fits = shared_below b day codes (p ∷ q ∷ qs) book fits

@@ -21,14 +21,17 @@ use Rattle.clause_pool.proofs.ClauseLaws.{clause_true-clause_of}
 use Rattle.clause_pool.proofs.LiteralLaws.{is_true-complement}
 use Rattle.clausify.specs.Coded.{construct_variables}
 use Rattle.clausify.specs.Formulas.{connectives, formula_literal, literals_from}
-use Rattle.clausify.specs.Items.{Item, construct_items, free_item, encoded_items, variables_of}
+use Rattle.clausify.specs.Items.{Item, construct_items, free_item, encoded_items}
 use Rattle.clausify.proofs.FormulaLaws.{Names, Begins, names_first, names_last}
 use Rattle.clausify.proofs.ItemLaws.{AllBelow, AllFit, AllMeet, items_named, items_named-append, length-items_named, literals_true, free_items_fit, free_items_met, construct_items_fit, constructible_from_meets, meets_from_constructible}
 use Rattle.clausify.proofs.LiftLaws.{lifted, IsLiftedOver, lift_items, IsOver, items_over}
 use Rattle.clausify.proofs.ListLaws.{all-append, all_first, all_last, all_weaker}
 use Rattle.clausify.proofs.Truth.{true_negative}
+use Rattle.wide_clauses.specs.Chains.{wide_literal}
+use Rattle.wide_clauses.specs.WideItems.{taken_by, wide_items, wide_literals}
+use Rattle.wide_clauses.proofs.WideItemLaws.{wide_named, wide_named-append, length-wide_named, wide_literals_true, IsWideLifted, lift_wide, IsWideOver, wide_over}
 use Rattle.supplement_findings.specs.Answering.{IsPosed}
-use Rattle.supplement_findings.specs.Clauses.{breaks_own, swaps_own, own, breaks_lits, swaps_lits, question_lits, goal_clauses, all_goal_clauses, and_all, all_rule, unbroken, unbroken_rules, unbroken_variables, other_own, other_lits, other_variables, all_other, all_other_lits, literal_with, shared_rules, shared_lits, asked_rules, asked_lits, asked_items, goals_start, questions_clauses}
+use Rattle.supplement_findings.specs.Clauses.{breaks_own, swaps_own, own, breaks_lits, question_lits, goal_clauses, all_goal_clauses, and_all, all_rule, unbroken, unbroken_rules, unbroken_taken, other_own, other_lits, other_variables, all_other, all_other_lits, literal_with, shared_rules, shared_lits, asked_items, asked_start, goals_start, question_clauses, shared_start, together_clauses, together_items, together_start, questions_clauses}
 use Rattle.supplement_findings.specs.Ends.{with_code, breaks_with, swaps_with}
 use Rattle.supplement_findings.specs.Questions.{rule_at, meets, QuestionFits}
 use Rattle.supplement_findings.specs.Touching.{after, touched, afters}
@@ -36,7 +39,7 @@ use Rattle.supplement_findings.specs.declared.lits.QuestionLits.{QuestionLits}
 use Rattle.supplement_findings.specs.declared.lits.QuestionLits.TheVariants.{BreaksLits, SwapsLits}
 use Rattle.supplement_findings.specs.declared.question.SupplementQuestion.{SupplementQuestion}
 use Rattle.supplement_findings.specs.declared.question.SupplementQuestion.TheVariants.{Breaks, Swaps}
-use Rattle.supplement_findings.proofs.FitLaws.{supplement_fits, constructs_fit, own_below, unbroken_below, asked_below}
+use Rattle.supplement_findings.proofs.FitLaws.{supplement_fits, constructs_fit, own_below, other_below, shared_below, unbroken_below}
 use Rattle.supplement_findings.proofs.QuestionLaws.{breaks_over, swaps_over}
 use Rattle.supplement_findings.proofs.TouchLaws.{broken_after}
 
@@ -174,16 +177,11 @@ goal_breaks b day s x a v begins within all =
     ∙ ap (λ t. holds s.rule x && (t && list_any (is_true a) (map complement ls))) (absent_true b x a begins s.code within)
     ∙ ap (λ t. holds s.rule x && (not (has x s.code) && t)) unmet
 
-goal_swaps : (b : Contents) (s t : Supplement) (x : List Bool) (a : ℕ → Bool) (v : ℕ) → Begins (length b.codes) (length b.codes) x a → s.code < length b.codes → t.code < length b.codes
-    → map (is_true a) (literals_from (length b.codes) v (swaps_own s t)) ≡ map (λ f. holds f x) (swaps_own s t)
-    → goal_met a (swaps_lits (length b.codes) v s t)
+goal_swaps : (b : Contents) (s t : Supplement) (x : List Bool) (a : ℕ → Bool) (f g h k : ℕ) → Begins (length b.codes) (length b.codes) x a → s.code < length b.codes → t.code < length b.codes
+    → map (is_true a) (f ∷ g ∷ h ∷ k ∷ []) ≡ map (λ r. holds r x) (swaps_own s t)
+    → goal_met a (SwapsLits f s.code g t.code h k)
     ≡ (holds s.rule x && (not (has x s.code) && (holds t.rule x && (not (has x t.code) && (not (holds (with_present s.code t.rule) x) || (not (holds (with_present t.code s.rule) x) || false))))))
-goal_swaps b s t x a v begins within_s within_t all =
-    let n : ℕ = length b.codes in
-    let f : ℕ = formula_literal n v s.rule in
-    let g : ℕ = formula_literal n (v + connectives s.rule) t.rule in
-    let h : ℕ = formula_literal n (v + connectives s.rule + connectives t.rule) (with_present s.code t.rule) in
-    let k : ℕ = formula_literal n (v + connectives s.rule + connectives t.rule + connectives (with_present s.code t.rule)) (with_present t.code s.rule) in
+goal_swaps b s t x a f g h k begins within_s within_t all =
     let at_f : is_true a f ≡ holds s.rule x = ap (λ (ts : List Bool). get_or ts 0 false) all in
     let at_g : is_true a g ≡ holds t.rule x = ap (λ (ts : List Bool). get_or ts 1 false) all in
     let at_h : is_true a h ≡ holds (with_present s.code t.rule) x = ap (λ (ts : List Bool). get_or ts 2 false) all in
@@ -202,7 +200,7 @@ goal_shown b day (Breaks place) x a v book fits begins names =
     goal_breaks b day (rule_at b place) x a v begins (supplement_fits b place book fits).code
     (literals_true (length b.codes) x a begins v (own b day (Breaks place)) (own_below b day (Breaks place) book fits) names)
 goal_shown b day (Swaps first second) x a v book fits begins names =
-    goal_swaps b (rule_at b first) (rule_at b second) x a v begins (supplement_fits b first book fits.0).code (supplement_fits b second book fits.1).code
+    goal_swaps b (rule_at b first) (rule_at b second) x a _ _ _ _ begins (supplement_fits b first book fits.0).code (supplement_fits b second book fits.1).code
     (literals_true (length b.codes) x a begins v (own b day (Swaps first second)) (own_below b day (Swaps first second) book fits) names)
 
 -- over a constructible set of the book's codes that is what the question asks for
@@ -307,21 +305,24 @@ literal_with_true a x rule (k ∷ codes) (l ∷ lits) c all there =
 abbrev NamesOf : (ℕ → Bool) → List Bool → ℕ → List Rule → Type 0
 NamesOf a x v fs = Names a x v (items_named (map free_item fs))
 
--- the names of formulas, those of the others behind
-record NamesOfBoth (a : ℕ → Bool) (x : List Bool) (v : ℕ) (fs gs : List Rule) : Type 0 where
-  first : NamesOf a x v fs
-  then : NamesOf a x (v + variables_of (map free_item fs)) gs
+-- the same where a chain takes one variable, and those of further formulas behind
+abbrev WideNamesOf : (ℕ → Bool) → List Bool → ℕ → List Rule → Type 0
+WideNamesOf a x v fs = Names a x v (wide_named (map free_item fs))
 
-names_of_both : (a : ℕ → Bool) (x : List Bool) (v : ℕ) (fs gs : List Rule) → NamesOf a x v (fs ++ gs) → NamesOfBoth a x v fs gs
+record NamesOfBoth (a : ℕ → Bool) (x : List Bool) (v : ℕ) (fs gs : List Rule) : Type 0 where
+  first : WideNamesOf a x v fs
+  then : WideNamesOf a x (v + taken_by (map free_item fs)) gs
+
+names_of_both : (a : ℕ → Bool) (x : List Bool) (v : ℕ) (fs gs : List Rule) → WideNamesOf a x v (fs ++ gs) → NamesOfBoth a x v fs gs
 names_of_both a x v fs gs h =
     let here : List Item = map free_item fs in
     let later : List Item = map free_item gs in
-    let split : Names a x v (items_named here ++ items_named later) =
-    subst (λ (rs : List Rule). Names a x v rs) (ap items_named (map-append free_item fs gs) ∙ items_named-append here later) h in
+    let split : Names a x v (wide_named here ++ wide_named later) =
+    subst (λ (rs : List Rule). Names a x v rs) (ap wide_named (map-append free_item fs gs) ∙ wide_named-append here later) h in
     record {
-      first = names_first a x v (items_named here) (items_named later) split;
+      first = names_first a x v (wide_named here) (wide_named later) split;
       then =
-          subst (λ (k : ℕ). Names a x (v + k) (items_named later)) (length-items_named here) (names_last a x v (items_named here) (items_named later) split);
+          subst (λ (k : ℕ). Names a x (v + k) (wide_named later)) (length-wide_named here) (names_last a x v (wide_named here) (wide_named later) split);
     }
 
 -- a rule that has this truth over every set
@@ -347,16 +348,18 @@ module _ (b : Contents) (day : ℕ) (codes : List ℕ) (book : IsBook b) (x : Li
 
   -- the same where the literal of the question's code is known
   other_meets : (known : List ℕ) (v : ℕ) (q : SupplementQuestion) → IsPosed b day codes q → map (is_true a) known ≡ map (λ f. holds f x) (unbroken_rules b day codes)
-      → NamesOf a x v (other_own b q) → goal_met a (other_lits b codes known v q) ≡ meets b day q x
+      → WideNamesOf a x v (other_own b q) → goal_met a (other_lits b codes known v q) ≡ meets b day q x
   other_meets known v (Swaps first second) posed are names =
-      goal_shown b day (Swaps first second) x a v book posed.fits begins names ∙ sym (meets_shown b day codes (Swaps first second) x book posed len built)
+      goal_swaps b (rule_at b first) (rule_at b second) x a _ _ _ _ begins (supplement_fits b first book posed.fits.0).code (supplement_fits b second book posed.fits.1).code
+      (wide_literals_true (length b.codes) x a begins v (other_own b (Swaps first second)) (other_below b (Swaps first second) book posed.fits) names)
+      ∙ sym (meets_shown b day codes (Swaps first second) x book posed len built)
   other_meets known v (Breaks place) posed are names =
       let s : Supplement = rule_at b place in
       let n : ℕ = length b.codes in
       let fits = supplement_fits b place book posed.fits in
       let u : ℕ = literal_with codes known s.code in
-      let fired : is_true a (formula_literal n v s.rule) ≡ holds s.rule x =
-      ap (λ (ts : List Bool). get_or ts 0 false) (literals_true n x a begins v (s.rule ∷ []) (fits.rule.in_range, tt) names) in
+      let fired : is_true a (wide_literal n v s.rule) ≡ holds s.rule x =
+      ap (λ (ts : List Bool). get_or ts 0 false) (wide_literals_true n x a begins v (s.rule ∷ []) (fits.rule.in_range, tt) names) in
       let unmet : (is_true a (complement u) || false) ≡ list_any (λ r. not (holds (after s.code r.demand) x)) (touched b day s.code) =
       sym (or_false (is_true a (complement u))) ∙ is_true-complement a u ∙ ap not (literal_with_true a x (unbroken b day) codes known s.code are posed.read)
       ∙ not_unbroken b day s.code x in
@@ -366,25 +369,19 @@ module _ (b : Contents) (day : ℕ) (codes : List ℕ) (book : IsBook b) (x : Li
       ∙ sym (meets_shown b day codes (Breaks place) x book posed len built)
 
   others_meet : (known : List ℕ) (v : ℕ) (qs : List SupplementQuestion) → AllByRecursion (IsPosed b day codes) qs → map (is_true a) known ≡ map (λ f. holds f x) (unbroken_rules b day codes)
-      → NamesOf a x v (all_other b qs) → GoalsMean a x b day (all_other_lits b codes known v qs) qs
+      → WideNamesOf a x v (all_other b qs) → GoalsMean a x b day (all_other_lits b codes known v qs) qs
   others_meet known v [] posed are names = tt
   others_meet known v (q ∷ qs) posed are names =
       let both = names_of_both a x v (other_own b q) (all_other b qs) names in
       (other_meets known v q posed.0 are both.first, others_meet known (v + other_variables b q) qs posed.1 are both.then)
 
-  shared_meet : (v : ℕ) (qs : List SupplementQuestion) → AllByRecursion (IsPosed b day codes) qs → NamesOf a x v (shared_rules b day codes qs)
+  shared_meet : (v : ℕ) (qs : List SupplementQuestion) → AllByRecursion (IsPosed b day codes) qs → WideNamesOf a x v (shared_rules b day codes qs)
       → GoalsMean a x b day (shared_lits b day codes v qs) qs
   shared_meet v qs posed names =
       let both = names_of_both a x v (unbroken_rules b day codes) (all_other b qs) names in
       let n : ℕ = length b.codes in
-      others_meet (literals_from n v (unbroken_rules b day codes)) (v + unbroken_variables b day codes) qs posed
-      (literals_true n x a begins v (unbroken_rules b day codes) (unbroken_below b day codes book) both.first) both.then
-
-  asked_meet : (v : ℕ) (qs : List SupplementQuestion) → AllByRecursion (IsPosed b day codes) qs → NamesOf a x v (asked_rules b day codes qs)
-      → GoalsMean a x b day (asked_lits b day codes v qs) qs
-  asked_meet v [] posed names = tt
-  asked_meet v (q ∷ []) posed names = (goal_meets q v posed.0 names, tt)
-  asked_meet v (p ∷ q ∷ qs) posed names = shared_meet v (p ∷ q ∷ qs) posed names
+      others_meet (wide_literals n v (unbroken_rules b day codes)) (v + unbroken_taken b day codes) qs posed
+      (wide_literals_true n x a begins v (unbroken_rules b day codes) (unbroken_below b day codes book) both.first) both.then
 
   sat_goals : (w : ℕ) (qs : List SupplementQuestion) (lits : List QuestionLits) → GoalsMean a x b day lits qs → Names a x w (values b day x qs) → Sat (all_goal_clauses w lits) a
   sat_goals w [] [] mean values_ = tt
@@ -438,40 +435,102 @@ pub record MeetsGoal (clauses : List (List ℕ)) (variable : ℕ) : Type 0 where
   pub satisfies : Sat clauses assignment
   pub meets_it : assignment variable ≡ true
 
-pub lifts_to_goal : (b : Contents) (day : ℕ) (codes : List ℕ) (qs : List SupplementQuestion) → IsBook b → AllByRecursion (IsPosed b day codes) qs → (k : ℕ) (q : SupplementQuestion) → slice_get qs k ≡ Some q
-    → (x : List Bool) → length x ≡ length b.codes → meets b day q x ≡ true → MeetsGoal (questions_clauses b day codes qs) (goals_start b day (asked_rules b day codes qs) + k)
-lifts_to_goal b day codes qs book posed k q there x len met =
+-- of a question alone
+lifts_alone : (b : Contents) (day : ℕ) (codes : List ℕ) (p : SupplementQuestion) → IsBook b → IsPosed b day codes p → (k : ℕ) (q : SupplementQuestion) → slice_get (p ∷ []) k ≡ Some q
+    → (x : List Bool) → length x ≡ length b.codes → meets b day q x ≡ true → MeetsGoal (question_clauses b day p) (goals_start b day (own b day p) + k)
+lifts_alone b day codes p book posed k q there x len met =
     let n : ℕ = length b.codes in
-    let rules : List Rule = asked_rules b day codes qs in
+    let rules : List Rule = own b day p in
     let is : List Item = asked_items b day rules in
-    let own_rules : List Rule = values b day x qs in
+    let own_rules : List Rule = values b day x (p ∷ []) in
     let built = built_from_meets b day q x met in
     let a : ℕ → Bool = lifted n (n + 1) x (items_named is ++ own_rules) in
-    let below = asked_below b day codes qs book (posed_fit b day codes qs posed) in
+    let below = own_below b day p book posed.fits in
     let all_met : AllMeet x is = all-append _ (construct_items b day) (map free_item rules) (meets_from_constructible b day x built) (free_items_met x rules) in
     let l : IsLiftedOver n n (n + 1) is own_rules x a = lift_items n n (n + 1) is own_rules x (omega arith) (omega arith) (λ (h : n < n). absurd (omega arith)) (asked_fit b day rules book below) all_met in
     let names : NamesOf a x (construct_variables b day) rules = asked_names b day rules x a (names_first a x (n + 1) (items_named is) own_rules l.names) in
-    let mean = asked_meet b day codes book x len built a l.begins (construct_variables b day) qs posed names in
+    let mean : GoalsMean a x b day (question_lits b day (construct_variables b day) p ∷ []) (p ∷ []) =
+    (goal_meets b day codes book x len built a l.begins p (construct_variables b day) posed names, tt) in
     let goals : Names a x (goals_start b day rules) own_rules =
     subst (λ (m : ℕ). Names a x (n + 1 + m) own_rules) (length-items_named is) (names_last a x (n + 1) (items_named is) own_rules l.names) in
     record {
       assignment = a;
       satisfies =
           all-append _ (encoded_items n (n + 1) is) _ l.satisfies
-          (sat_goals b day codes book x len built a l.begins (goals_start b day rules) qs (asked_lits b day codes (construct_variables b day) qs) mean goals);
-      meets_it = value_at a b day x (goals_start b day rules) qs goals k q there ∙ met;
+          (sat_goals b day codes book x len built a l.begins (goals_start b day rules) (p ∷ []) (question_lits b day (construct_variables b day) p ∷ []) mean goals);
+      meets_it = value_at a b day x (goals_start b day rules) (p ∷ []) goals k q there ∙ met;
     }
+
+reads_alone : (b : Contents) (day : ℕ) (codes : List ℕ) (p : SupplementQuestion) → IsBook b → IsPosed b day codes p → (k : ℕ) (q : SupplementQuestion) → slice_get (p ∷ []) k ≡ Some q
+    → (x : List Bool) (a : ℕ → Bool) → length x ≡ length b.codes → ((i : ℕ) → i < length b.codes → a i ≡ has x i) → Sat (question_clauses b day p) a
+    → a (goals_start b day (own b day p) + k) ≡ true → meets b day q x ≡ true
+reads_alone b day codes p book posed k q there x a len begins sat on =
+    let n : ℕ = length b.codes in
+    let rules : List Rule = own b day p in
+    let is : List Item = asked_items b day rules in
+    let o : IsOver n n (n + 1) is x a = items_over n n (n + 1) is x a (asked_fit b day rules book (own_below b day p book posed.fits)) begins (all_first _ (encoded_items n (n + 1) is) _ sat) in
+    let built : is_constructible b day x ≡ true = constructible_from_meets b day x (all_first _ (construct_items b day) (map free_item rules) o.meets) in
+    let mean : GoalsMean a x b day (question_lits b day (construct_variables b day) p ∷ []) (p ∷ []) =
+    (goal_meets b day codes book x len built a o.begins p (construct_variables b day) posed (asked_names b day rules x a o.names), tt) in
+    goal_at b day codes book x len built a o.begins (goals_start b day rules) (p ∷ []) (question_lits b day (construct_variables b day) p ∷ []) mean
+    (all_last _ (encoded_items n (n + 1) is) _ sat) k q there on
+
+-- of several
+shared_names : (b : Contents) (day : ℕ) (codes : List ℕ) (qs : List SupplementQuestion) (x : List Bool) (a : ℕ → Bool) → Names a x (length b.codes + 1) (wide_named (together_items b day codes qs))
+    → WideNamesOf a x (shared_start b day) (shared_rules b day codes qs)
+shared_names b day codes qs x a h =
+    let first : List Item = construct_items b day in
+    let mine : List Item = map free_item (shared_rules b day codes qs) in
+    let split : Names a x (length b.codes + 1) (wide_named first ++ wide_named mine) = subst (λ (fs : List Rule). Names a x (length b.codes + 1) fs) (wide_named-append first mine) h in
+    subst (λ (k : ℕ). Names a x (length b.codes + 1 + k) (wide_named mine)) (length-wide_named first) (names_last a x (length b.codes + 1) (wide_named first) (wide_named mine) split)
+
+lifts_together : (b : Contents) (day : ℕ) (codes : List ℕ) (qs : List SupplementQuestion) → IsBook b → AllByRecursion (IsPosed b day codes) qs → (k : ℕ) (q : SupplementQuestion) → slice_get qs k ≡ Some q
+    → (x : List Bool) → length x ≡ length b.codes → meets b day q x ≡ true → MeetsGoal (together_clauses b day codes qs) (together_start b day codes qs + k)
+lifts_together b day codes qs book posed k q there x len met =
+    let n : ℕ = length b.codes in
+    let rules : List Rule = shared_rules b day codes qs in
+    let is : List Item = together_items b day codes qs in
+    let own_rules : List Rule = values b day x qs in
+    let built = built_from_meets b day q x met in
+    let a : ℕ → Bool = lifted n (n + 1) x (wide_named is ++ own_rules) in
+    let below = shared_below b day codes qs book (posed_fit b day codes qs posed) in
+    let all_met : AllMeet x is = all-append _ (construct_items b day) (map free_item rules) (meets_from_constructible b day x built) (free_items_met x rules) in
+    let l : IsWideLifted n is own_rules x a = lift_wide n is own_rules x (asked_fit b day rules book below) all_met in
+    let names : WideNamesOf a x (shared_start b day) rules = shared_names b day codes qs x a (names_first a x (n + 1) (wide_named is) own_rules l.names) in
+    let mean = shared_meet b day codes book x len built a l.begins (shared_start b day) qs posed names in
+    let goals : Names a x (together_start b day codes qs) own_rules =
+    subst (λ (m : ℕ). Names a x (n + 1 + m) own_rules) (length-wide_named is) (names_last a x (n + 1) (wide_named is) own_rules l.names) in
+    record {
+      assignment = a;
+      satisfies =
+          all-append _ (wide_items n is) _ l.satisfies
+          (sat_goals b day codes book x len built a l.begins (together_start b day codes qs) qs (shared_lits b day codes (shared_start b day) qs) mean goals);
+      meets_it = value_at a b day x (together_start b day codes qs) qs goals k q there ∙ met;
+    }
+
+reads_together : (b : Contents) (day : ℕ) (codes : List ℕ) (qs : List SupplementQuestion) → IsBook b → AllByRecursion (IsPosed b day codes) qs → (k : ℕ) (q : SupplementQuestion) → slice_get qs k ≡ Some q
+    → (x : List Bool) (a : ℕ → Bool) → length x ≡ length b.codes → ((i : ℕ) → i < length b.codes → a i ≡ has x i) → Sat (together_clauses b day codes qs) a
+    → a (together_start b day codes qs + k) ≡ true → meets b day q x ≡ true
+reads_together b day codes qs book posed k q there x a len begins sat on =
+    let n : ℕ = length b.codes in
+    let rules : List Rule = shared_rules b day codes qs in
+    let is : List Item = together_items b day codes qs in
+    let below = shared_below b day codes qs book (posed_fit b day codes qs posed) in
+    let o : IsWideOver n is x a = wide_over n is x a (asked_fit b day rules book below) begins (all_first _ (wide_items n is) _ sat) in
+    let built : is_constructible b day x ≡ true = constructible_from_meets b day x (all_first _ (construct_items b day) (map free_item rules) o.meets) in
+    let mean = shared_meet b day codes book x len built a o.begins (shared_start b day) qs posed (shared_names b day codes qs x a o.names) in
+    goal_at b day codes book x len built a o.begins (together_start b day codes qs) qs (shared_lits b day codes (shared_start b day) qs) mean
+    (all_last _ (wide_items n is) _ sat) k q there on
+
+pub lifts_to_goal : (b : Contents) (day : ℕ) (codes : List ℕ) (qs : List SupplementQuestion) → IsBook b → AllByRecursion (IsPosed b day codes) qs → (k : ℕ) (q : SupplementQuestion) → slice_get qs k ≡ Some q
+    → (x : List Bool) → length x ≡ length b.codes → meets b day q x ≡ true → MeetsGoal (questions_clauses b day codes qs) (asked_start b day codes qs + k)
+lifts_to_goal b day codes [] book posed k q there x len met = lifts_together b day codes [] book posed k q there x len met
+lifts_to_goal b day codes (p ∷ []) book posed k q there x len met = lifts_alone b day codes p book posed.0 k q there x len met
+lifts_to_goal b day codes (p ∷ r ∷ qs) book posed k q there x len met = lifts_together b day codes (p ∷ r ∷ qs) book posed k q there x len met
 
 pub meets_from_goal : (b : Contents) (day : ℕ) (codes : List ℕ) (qs : List SupplementQuestion) → IsBook b → AllByRecursion (IsPosed b day codes) qs → (k : ℕ) (q : SupplementQuestion) → slice_get qs k ≡ Some q
     → (x : List Bool) (a : ℕ → Bool) → length x ≡ length b.codes → ((i : ℕ) → i < length b.codes → a i ≡ has x i) → Sat (questions_clauses b day codes qs) a
-    → a (goals_start b day (asked_rules b day codes qs) + k) ≡ true → meets b day q x ≡ true
-meets_from_goal b day codes qs book posed k q there x a len begins sat on =
-    let n : ℕ = length b.codes in
-    let rules : List Rule = asked_rules b day codes qs in
-    let is : List Item = asked_items b day rules in
-    let below = asked_below b day codes qs book (posed_fit b day codes qs posed) in
-    let o : IsOver n n (n + 1) is x a = items_over n n (n + 1) is x a (asked_fit b day rules book below) begins (all_first _ (encoded_items n (n + 1) is) _ sat) in
-    let built : is_constructible b day x ≡ true = constructible_from_meets b day x (all_first _ (construct_items b day) (map free_item rules) o.meets) in
-    let mean = asked_meet b day codes book x len built a o.begins (construct_variables b day) qs posed (asked_names b day rules x a o.names) in
-    goal_at b day codes book x len built a o.begins (goals_start b day rules) qs (asked_lits b day codes (construct_variables b day) qs) mean
-    (all_last _ (encoded_items n (n + 1) is) _ sat) k q there on
+    → a (asked_start b day codes qs + k) ≡ true → meets b day q x ≡ true
+meets_from_goal b day codes [] book posed k q there x a len begins sat on = reads_together b day codes [] book posed k q there x a len begins sat on
+meets_from_goal b day codes (p ∷ []) book posed k q there x a len begins sat on = reads_alone b day codes p book posed.0 k q there x a len begins sat on
+meets_from_goal b day codes (p ∷ r ∷ qs) book posed k q there x a len begins sat on = reads_together b day codes (p ∷ r ∷ qs) book posed k q there x a len begins sat on

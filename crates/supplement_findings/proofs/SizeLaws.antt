@@ -23,21 +23,24 @@ use Rattle.clause_pool.specs.Clause.{AreBelow}
 use Rattle.clause_pool.proofs.ClauseLaws.{IsBelow-clause_of}
 use Rattle.clausify.specs.Coded.{construct_variables}
 use Rattle.clausify.specs.Formulas.{connectives, literals_from}
-use Rattle.clausify.specs.Items.{construct_item, construct_items, free_item, encoded_items, variables_of}
+use Rattle.clausify.specs.Items.{construct_item, construct_items, free_item, Item, encoded_items, variables_of}
 use Rattle.clausify.specs.Questions.{and_none, none_rule}
 use Rattle.clausify.proofs.Bounds.{connectives_below, variables_below, demand_item_below}
 use Rattle.clausify.proofs.ItemLaws.{AllBelow, variables_of-append}
 use Rattle.clausify.proofs.ListLaws.{all-append, all_weaker}
 use Rattle.clausify.proofs.RangeLaws.{positive_below, negative_below, complement_below, literal_below, items_below}
+use Rattle.wide_clauses.specs.WideItems.{taken_by, wide_items, wide_literals}
+use Rattle.wide_clauses.proofs.WideItemLaws.{taken_by-append, taken_by_most}
+use Rattle.wide_clauses.proofs.WideRanges.{wide_items_below, wide_literal_below, wide_literals_below}
 use Rattle.supplement_findings.specs.Answering.{IsPosed, IsRead, question_size, touch_count}
-use Rattle.supplement_findings.specs.Clauses.{swaps_own, own_variables, question_lits, goal_clauses, all_goal_clauses, and_all, all_rule, unbroken, unbroken_rules, unbroken_variables, other_own, other_variables, other_lits, all_other, all_other_lits, literal_with, shared_rules, asked_rules, asked_lits, asked_items, goals_start, questions_clauses, questions_variables}
+use Rattle.supplement_findings.specs.Clauses.{swaps_own, own, own_variables, question_lits, goal_clauses, all_goal_clauses, and_all, all_rule, unbroken, unbroken_rules, unbroken_taken, unbroken_variables, other_own, other_variables, other_lits, all_other, all_other_lits, literal_with, shared_lits, shared_rules, shared_start, asked_items, goals_start, question_clauses, question_variables, together_clauses, together_items, together_start, together_variables, questions_clauses, questions_variables}
 use Rattle.supplement_findings.specs.Questions.{rule_at, QuestionFits}
 use Rattle.supplement_findings.specs.Touching.{touches, no_other, after, is_touched, afters, touched_from}
 use Rattle.supplement_findings.specs.declared.lits.QuestionLits.{QuestionLits}
 use Rattle.supplement_findings.specs.declared.lits.QuestionLits.TheVariants.{BreaksLits, SwapsLits}
 use Rattle.supplement_findings.specs.declared.question.SupplementQuestion.{SupplementQuestion}
 use Rattle.supplement_findings.specs.declared.question.SupplementQuestion.TheVariants.{Breaks, Swaps}
-use Rattle.supplement_findings.proofs.FitLaws.{supplement_fits, constructs_fit, own_below, unbroken_below, asked_below}
+use Rattle.supplement_findings.proofs.FitLaws.{supplement_fits, constructs_fit, own_below, other_below, shared_below, unbroken_below}
 use Rattle.supplement_findings.proofs.GoalLaws.{asked_fit}
 
 present_below : (n c : ℕ) (f : Rule) → RuleFits n f → connectives (with_present c f) ≤ 512
@@ -170,28 +173,31 @@ question_few b (Breaks place) book fits = omega (arith, size_few (rule_at b plac
 question_few b (Swaps first second) book fits =
     omega (arith, size_few (rule_at b first).rule (supplement_fits b first book fits.0).rule.size, size_few (rule_at b second).rule (supplement_fits b second book fits.1).rule.size)
 
--- a question's other formulas and its goal take no more variables than its size
-formulas_size : (b : Contents) (q : SupplementQuestion) → other_variables b q + 1 ≤ question_size b q
-formulas_size b (Breaks place) = omega (arith, connectives_kept (rule_at b place).rule)
-formulas_size b (Swaps first second) =
+-- a question's formulas besides that of its code, and its goal, take no more variables than its size
+connectives_size : (b : Contents) (q : SupplementQuestion) → variables_of (map free_item (other_own b q)) + 1 ≤ question_size b q
+connectives_size b (Breaks place) = omega (arith, connectives_kept (rule_at b place).rule)
+connectives_size b (Swaps first second) =
     let s : Supplement = rule_at b first in
     let t : Supplement = rule_at b second in
     omega (arith, connectives_kept s.rule, connectives_kept t.rule, present_kept s.code t.rule, present_kept t.code s.rule)
 
-variables_of_both : (fs gs : List Rule) → variables_of (map free_item (fs ++ gs)) ≡ variables_of (map free_item fs) + variables_of (map free_item gs)
-variables_of_both fs gs = ap variables_of (map-append free_item fs gs) ∙ variables_of-append (map free_item fs) (map free_item gs)
+formulas_size : (b : Contents) (q : SupplementQuestion) → other_variables b q + 1 ≤ question_size b q
+formulas_size b q = omega (arith, taken_by_most (map free_item (other_own b q)), connectives_size b q)
+
+taken_by_both : (fs gs : List Rule) → taken_by (map free_item (fs ++ gs)) ≡ taken_by (map free_item fs) + taken_by (map free_item gs)
+taken_by_both fs gs = ap taken_by (map-append free_item fs gs) ∙ taken_by-append (map free_item fs) (map free_item gs)
 
 pub other_first : (b : Contents) (q : SupplementQuestion) (qs : List SupplementQuestion)
-    → variables_of (map free_item (all_other b (q ∷ qs))) ≡ other_variables b q + variables_of (map free_item (all_other b qs))
-other_first b q qs = variables_of_both (other_own b q) (all_other b qs)
+    → taken_by (map free_item (all_other b (q ∷ qs))) ≡ other_variables b q + taken_by (map free_item (all_other b qs))
+other_first b q qs = taken_by_both (other_own b q) (all_other b qs)
 
-all_other_size : (b : Contents) (qs : List SupplementQuestion) → variables_of (map free_item (all_other b qs)) + length qs ≤ sum_by (question_size b) qs
+all_other_size : (b : Contents) (qs : List SupplementQuestion) → taken_by (map free_item (all_other b qs)) + length qs ≤ sum_by (question_size b) qs
 all_other_size b [] = omega arith
 all_other_size b (q ∷ qs) = omega (arith, other_first b q qs, formulas_size b q, all_other_size b qs, sum_by-cons (question_size b) q qs)
 
 pub shared_first : (b : Contents) (day : ℕ) (codes : List ℕ) (qs : List SupplementQuestion)
-    → variables_of (map free_item (shared_rules b day codes qs)) ≡ unbroken_variables b day codes + variables_of (map free_item (all_other b qs))
-shared_first b day codes qs = variables_of_both (unbroken_rules b day codes) (all_other b qs)
+    → taken_by (map free_item (shared_rules b day codes qs)) ≡ unbroken_taken b day codes + taken_by (map free_item (all_other b qs))
+shared_first b day codes qs = taken_by_both (unbroken_rules b day codes) (all_other b qs)
 
 -- all of some rules take as many variables as these, and one more for each but the first
 and_all_size : (f : Rule) (gs : List Rule) → connectives (and_all f gs) ≡ connectives f + variables_of (map free_item gs) + length gs
@@ -218,13 +224,39 @@ own_size : (b : Contents) (day : ℕ) (codes : List ℕ) (q : SupplementQuestion
 own_size b day codes (Breaks place) read =
     let s : Supplement = rule_at b place in
     omega (arith, connectives_kept s.rule, all_rule_least (afters b day s.code), read_size b day s.code codes read)
-own_size b day codes (Swaps first second) read = let few : own_variables b day (Swaps first second) + 1 ≤ question_size b (Swaps first second) = formulas_size b (Swaps first second) in omega (arith, few)
+own_size b day codes (Swaps first second) read = let few : own_variables b day (Swaps first second) + 1 ≤ question_size b (Swaps first second) = connectives_size b (Swaps first second) in omega (arith, few)
+
+-- several questions take no more variables than each connective would
+together_first : (b : Contents) (day : ℕ) (codes : List ℕ) (qs : List SupplementQuestion)
+    → together_start b day codes qs ≡ shared_start b day + taken_by (map free_item (shared_rules b day codes qs))
+together_first b day codes qs =
+    let split = taken_by-append (construct_items b day) (map free_item (shared_rules b day codes qs)) in
+    let is : together_start b day codes qs ≡ shared_start b day + taken_by (map free_item (shared_rules b day codes qs)) = omega (arith, split) in
+    is
+
+together_size : (b : Contents) (day : ℕ) (codes : List ℕ) (qs : List SupplementQuestion)
+    → together_variables b day codes qs ≤ construct_variables b day + unbroken_variables b day codes + sum_by (question_size b) qs
+together_size b day codes qs =
+    let split = taken_by-append (construct_items b day) (map free_item (shared_rules b day codes qs)) in
+    omega (
+      arith,
+      split,
+      shared_first b day codes qs,
+      all_other_size b qs,
+      taken_by_most (construct_items b day),
+      taken_by_most (map free_item (unbroken_rules b day codes)),
+    )
+
+alone_size : (b : Contents) (day : ℕ) (codes : List ℕ) (q : SupplementQuestion) → IsRead b codes q
+    → question_variables b day q ≤ construct_variables b day + unbroken_variables b day codes + sum_by (question_size b) (q ∷ [])
+alone_size b day codes q read =
+    omega (arith, variables_of-append (construct_items b day) (map free_item (own b day q)), own_size b day codes q read, sum_by-cons (question_size b) q [])
 
 pub asked_size : (b : Contents) (day : ℕ) (codes : List ℕ) (qs : List SupplementQuestion) → AllByRecursion (IsPosed b day codes) qs
-    → variables_of (map free_item (asked_rules b day codes qs)) + length qs ≤ unbroken_variables b day codes + sum_by (question_size b) qs
-asked_size b day codes [] posed = omega (arith, shared_first b day codes [], all_other_size b [])
-asked_size b day codes (q ∷ []) posed = omega (arith, own_size b day codes q posed.0.read, sum_by-cons (question_size b) q [])
-asked_size b day codes (p ∷ q ∷ qs) posed = omega (arith, shared_first b day codes (p ∷ q ∷ qs), all_other_size b (p ∷ q ∷ qs))
+    → questions_variables b day codes qs ≤ construct_variables b day + unbroken_variables b day codes + sum_by (question_size b) qs
+asked_size b day codes [] posed = together_size b day codes []
+asked_size b day codes (q ∷ []) posed = alone_size b day codes q posed.0.read
+asked_size b day codes (p ∷ q ∷ qs) posed = together_size b day codes (p ∷ q ∷ qs)
 
 -- what is asked of the sets with codes takes few variables for each rule that they touch
 pub unbroken_few : (b : Contents) (day : ℕ) (codes : List ℕ) → IsBook b → unbroken_variables b day codes ≤ 514 * sum_by (touch_count b) codes
@@ -251,10 +283,17 @@ constructs_size b day book =
 pub constructs_room : (b : Contents) (day next : ℕ) → IsBook b → next ≡ length b.codes + 1 → next + variables_of (construct_items b day) < 4294967296
 constructs_room b day next book is = omega (arith, constructs_size b day book, book.codes_limit)
 
+pub wide_constructs_room : (b : Contents) (day next : ℕ) → IsBook b → next ≡ length b.codes + 1 → next + taken_by (construct_items b day) < 4294967296
+wide_constructs_room b day next book is = omega (arith, constructs_room b day next book is, taken_by_most (construct_items b day))
+
 -- there is room for the formulas and goals of questions whose variables can be numbered
-pub own_room : (b : Contents) (day next : ℕ) (codes : List ℕ) (qs : List SupplementQuestion) → questions_variables b day codes qs < 4294967296 → next ≡ construct_variables b day
-    → next + variables_of (map free_item (asked_rules b day codes qs)) + length qs < 4294967296
-own_room b day next codes qs room is = omega (arith, room, is, variables_of-append (construct_items b day) (map free_item (asked_rules b day codes qs)))
+pub own_room : (b : Contents) (day next : ℕ) (q : SupplementQuestion) → question_variables b day q < 4294967296 → next ≡ construct_variables b day
+    → next + own_variables b day q + 1 < 4294967296
+own_room b day next q room is = omega (arith, room, is, variables_of-append (construct_items b day) (map free_item (own b day q)))
+
+pub shared_room : (b : Contents) (day next : ℕ) (codes : List ℕ) (qs : List SupplementQuestion) → together_variables b day codes qs < 4294967296 → next ≡ shared_start b day
+    → next + unbroken_taken b day codes + taken_by (map free_item (all_other b qs)) + length qs < 4294967296
+shared_room b day next codes qs room is = omega (arith, room, is, taken_by-append (construct_items b day) (map free_item (shared_rules b day codes qs)), shared_first b day codes qs)
 
 -- The literals of a question are of variables below m, and so are those of its goal's clauses.
 abbrev LitsBelow : ℕ → QuestionLits → Type 0
@@ -331,11 +370,16 @@ other_lits_below b codes known v m (Breaks place) book fits below less room =
     let n : ℕ = length b.codes in
     let s : Supplement = rule_at b place in
     let fit = supplement_fits b place book fits in
-    (literal_below n n v m s.rule fit.rule.in_range (omega arith) less (omega arith), omega (arith, fit.code), (literal_with_below m codes known s.code (omega arith) below, tt))
-other_lits_below b codes known v m (Swaps first second) book fits below less room = lits_below b 0 v m (Swaps first second) book fits less room
+    (wide_literal_below n n m v s.rule fit.rule.in_range (omega arith) less (omega arith), omega (arith, fit.code), (literal_with_below m codes known s.code (omega arith) below, tt))
+other_lits_below b codes known v m (Swaps first second) book fits below less room =
+    let n : ℕ = length b.codes in
+    let fit_s = supplement_fits b first book fits.0 in
+    let fit_t = supplement_fits b second book fits.1 in
+    let all = wide_literals_below n n m v (other_own b (Swaps first second)) (other_below b (Swaps first second) book fits) (omega arith) less room in
+    (all.0, omega (arith, fit_s.code), all.1.0, omega (arith, fit_t.code), all.1.1.0, all.1.1.1.0)
 
 all_other_lits_below : (b : Contents) (codes known : List ℕ) (v m : ℕ) (qs : List SupplementQuestion) → IsBook b → AllByRecursion (QuestionFits b) qs → AllByRecursion (λ l. l < 2 * m) known
-    → length b.codes < v → v + variables_of (map free_item (all_other b qs)) ≤ m → AllByRecursion (LitsBelow m) (all_other_lits b codes known v qs)
+    → length b.codes < v → v + taken_by (map free_item (all_other b qs)) ≤ m → AllByRecursion (LitsBelow m) (all_other_lits b codes known v qs)
 all_other_lits_below b codes known v m [] book fits below less room = tt
 all_other_lits_below b codes known v m (q ∷ qs) book fits below less room =
     let split = other_first b q qs in (
@@ -343,15 +387,13 @@ all_other_lits_below b codes known v m (q ∷ qs) book fits below less room =
       all_other_lits_below b codes known (v + other_variables b q) m qs book fits.1 below (omega arith) (omega (arith, split)),
     )
 
-asked_lits_below : (b : Contents) (day v m : ℕ) (codes : List ℕ) (qs : List SupplementQuestion) → IsBook b → AllByRecursion (QuestionFits b) qs → length b.codes < v
-    → v + variables_of (map free_item (asked_rules b day codes qs)) ≤ m → AllByRecursion (LitsBelow m) (asked_lits b day codes v qs)
-asked_lits_below b day v m codes [] book fits less room = tt
-asked_lits_below b day v m codes (q ∷ []) book fits less room = (lits_below b day v m q book fits.0 less room, tt)
-asked_lits_below b day v m codes (p ∷ q ∷ qs) book fits less room =
+shared_lits_below : (b : Contents) (day v m : ℕ) (codes : List ℕ) (qs : List SupplementQuestion) → IsBook b → AllByRecursion (QuestionFits b) qs → length b.codes < v
+    → v + taken_by (map free_item (shared_rules b day codes qs)) ≤ m → AllByRecursion (LitsBelow m) (shared_lits b day codes v qs)
+shared_lits_below b day v m codes qs book fits less room =
     let n : ℕ = length b.codes in
-    let split = shared_first b day codes (p ∷ q ∷ qs) in
-    all_other_lits_below b codes (literals_from n v (unbroken_rules b day codes)) (v + unbroken_variables b day codes) m (p ∷ q ∷ qs) book fits
-    (literals_below n v m (unbroken_rules b day codes) (unbroken_below b day codes book) less (omega (arith, split, room))) (omega arith) (omega (arith, split, room))
+    let split = shared_first b day codes qs in
+    all_other_lits_below b codes (wide_literals n v (unbroken_rules b day codes)) (v + unbroken_taken b day codes) m qs book fits
+    (wide_literals_below n n m v (unbroken_rules b day codes) (unbroken_below b day codes book) (omega arith) less (omega (arith, split, room))) (omega arith) (omega (arith, split, room))
 
 goals_below : (w m : ℕ) (lits : List QuestionLits) → AllByRecursion (LitsBelow m) lits → w + length lits ≤ m → AreBelow (2 * m) (all_goal_clauses w lits)
 goals_below w m [] below room = tt
@@ -362,21 +404,34 @@ length-all_other_lits : (b : Contents) (codes known : List ℕ) (v : ℕ) (qs : 
 length-all_other_lits b codes known v [] = refl
 length-all_other_lits b codes known v (q ∷ qs) = ap suc (length-all_other_lits b codes known (v + other_variables b q) qs)
 
-pub length-asked_lits : (b : Contents) (day v : ℕ) (codes : List ℕ) (qs : List SupplementQuestion) → length (asked_lits b day codes v qs) ≡ length qs
-length-asked_lits b day v codes [] = refl
-length-asked_lits b day v codes (q ∷ []) = refl
-length-asked_lits b day v codes (p ∷ q ∷ qs) =
-    length-all_other_lits b codes (literals_from (length b.codes) v (unbroken_rules b day codes)) (v + unbroken_variables b day codes) (p ∷ q ∷ qs)
+pub length-shared_lits : (b : Contents) (day v : ℕ) (codes : List ℕ) (qs : List SupplementQuestion) → length (shared_lits b day codes v qs) ≡ length qs
+length-shared_lits b day v codes qs = length-all_other_lits b codes (wide_literals (length b.codes) v (unbroken_rules b day codes)) (v + unbroken_taken b day codes) qs
+
+alone_below : (b : Contents) (day : ℕ) (q : SupplementQuestion) → IsBook b → QuestionFits b q → AreBelow (2 * question_variables b day q) (question_clauses b day q)
+alone_below b day q book fits =
+    let n : ℕ = length b.codes in
+    let m : ℕ = question_variables b day q in
+    let rules : List Rule = own b day q in
+    let split = variables_of-append (construct_items b day) (map free_item rules) in
+    all-append _ (encoded_items n (n + 1) (asked_items b day rules)) _
+    (IsBelow-clause_of (2 * m) (literal n true ∷ []) (positive_below n m (omega arith), tt), items_below n n (n + 1) m (asked_items b day rules) (asked_fit b day rules book (own_below b day q book fits)) (omega arith) (omega arith) (omega arith))
+    (goals_below (goals_start b day rules) m (question_lits b day (construct_variables b day) q ∷ []) (lits_below b day (construct_variables b day) m q book fits (omega arith) (omega (arith, split)), tt) (omega arith))
+
+together_below : (b : Contents) (day : ℕ) (codes : List ℕ) (qs : List SupplementQuestion) → IsBook b → AllByRecursion (QuestionFits b) qs
+    → AreBelow (2 * together_variables b day codes qs) (together_clauses b day codes qs)
+together_below b day codes qs book fits =
+    let n : ℕ = length b.codes in
+    let m : ℕ = together_variables b day codes qs in
+    let is : List Item = together_items b day codes qs in
+    let lits : List QuestionLits = shared_lits b day codes (shared_start b day) qs in
+    let first = together_first b day codes qs in
+    let count : length lits ≡ length qs = length-shared_lits b day (shared_start b day) codes qs in
+    all-append _ (wide_items n is) _
+    (IsBelow-clause_of (2 * m) (literal n true ∷ []) (positive_below n m (omega arith), tt), wide_items_below n n m (n + 1) is (asked_fit b day (shared_rules b day codes qs) book (shared_below b day codes qs book fits)) (omega arith) (omega arith) (omega arith))
+    (goals_below (together_start b day codes qs) m lits (shared_lits_below b day (shared_start b day) m codes qs book fits (omega arith) (omega (arith, first))) (omega (arith, count)))
 
 pub clauses_below : (b : Contents) (day : ℕ) (codes : List ℕ) (qs : List SupplementQuestion) → IsBook b → AllByRecursion (QuestionFits b) qs
     → AreBelow (2 * questions_variables b day codes qs) (questions_clauses b day codes qs)
-clauses_below b day codes qs book fits =
-    let n : ℕ = length b.codes in
-    let m : ℕ = questions_variables b day codes qs in
-    let rules : List Rule = asked_rules b day codes qs in
-    let lits : List QuestionLits = asked_lits b day codes (construct_variables b day) qs in
-    let split = variables_of-append (construct_items b day) (map free_item rules) in
-    let count : length lits ≡ length qs = length-asked_lits b day (construct_variables b day) codes qs in
-    all-append _ (encoded_items n (n + 1) (asked_items b day rules)) _
-    (IsBelow-clause_of (2 * m) (literal n true ∷ []) (positive_below n m (omega arith), tt), items_below n n (n + 1) m (asked_items b day rules) (asked_fit b day rules book (asked_below b day codes qs book fits)) (omega arith) (omega arith) (omega arith))
-    (goals_below (goals_start b day rules) m lits (asked_lits_below b day (construct_variables b day) m codes qs book fits (omega arith) (omega (arith, split))) (omega (arith, count)))
+clauses_below b day codes [] book fits = together_below b day codes [] book fits
+clauses_below b day codes (q ∷ []) book fits = alone_below b day q book fits.0
+clauses_below b day codes (p ∷ q ∷ qs) book fits = together_below b day codes (p ∷ q ∷ qs) book fits

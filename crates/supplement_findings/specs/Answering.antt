@@ -21,7 +21,7 @@ use Rattle.book_model.specs.declared.record.Construct.{Construct}
 use Rattle.clause_pool.specs.Literal.{literal}
 use Rattle.clausify.specs.Coded.{construct_variables}
 use Rattle.inquiry.specs.Form.{Form}
-use Rattle.supplement_findings.specs.Clauses.{asked_rules, goals_start, unbroken_variables, questions_clauses, questions_variables}
+use Rattle.supplement_findings.specs.Clauses.{asked_start, unbroken_variables, questions_clauses, questions_variables}
 use Rattle.supplement_findings.specs.Notes.{SupplementInquiry}
 use Rattle.supplement_findings.specs.Questions.{is_put, meets, rule_at, QuestionFits}
 use Rattle.supplement_findings.specs.Touching.{touched_from}
@@ -93,7 +93,7 @@ form b day codes = record {
   shows = meets b day;
   clauses = questions_clauses b day codes;
   variables = questions_variables b day codes;
-  goals = λ qs. goals_of (goals_start b day (asked_rules b day codes qs)) qs;
+  goals = λ qs. goals_of (asked_start b day codes qs) qs;
   shared = construct_variables b day + unbroken_variables b day codes;
   size = question_size b;
 }

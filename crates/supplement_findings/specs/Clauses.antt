@@ -1,15 +1,16 @@
 -- The clauses of questions on supplementing rules: those of the day's constructibility rules, then those of further formulas, and
 -- then for each question those of its goal, of which a new variable asks that all are met. Variable i below the number of codes is
--- code i, and the next is always true. A question alone has the formulas that it is about. Where several share the clauses, what the
--- constructibility rules ask of a set with a code is one formula, which all questions on rules that add the code share.
+-- code i, and the next is always true. A question alone has the formulas that it is about, coded as clausify does. Where several share
+-- the clauses, what the constructibility rules ask of a set with a code is one formula, which all questions on rules that add the code
+-- share, and a chain of connectives takes one variable (wide_clauses).
 --     own b day q                  the formulas that the question is about, in the order in which they get their literals
 --     question_lits b day v q      their literals, where v is the first variable that they take
 --     unbroken b day code          the set with the code breaks no constructibility rule, over sets that break none without
 --     shared_rules b day codes qs  that of each of the codes, and the other formulas of questions
 --     goal_clauses w lits          where variable w is true, the goal of a question with these literals is met
---     goals_clauses b day rules goals    the whole, for some formulas and the literals of goals
---     question_clauses b day q     of one question alone
---     asked_rules b day codes qs   the formulas of questions that share the clauses, or of one alone
+--     question_clauses b day q     the whole, of one question alone
+--     together_clauses b day codes qs    and of several
+--     questions_clauses b day codes qs   of one alone, or of any other number of them
 use Rattle.std.specs.Prelude.{ℕ, ◌+◌, ◌==◌, true, false, List, [], ◌∷◌, ◌++◌, Option, None, Some, length, map, if◌then◌else◌}
 use Rattle.std.specs.List.{flat_map}
 use Rattle.pb_base.specs.Leaves.{with_present}
@@ -21,6 +22,8 @@ use Rattle.clause_pool.specs.Clause.{clause_of}
 use Rattle.clausify.specs.Coded.{construct_variables}
 use Rattle.clausify.specs.Formulas.{connectives, formula_literal, literals_from}
 use Rattle.clausify.specs.Items.{Item, construct_items, free_item, encoded_items, variables_of}
+use Rattle.wide_clauses.specs.Chains.{wide_literal, wide_variables}
+use Rattle.wide_clauses.specs.WideItems.{taken_by, wide_items, wide_literals}
 use Rattle.supplement_findings.specs.Questions.{rule_at}
 use Rattle.supplement_findings.specs.Touching.{afters}
 use Rattle.supplement_findings.specs.declared.lits.QuestionLits.{QuestionLits}
@@ -101,7 +104,7 @@ other_own b (Breaks place) = (rule_at b place).rule ∷ []
 other_own b (Swaps first second) = swaps_own (rule_at b first) (rule_at b second)
 
 abbrev pub other_variables : Contents → SupplementQuestion → ℕ
-other_variables b q = variables_of (map free_item (other_own b q))
+other_variables b q = taken_by (map free_item (other_own b q))
 
 abbrev pub all_other : Contents → List SupplementQuestion → List Rule
 all_other b qs = flat_map (other_own b) qs
@@ -115,40 +118,58 @@ literal_with [] lits code = 0
 literal_with (k ∷ codes) [] code = 0
 literal_with (k ∷ codes) (l ∷ lits) code = if k == code then l else literal_with codes lits code
 
+abbrev pub together_swaps : ℕ → ℕ → Supplement → Supplement → QuestionLits
+together_swaps n v s t =
+    SwapsLits (wide_literal n v s.rule) s.code (wide_literal n (v + wide_variables s.rule) t.rule) t.code
+    (wide_literal n (v + wide_variables s.rule + wide_variables t.rule) (with_present s.code t.rule))
+    (wide_literal n (v + wide_variables s.rule + wide_variables t.rule + wide_variables (with_present s.code t.rule)) (with_present t.code s.rule))
+
 -- the literals of a question, where those of the codes are known
 abbrev pub other_lits : Contents → List ℕ → List ℕ → ℕ → SupplementQuestion → QuestionLits
 other_lits b codes known v (Breaks place) =
-    BreaksLits (formula_literal (length b.codes) v (rule_at b place).rule) (rule_at b place).code
+    BreaksLits (wide_literal (length b.codes) v (rule_at b place).rule) (rule_at b place).code
     (literal_with codes known (rule_at b place).code ∷ [])
-other_lits b codes known v (Swaps first second) = swaps_lits (length b.codes) v (rule_at b first) (rule_at b second)
+other_lits b codes known v (Swaps first second) = together_swaps (length b.codes) v (rule_at b first) (rule_at b second)
 
 abbrev pub all_other_lits : Contents → List ℕ → List ℕ → ℕ → List SupplementQuestion → List QuestionLits
 all_other_lits b codes known v [] = []
 all_other_lits b codes known v (q ∷ qs) = other_lits b codes known v q ∷ all_other_lits b codes known (v + other_variables b q) qs
 
+abbrev pub unbroken_taken : Contents → ℕ → List ℕ → ℕ
+unbroken_taken b day codes = taken_by (map free_item (unbroken_rules b day codes))
+
+-- and where each connective takes one
 abbrev pub unbroken_variables : Contents → ℕ → List ℕ → ℕ
 unbroken_variables b day codes = variables_of (map free_item (unbroken_rules b day codes))
 
 -- where v is the first variable of the formulas
 abbrev pub shared_lits : Contents → ℕ → List ℕ → ℕ → List SupplementQuestion → List QuestionLits
 shared_lits b day codes v qs =
-    all_other_lits b codes (literals_from (length b.codes) v (unbroken_rules b day codes)) (v + unbroken_variables b day codes) qs
+    all_other_lits b codes (wide_literals (length b.codes) v (unbroken_rules b day codes)) (v + unbroken_taken b day codes) qs
+
+abbrev pub together_items : Contents → ℕ → List ℕ → List SupplementQuestion → List Item
+together_items b day codes qs = construct_items b day ++ map free_item (shared_rules b day codes qs)
+
+-- the first variable of the formulas, and that of the first goal; those of the other goals follow
+abbrev pub shared_start : Contents → ℕ → ℕ
+shared_start b day = length b.codes + 1 + taken_by (construct_items b day)
+
+abbrev pub together_start : Contents → ℕ → List ℕ → List SupplementQuestion → ℕ
+together_start b day codes qs = length b.codes + 1 + taken_by (together_items b day codes qs)
+
+abbrev pub together_clauses : Contents → ℕ → List ℕ → List SupplementQuestion → List (List ℕ)
+together_clauses b day codes qs =
+    wide_items (length b.codes) (together_items b day codes qs)
+    ++ all_goal_clauses (together_start b day codes qs) (shared_lits b day codes (shared_start b day) qs)
+
+abbrev pub together_variables : Contents → ℕ → List ℕ → List SupplementQuestion → ℕ
+together_variables b day codes qs = together_start b day codes qs + length qs
 
 -- a question alone has its own formulas
-abbrev pub asked_rules : Contents → ℕ → List ℕ → List SupplementQuestion → List Rule
-asked_rules b day codes [] = shared_rules b day codes []
-asked_rules b day codes (q ∷ []) = own b day q
-asked_rules b day codes (p ∷ q ∷ qs) = shared_rules b day codes (p ∷ q ∷ qs)
-
-abbrev pub asked_lits : Contents → ℕ → List ℕ → ℕ → List SupplementQuestion → List QuestionLits
-asked_lits b day codes v [] = []
-asked_lits b day codes v (q ∷ []) = question_lits b day v q ∷ []
-asked_lits b day codes v (p ∷ q ∷ qs) = shared_lits b day codes v (p ∷ q ∷ qs)
-
 abbrev pub asked_items : Contents → ℕ → List Rule → List Item
 asked_items b day rules = construct_items b day ++ map free_item rules
 
--- the variable of the first goal; those of the others follow
+-- the variable of its goal
 abbrev pub goals_start : Contents → ℕ → List Rule → ℕ
 goals_start b day rules = length b.codes + 1 + variables_of (asked_items b day rules)
 
@@ -157,15 +178,6 @@ goals_clauses b day rules goals =
     encoded_items (length b.codes) (length b.codes + 1) (asked_items b day rules)
     ++ all_goal_clauses (goals_start b day rules) goals
 
--- of questions that share the clauses, or of one alone
-abbrev pub questions_clauses : Contents → ℕ → List ℕ → List SupplementQuestion → List (List ℕ)
-questions_clauses b day codes qs =
-    goals_clauses b day (asked_rules b day codes qs) (asked_lits b day codes (construct_variables b day) qs)
-
-abbrev pub questions_variables : Contents → ℕ → List ℕ → List SupplementQuestion → ℕ
-questions_variables b day codes qs = goals_start b day (asked_rules b day codes qs) + length qs
-
--- of one question alone
 abbrev pub question_clauses : Contents → ℕ → SupplementQuestion → List (List ℕ)
 question_clauses b day q = goals_clauses b day (own b day q) (question_lits b day (construct_variables b day) q ∷ [])
 
@@ -174,3 +186,20 @@ question_variables b day q = goals_start b day (own b day q) + 1
 
 abbrev pub question_goal : Contents → ℕ → SupplementQuestion → ℕ
 question_goal b day q = literal (goals_start b day (own b day q)) true
+
+-- of one alone, or of any other number of them
+abbrev pub questions_clauses : Contents → ℕ → List ℕ → List SupplementQuestion → List (List ℕ)
+questions_clauses b day codes [] = together_clauses b day codes []
+questions_clauses b day codes (q ∷ []) = question_clauses b day q
+questions_clauses b day codes (p ∷ q ∷ qs) = together_clauses b day codes (p ∷ q ∷ qs)
+
+abbrev pub questions_variables : Contents → ℕ → List ℕ → List SupplementQuestion → ℕ
+questions_variables b day codes [] = together_variables b day codes []
+questions_variables b day codes (q ∷ []) = question_variables b day q
+questions_variables b day codes (p ∷ q ∷ qs) = together_variables b day codes (p ∷ q ∷ qs)
+
+-- the variable of the first goal
+abbrev pub asked_start : Contents → ℕ → List ℕ → List SupplementQuestion → ℕ
+asked_start b day codes [] = together_start b day codes []
+asked_start b day codes (q ∷ []) = goals_start b day (own b day q)
+asked_start b day codes (p ∷ q ∷ qs) = together_start b day codes (p ∷ q ∷ qs)

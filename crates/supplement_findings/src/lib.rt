@@ -3,8 +3,10 @@
 #![tactic(auto)]
 
 mod after;
+mod alone;
 mod check;
 mod coding;
+mod goals;
 mod group;
 mod laws;
 mod lits;
@@ -16,6 +18,7 @@ mod sets;
 mod slice;
 mod slices;
 mod source;
+mod together;
 mod touched;
 
 pub use check::check_supplements;

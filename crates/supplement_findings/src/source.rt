@@ -15,9 +15,9 @@ use inquiry::{Coded, Inquiry};
 use pb_base::{CodeSet, Day, Formula, Memory, Sequence};
 use std::alloc::Global;
 
-// The most variables that questions of one solver add together, as they count them. Each of them slows a search, also where it asks
-// of another question, and what refutes a question is kept until the solver goes.
-const MOST_TOGETHER: u32 = 1_024;
+// Questions of one solver add at most so many variables together, as they count them, or as many as there are constructibility
+// rules, which are coded anew for each solver. Each variable slows a search, also where it asks of another question.
+const MOST_TOGETHER: usize = 1_024;
 
 /// The questions on the supplementing rules of a book on a day, with the rules that each code touches. Those of them that ask
 /// which constructibility rules a code breaks are of some codes.
@@ -45,7 +45,7 @@ impl<'a> Inquiry for DayQuestions<'a> {
     }
 
     fn most_together(&self) -> u32 {
-        MOST_TOGETHER
+        self.book.constructs().len().max(MOST_TOGETHER) as u32
     }
 
     fn size(&self, question: SupplementQuestion) -> u32 {
