@@ -17,7 +17,6 @@ use Rattle.clause_pool.specs.Derivation.{Derivation}
 use Rattle.clause_pool.proofs.LiteralLaws.{is_true-complement}
 use Rattle.clause_pool.proofs.ClauseLaws.{has-append}
 use Rattle.clausify.specs.Choices.{usage, is_active_variant, active_variants}
-use Rattle.clausify.specs.Coded.{goals_start}
 use Rattle.clausify.specs.declared.question.Question.TheVariants.{Necessary, Inadmissible, Superfluous, Ambiguous, Uncovered}
 use Rattle.clausify.proofs.RangeLaws.{positive_below, negative_below, complement_below}
 use Rattle.clausify.proofs.Truth.{true_positive, true_negative}
@@ -26,29 +25,30 @@ use Rattle.propagate.specs.Quiet.{IsConsistent}
 use Rattle.slice_hints.proofs.UsageLaws.{any_of_kept, none_used}
 use Rattle.solver.specs.Answer.{IsCore}
 use Rattle.solver.proofs.OneLaws.{one_below}
-use Rattle.findings.specs.Core.{IsUsage, AreUsages, Assumes, AssumesNone, IsClash}
+use Rattle.book_clauses.specs.BookClauses.{AreUsages, IsUsage}
+use Rattle.findings.specs.Core.{Assumes, AssumesNone, IsClash}
 
 and_true : (t : Bool) → (t && true) ≡ t
 and_true true = refl
 and_true false = refl
 
-pub assumes_absent : (b : Contents) (day i l : ℕ) → i < length b.codes → l ≡ literal i false → Assumes b day (Necessary i) (l ∷ [])
-assumes_absent b day i l within is =
-    subst (λ (k : ℕ). Assumes b day (Necessary i) (k ∷ [])) (sym is) (record {
-      below = one_below (literal i false) (2 * goals_start b day) (negative_below i (goals_start b day) (omega (arith, within)));
+pub assumes_absent : (b : Contents) (cs : List (List ℕ)) (vars day i l : ℕ) → length b.codes < vars → i < length b.codes → l ≡ literal i false → Assumes b cs vars day (Necessary i) (l ∷ [])
+assumes_absent b cs vars day i l few within is =
+    subst (λ (k : ℕ). Assumes b cs vars day (Necessary i) (k ∷ [])) (sym is) (record {
+      below = one_below (literal i false) (2 * vars) (negative_below i vars (omega (arith, within, few)));
       right = λ x a len begins sat. and_true (is_true a (literal i false)) ∙ true_negative a i ∙ ap not (begins i (omega (arith, within, len)));
     })
 
-pub assumes_present : (b : Contents) (day i l : ℕ) → i < length b.codes → l ≡ literal i true → Assumes b day (Inadmissible i) (l ∷ [])
-assumes_present b day i l within is =
-    subst (λ (k : ℕ). Assumes b day (Inadmissible i) (k ∷ [])) (sym is) (record {
-      below = one_below (literal i true) (2 * goals_start b day) (positive_below i (goals_start b day) (omega (arith, within)));
+pub assumes_present : (b : Contents) (cs : List (List ℕ)) (vars day i l : ℕ) → length b.codes < vars → i < length b.codes → l ≡ literal i true → Assumes b cs vars day (Inadmissible i) (l ∷ [])
+assumes_present b cs vars day i l few within is =
+    subst (λ (k : ℕ). Assumes b cs vars day (Inadmissible i) (k ∷ [])) (sym is) (record {
+      below = one_below (literal i true) (2 * vars) (positive_below i vars (omega (arith, within, few)));
       right = λ x a len begins sat. and_true (is_true a (literal i true)) ∙ true_positive a i ∙ begins i (omega (arith, within, len));
     })
 
-pub assumes_usage : (b : Contents) (day v l : ℕ) → IsUsage b day v l → Assumes b day (Superfluous v) (l ∷ [])
-assumes_usage b day v l h = record {
-  below = one_below l (2 * goals_start b day) h.below;
+pub assumes_usage : (b : Contents) (cs : List (List ℕ)) (vars : ℕ) (day v l : ℕ) → IsUsage b cs vars v l → Assumes b cs vars day (Superfluous v) (l ∷ [])
+assumes_usage b cs vars day v l h = record {
+  below = one_below l (2 * vars) h.below;
   right = λ x a len begins sat. and_true (is_true a l) ∙ h.right x a len begins sat;
 }
 
@@ -58,16 +58,16 @@ two_below l k n low other j is_in = elim (or_cases (eqb l j) (has (k ∷ []) j) 
   | inr later ↦ one_below k n other j later
 ]
 
-pub assumes_both : (b : Contents) (day position f g l k : ℕ) → IsUsage b day f l → IsUsage b day g k → Assumes b day (Ambiguous position f g) (l ∷ k ∷ [])
-assumes_both b day position f g l k h j = record {
-  below = two_below l k (2 * goals_start b day) h.below j.below;
+pub assumes_both : (b : Contents) (cs : List (List ℕ)) (vars : ℕ) (day position f g l k : ℕ) → IsUsage b cs vars f l → IsUsage b cs vars g k → Assumes b cs vars day (Ambiguous position f g) (l ∷ k ∷ [])
+assumes_both b cs vars day position f g l k h j = record {
+  below = two_below l k (2 * vars) h.below j.below;
   right = λ x a len begins sat.
       ap (λ (t : Bool). is_true a l && t) (and_true (is_true a k) ∙ j.right x a len begins sat)
       ∙ ap (λ (t : Bool). t && holds (usage b g) x) (h.right x a len begins sat);
 }
 
-pub assumes_uncovered : (b : Contents) (day position : ℕ) (ls : List ℕ) → AssumesNone b day (variants_of position b.variants) ls → Assumes b day (Uncovered position) ls
-assumes_uncovered b day position ls h = record {
+pub assumes_uncovered : (b : Contents) (cs : List (List ℕ)) (vars : ℕ) (day position : ℕ) (ls : List ℕ) → AssumesNone b cs vars day (variants_of position b.variants) ls → Assumes b cs vars day (Uncovered position) ls
+assumes_uncovered b cs vars day position ls h = record {
   below = h.below;
   right = λ x a len begins sat.
       h.right x a len begins sat
@@ -88,12 +88,12 @@ none_of_both true u = refl
 none_of_both false true = refl
 none_of_both false false = refl
 
-pub none_begun : (b : Contents) (day : ℕ) (ls : List ℕ) → ls ≡ [] → AssumesNone b day [] ls
-none_begun b day ls is =
-    subst (AssumesNone b day []) (sym is) (record { below = λ l is_in. absurd (false≢true is_in); right = λ x a len begins sat. refl })
+pub none_begun : (b : Contents) (cs : List (List ℕ)) (vars : ℕ) (day : ℕ) (ls : List ℕ) → ls ≡ [] → AssumesNone b cs vars day [] ls
+none_begun b cs vars day ls is =
+    subst (AssumesNone b cs vars day []) (sym is) (record { below = λ l is_in. absurd (false≢true is_in); right = λ x a len begins sat. refl })
 
-pub none_passed : (b : Contents) (day v : ℕ) (vs ls : List ℕ) → is_active_variant b day v ≡ false → AssumesNone b day vs ls → AssumesNone b day (vs ++ v ∷ []) ls
-none_passed b day v vs ls inactive h = record {
+pub none_passed : (b : Contents) (cs : List (List ℕ)) (vars : ℕ) (day v : ℕ) (vs ls : List ℕ) → is_active_variant b day v ≡ false → AssumesNone b cs vars day vs ls → AssumesNone b cs vars day (vs ++ v ∷ []) ls
+none_passed b cs vars day v vs ls inactive h = record {
   below = h.below;
   right = λ x a len begins sat.
       h.right x a len begins sat
@@ -108,11 +108,11 @@ more_below ls c n all low l is_in = elim (or_cases (has ls l) (has (c ∷ []) l)
   | inr here ↦ one_below c n low l here
 ]
 
-pub none_taken : (b : Contents) (day v l c : ℕ) (vs ls : List ℕ) → is_active_variant b day v ≡ true → IsUsage b day v l → c ≡ complement l → AssumesNone b day vs ls
-    → AssumesNone b day (vs ++ v ∷ []) (ls ++ c ∷ [])
-none_taken b day v l c vs ls active own is h =
-    subst (λ (k : ℕ). AssumesNone b day (vs ++ v ∷ []) (ls ++ k ∷ [])) (sym is) (record {
-      below = more_below ls (complement l) (2 * goals_start b day) h.below (complement_below l (goals_start b day) own.below);
+pub none_taken : (b : Contents) (cs : List (List ℕ)) (vars : ℕ) (day v l c : ℕ) (vs ls : List ℕ) → is_active_variant b day v ≡ true → IsUsage b cs vars v l → c ≡ complement l → AssumesNone b cs vars day vs ls
+    → AssumesNone b cs vars day (vs ++ v ∷ []) (ls ++ c ∷ [])
+none_taken b cs vars day v l c vs ls active own is h =
+    subst (λ (k : ℕ). AssumesNone b cs vars day (vs ++ v ∷ []) (ls ++ k ∷ [])) (sym is) (record {
+      below = more_below ls (complement l) (2 * vars) h.below (complement_below l vars own.below);
       right = λ x a len begins sat.
           let any : Bool = list_any (is_used b day x) vs in
           let used : Bool = holds (usage b v) x in
@@ -182,35 +182,6 @@ core_by k ls at c t within is value known = record {
   complements = complements_when ls c t value known;
 }
 
--- a usage read from a table
-usage_some : (b : Contents) (day v : ℕ) (o : Option ℕ) → ((l : ℕ) → o ≡ Some l → IsUsage b day v l) → IfSome o (IsUsage b day v)
-usage_some b day v None h = tt
-usage_some b day v (Some l) h = h l refl
-
-pub usage_read : (b : Contents) (day v : ℕ) (lits : List (Option ℕ)) (d : Option ℕ) → v < length lits → AreUsages b day lits → IfSome (get_or lits v d) (IsUsage b day v)
-usage_read b day v lits d within are =
-    usage_some b day v (get_or lits v d) (λ l is. are v l (slice_get-get_or lits v d within ∙ ap (λ (o : Option ℕ). Some o) is))
-
--- a table without a usage, and one with one more
-pub no_usages : (b : Contents) (day n : ℕ) (lits : List (Option ℕ)) → lits ≡ replicate n None → AreUsages b day lits
-no_usages b day n lits is v l there =
-    let none : Option ℕ = None in
-    let found : slice_get (replicate n none) v ≡ Some (Some l) = ap (λ (ls : List (Option ℕ)). slice_get ls v) (sym is) ∙ there in
-    let long = slice_get_within (replicate n none) v (Some l) found in
-    let within : v < n = omega (arith, long, length-replicate n none) in
-    absurd (none-some l (sym (get_or-replicate n v none none within) ∙ get_or_from_slice_get (replicate n none) v (Some l) none found))
-
-pub usage_entered : (b : Contents) (day place l : ℕ) (lits : List (Option ℕ)) → IsUsage b day place l → AreUsages b day lits → AreUsages b day (slice_set lits place (Some l))
-usage_entered b day place l lits own are v k there =
-    let more : List (Option ℕ) = slice_set lits place (Some l) in
-    let got : get_or more v None ≡ Some k = get_or_from_slice_get more v (Some k) None there in
-    let long = slice_get_within more v (Some k) there in
-    let below : v < length lits = omega (arith, long, length-set lits place (Some l)) in
-    elim (cases_eq v place) [
-      | inl same ↦
-          let within : place < length lits = subst (λ (i : ℕ). i < length lits) same below in
-          let is : l ≡ k = same_Some l k (sym (get_or-set_same lits place (Some l) None within) ∙ ap (λ (i : ℕ). get_or more i None) (sym same) ∙ got) in
-          subst (λ (i : ℕ). IsUsage b day i k) (sym same) (subst (λ (j : ℕ). IsUsage b day place j) is own)
-      | inr other ↦
-          are v k (slice_get-get_or lits v None below ∙ ap (λ (o : Option ℕ). Some o) (sym (get_or-set_other lits place v (Some l) None other) ∙ got))
-    ]
+-- a usage read from the literals of all of them
+pub usage_read : (b : Contents) (cs : List (List ℕ)) (vars v : ℕ) (lits : List ℕ) (d : ℕ) → v < length lits → AreUsages b cs vars lits → IsUsage b cs vars v (get_or lits v d)
+usage_read b cs vars v lits d within are = are v (get_or lits v d) (slice_get-get_or lits v d within)

@@ -1,46 +1,46 @@
--- What the clauses of a slice's rules and usages say of the sets that are good on its days, and what an answer over them says of a
--- question.
-use Rattle.std.proofs.Common.{inl, inr, ◌≡◌, ℕ, zero, suc, ◌+◌, ◌*◌, ◌<◌, ◌≤◌, Bool, true, false, not, cond, eqb, List, [], ◌∷◌, ◌++◌, length, map, refl, sym, ap, subst, ◌∙◌, arith}
-use Rattle.std.specs.Prelude.{IsTrue}
+-- What the clauses of a book say of the sets that are good on the days of a slice, and what an answer over them says of a question.
+use Rattle.std.proofs.Common.{inl, inr, ◌≡◌, ℕ, zero, suc, ◌+◌, ◌-◌, ◌*◌, ◌<◌, ◌≤◌, Bool, true, false, not, cond, eqb, List, [], ◌∷◌, ◌++◌, Option, Some, length, map, append-nil, refl, sym, ap, subst, ◌∙◌, arith}
+use Rattle.std.specs.Prelude.{◌==◌, IsTrue}
 use Rattle.std.specs.List.{filter, slice_get, AllByRecursion}
 use Rattle.std.specs.Option.{option_map_or}
-use Rattle.std.proofs.lemmas.Bool.{and_from, and_parts, or_cases, or_left, or_right, eq-eqb, eqb-true, false≢true, true≢false, le-leb}
+use Rattle.std.proofs.lemmas.Bool.{and_from, and_parts, cases_Bool, or_cases, or_left, or_right, eq-eqb, eqb-true, false≢true, true≢false, le-leb}
+use Rattle.std.proofs.lemmas.List.{take_all}
+use Rattle.std.proofs.lemmas.List.Folds.{list_all-append}
+use Rattle.std.proofs.lemmas.Option.{none-some, same_Some}
+use Rattle.std.specs.Prelude.{All}
 use Rattle.pb_base.specs.Rule.{Rule, holds}
 use Rattle.book_model.specs.Activity.{is_within}
 use Rattle.book_model.specs.Contents.{Contents}
-use Rattle.book_model.specs.Book.{IsBook}
 use Rattle.book_model.specs.Good.{is_good}
 use Rattle.book_model.specs.Parts.{variants_of}
 use Rattle.book_model.specs.Slices.{AreAlike, IsSteady, days_from_to}
 use Rattle.book_model.specs.declared.record.Slice.{Slice}
 use Rattle.book_model.specs.declared.record.Variant.{Variant}
 use Rattle.book_model.proofs.DaysAlike.{IsAlike, records_alike, good_alike}
+use Rattle.book_clauses.specs.BookClauses.{AreOn, AreUsages, CodesBook, SaysOn, is_in, literals_on}
 use Rattle.clause_pool.specs.Literal.{literal, complement, is_true}
-use Rattle.clause_pool.specs.Clause.{has, clause_of, AreBelow, Follows, Sat}
-use Rattle.clause_pool.specs.Derivation.{Derivation, AllFollow}
+use Rattle.clause_pool.specs.Clause.{has, Follows, Sat}
+use Rattle.clause_pool.specs.Derivation.{Derivation, AllFollow, kernel_of}
 use Rattle.clause_pool.proofs.LiteralLaws.{is_true-complement}
-use Rattle.clause_pool.proofs.ClauseLaws.{TrueLiteral, true_literal, all_found, IsBelow-clause_of}
+use Rattle.clause_pool.proofs.ClauseLaws.{TrueLiteral, true_literal, all_found, has-append}
 use Rattle.chains.specs.Growth.{given_of}
-use Rattle.clausify.specs.Choices.{choices, usage, is_active_variant}
-use Rattle.clausify.specs.Coded.{core_clauses, goals_start, usages_start}
-use Rattle.clausify.specs.Goals.{all_usages}
-use Rattle.clausify.specs.Items.{items, item_clauses, rule_items, usage_items}
-use Rattle.clausify.specs.Lifting.{BeginsWith, UsagesTrue}
+use Rattle.clausify.specs.Choices.{usage, is_active_variant}
+use Rattle.clausify.specs.Lifting.{BeginsWith}
 use Rattle.clausify.specs.Questions.{goal, none_rule, HasSet}
 use Rattle.clausify.specs.declared.question.Question.{Question}
 use Rattle.clausify.specs.declared.question.Question.TheVariants.{Void, Necessary, Inadmissible, Superfluous, Ambiguous, Uncovered}
-use Rattle.clausify.specs.declared.usage.Usage.{Usage}
-use Rattle.clausify.specs.declared.encoder.Encoder.{Encoder}
-use Rattle.clausify.proofs.CodedLaws.{Begun, RulesMade, UsagesMade, items_then}
 use Rattle.clausify.proofs.ItemLaws.{length_from_good}
-use Rattle.clausify.proofs.RangeLaws.{items_below, positive_below}
-use Rattle.clausify.proofs.SliceLaws.{core_codes, core_usages, items_fit}
+use Rattle.clausify.proofs.Truth.{true_positive, true_negative}
+use Rattle.propagate.specs.Quiet.{IsConsistent}
+use Rattle.propagate.specs.Trail.{AreBelow}
+use Rattle.slice_hints.specs.Found.{IsFound, KnowsUsages}
+use Rattle.slice_hints.specs.declared.found.Found.{Found}
 use Rattle.solver.specs.Answer.{Begins, IsCore}
 use Rattle.solver.specs.Solver.{Solving, Onwards}
-use Rattle.derivation.specs.Showing.{StandsOver}
+use Rattle.findings.specs.declared.core_report.Asking.{Asking}
 use Rattle.findings.specs.Findings.{MeetsThrough}
-use Rattle.findings.specs.Core.{IsRightUsage, all_true, Assumes, IsClash, CoreFacts, IsOverCore}
-use Rattle.findings.proofs.Lifting.{on_first}
+use Rattle.findings.specs.Core.{all_true, Asks, Assumes, IsAsking, IsClash, IsInTerm, IsKnown, IsOverBook, periods_of}
+use Rattle.findings.proofs.Lifting.{has_from_meets, on_first}
 
 -- the goals are the same on all days on which the same records are active
 filter_same : (p q : ℕ → Bool) → ((k : ℕ) → p k ≡ q k) → (ks : List ℕ) → filter p ks ≡ filter q ks
@@ -62,50 +62,6 @@ goal_same b day other h (Ambiguous position first second) = refl
 goal_same b day other h (Uncovered position) =
     ap (λ (vs : List ℕ). none_rule (map (usage b) vs))
     (filter_same (is_active_variant b day) (is_active_variant b other) (λ k. active_same day other b.variants k (records_alike b day other h).variants) (variants_of position b.variants))
-
-pub core_facts : (b : Contents) (s : Slice) → IsBook b → IsSteady b s → s.first ≤ s.last → CoreFacts b s
-core_facts b s book steady order =
-    let first = core_codes b s.first book in
-    record {
-      order = order;
-      sets = λ day within.
-          let same : AreAlike b day s.first = steady day within in
-          record {
-            lifts = λ x len good. first.lifts x len (sym (good_alike b day s.first x same) ∙ good);
-            begins_so = λ a x len begins sat. good_alike b day s.first x same ∙ first.begins_so a x len begins sat;
-          };
-      goals = λ day within. goal_same b day s.first (steady day within);
-    }
-
--- the literals of the clauses are of their variables
-pub core_below : (b : Contents) (day : ℕ) → IsBook b → AreBelow (2 * goals_start b day) (core_clauses b day)
-core_below b day book =
-    let n : ℕ = length b.codes in
-    let m : ℕ = goals_start b day in
-    let few : n < m = omega arith in
-    (IsBelow-clause_of (2 * m) (literal n true ∷ []) (positive_below n m few, tt), items_below n n (n + 1) m (items b day) (items_fit b day book) (omega arith) (omega arith) (omega arith))
-
--- the clauses that were made
-pub core_made : (b : Contents) (day : ℕ) (m0 m1 m2 : Encoder) → Begun b m0 → RulesMade b day m0 m1 → UsagesMade b day m1 m2 → m2.pool.clauses ≡ core_clauses b day
-core_made b day m0 m1 m2 begin rules usages =
-    let n : ℕ = length b.codes in
-    (items_then m0 m1 m2 (rule_items b day) (usage_items b (choices b day)) rules usages).clauses
-    ∙ ap (λ (cs : List (List ℕ)). cs ++ item_clauses m0.truth m0.next (items b day)) begin.clauses
-    ∙ ap (λ (t : ℕ). clause_of (literal n true ∷ []) ∷ item_clauses t m0.next (items b day)) begin.truth
-    ∙ ap (λ (v : ℕ). clause_of (literal n true ∷ []) ∷ item_clauses n v (items b day)) begin.next
-
--- the literals of the usages are the truth of their formulas
-usages_right : (b : Contents) (day : ℕ) (us : List Usage)
-    → ((x : List Bool) (a : ℕ → Bool) → length x ≡ length b.codes → BeginsWith x a → Sat (core_clauses b day) a → UsagesTrue b x a us)
-    → AllByRecursion (λ (u : Usage). IsRightUsage b day u.variant u.literal) us
-usages_right b day [] h = tt
-usages_right b day (u ∷ us) h = ((λ x a len begins sat. (h x a len begins sat).0), usages_right b day us (λ x a len begins sat. (h x a len begins sat).1))
-
-pub usages_are_right : (b : Contents) (day : ℕ) (us : List Usage) → IsBook b → us ≡ all_usages b (length b.codes) (usages_start b day) (choices b day)
-    → AllByRecursion (λ (u : Usage). IsRightUsage b day u.variant u.literal) us
-usages_are_right b day us book are =
-    subst (λ (l : List Usage). AllByRecursion (λ (u : Usage). IsRightUsage b day u.variant u.literal) l) (sym are)
-    (usages_right b day (all_usages b (length b.codes) (usages_start b day) (choices b day)) (λ x a len begins sat. core_usages b day book x a len begins sat))
 
 -- the truth of all literals of a list
 pub one_of_all : (a : ℕ → Bool) (ls : List ℕ) (l : ℕ) → all_true a ls ≡ true → has ls l ≡ true → is_true a l ≡ true
@@ -137,66 +93,185 @@ core_false given a ls k at are follow core sat all =
     let found : TrueLiteral a core.clause = true_literal a core.clause (follows a (subst (λ (cs : List (List ℕ)). Sat cs a) (sym are) sat)) in
     not_both a found.literal found.holds (one_of_all a ls (complement found.literal) all (core.complements found.literal found.is_in))
 
--- a question has no set where nothing satisfies the clauses and makes what it assumes true
-pub none_where_false : (b : Contents) (s : Slice) (q : Question) (ls : List ℕ) → CoreFacts b s → Assumes b s.first q ls
-    → ((a : ℕ → Bool) → Sat (core_clauses b s.first) a → all_true a ls ≡ true → ⊥) → HasSet b s q → ⊥
-none_where_false b s q ls facts assumes never has_set =
-    let within : IsTrue (is_within s.first s.last has_set.day) = and_from _ _ (le-leb s.first has_set.day has_set.not_before) (le-leb has_set.day s.last has_set.not_after) in
-    let len : length has_set.set ≡ length b.codes = length_from_good b has_set.day has_set.set has_set.is_good_then in
-    let lift = (facts.sets has_set.day within).lifts has_set.set len has_set.is_good_then in
-    never lift.0 lift.1.satisfies
-    (assumes.right has_set.set lift.0 len lift.1.begins lift.1.satisfies
-    ∙ ap (λ (f : Rule). holds f has_set.set) (sym (facts.goals has_set.day within q)) ∙ has_set.meets_goal)
+-- what says which periods a day is in is true just where the variables say so
+literal_true : (a : ℕ → Bool) (v : ℕ) (t : Bool) → a v ≡ t → is_true a (literal v t) ≡ true
+literal_true a v true is = true_positive a v ∙ is
+literal_true a v false is = true_negative a v ∙ ap not is
 
--- a set that begins a satisfying assignment which makes what a question assumes true meets its goal through the slice
-pub meets_from_core : (b : Contents) (s : Slice) (q : Question) (ls : List ℕ) (x : List Bool) → CoreFacts b s → Assumes b s.first q ls
-    → Begins (core_clauses b s.first) ls (length b.codes) x → MeetsThrough b s q x
-meets_from_core b s q ls x facts assumes h =
-    let begins : BeginsWith x h.assignment = λ i below. h.begins i (omega (arith, below, h.counted)) in
-    record {
-      good_then = λ day within. (facts.sets day within).begins_so h.assignment x h.counted begins h.satisfied;
-      met_then = λ day within.
-          ap (λ (f : Rule). holds f x) (facts.goals day within q) ∙ sym (assumes.right x h.assignment h.counted begins h.satisfied)
-          ∙ all_of_each h.assignment ls h.assumed;
-    }
+literal_says : (a : ℕ → Bool) (v : ℕ) (t : Bool) → is_true a (literal v t) ≡ true → a v ≡ t
+literal_says a v true holds_so = sym (true_positive a v) ∙ holds_so
+literal_says a v false holds_so =
+    elim (cases_Bool (a v)) [
+      | inl on ↦ absurd (false≢true (ap not (sym on) ∙ sym (true_negative a v) ∙ holds_so))
+      | inr off ↦ off
+    ]
+
+periods_true : (v day : ℕ) (ps : List Slice) (a : ℕ → Bool) → AreOn v ps day a → all_true a (literals_on v ps day) ≡ true
+periods_true v day [] a on = refl
+periods_true v day (p ∷ ps) a on =
+    and_from _ _ (literal_true a v (is_in day p) (ap a (let e : v ≡ v + 0 = omega arith in e) ∙ on 0 p refl))
+    (periods_true (v + 1) day ps a (λ k q there. ap a (let e : v + 1 + k ≡ v + suc k = omega arith in e) ∙ on (suc k) q there))
+
+periods_say : (v day : ℕ) (ps : List Slice) (a : ℕ → Bool) → all_true a (literals_on v ps day) ≡ true → AreOn v ps day a
+periods_say v day [] a all k p there = absurd (none-some p there)
+periods_say v day (q ∷ ps) a all zero p there =
+    let here = and_parts (is_true a (literal v (is_in day q))) (all_true a (literals_on (v + 1) ps day)) all in
+    ap a (let e : v + 0 ≡ v = omega arith in e) ∙ literal_says a v (is_in day q) here.0 ∙ ap (is_in day) (same_Some q p there)
+periods_say v day (q ∷ ps) a all (suc k) p there =
+    let here = and_parts (is_true a (literal v (is_in day q))) (all_true a (literals_on (v + 1) ps day)) all in
+    ap a (let e : v + suc k ≡ v + 1 + k = omega arith in e) ∙ periods_say (v + 1) day ps a here.1 k p there
+
+-- and no literal of it is there with its complement, since some variables say so
+abbrev period_values : ℕ → List Slice → ℕ → ℕ → Bool
+period_values v ps day n = option_map_or (is_in day) (slice_get ps (n - v)) false
+
+values_say : (v day : ℕ) (ps : List Slice) → AreOn v ps day (period_values v ps day)
+values_say v day ps k p there =
+    ap (λ (j : ℕ). option_map_or (is_in day) (slice_get ps j) false) (let e : (v + k) - v ≡ k = omega arith in e)
+    ∙ ap (λ (o : Option Slice). option_map_or (is_in day) o false) there
+
+pub periods_consistent : (v day : ℕ) (ps : List Slice) → IsConsistent (literals_on v ps day)
+periods_consistent v day ps l is_in_list other =
+    let a : ℕ → Bool = period_values v ps day in
+    let all : all_true a (literals_on v ps day) ≡ true = periods_true v day ps a (values_say v day ps) in
+    not_both a l (one_of_all a (literals_on v ps day) l all is_in_list) (one_of_all a (literals_on v ps day) (complement l) all other)
+
+literal_under : (v n : ℕ) (t : Bool) → v < n → literal v t < 2 * n
+literal_under v n true low = omega (arith, low)
+literal_under v n false low = omega (arith, low)
+
+periods_below : (v n day : ℕ) (ps : List Slice) → v + length ps ≤ n → AreBelow (literals_on v ps day) (2 * n)
+periods_below v n day [] low l is_in_list = absurd (false≢true is_in_list)
+periods_below v n day (p ∷ ps) low l is_in_list =
+    elim (or_cases (eqb (literal v (is_in day p)) l) (has (literals_on (v + 1) ps day) l) is_in_list) [
+      | inl same ↦ subst (λ (j : ℕ). j < 2 * n) (eqb-true (literal v (is_in day p)) l same) (literal_under v n (is_in day p) (omega (arith, low)))
+      | inr later ↦ periods_below (v + 1) n day ps (omega (arith, low)) l later
+    ]
+
+both_below : (ls ks : List ℕ) (n : ℕ) → AreBelow ls n → AreBelow ks n → AreBelow (ls ++ ks) n
+both_below ls ks n first last l is_in_list = elim (or_cases (has ls l) (has ks l) (sym (has-append ls ks l) ∙ is_in_list)) [
+  | inl here ↦ first l here
+  | inr there ↦ last l there
+]
+
+-- a question of a slice: what says which periods its first day is in, and what the question assumes
+pub asks_by : (b : Contents) (ps : List Slice) (s : Slice) (q : Question) (cs : List (List ℕ)) (vars : ℕ) (ls all : List ℕ) → CodesBook b ps cs → length b.codes + length ps < vars → IsInTerm b s
+    → Assumes b cs vars s.first q ls → all ≡ periods_of b ps s ++ ls → Asks b s q cs vars all
+asks_by b ps s q cs vars ls all codes few slice assumes are =
+    subst (Asks b s q cs vars) (sym are) (record {
+      below = both_below (periods_of b ps s) ls (2 * vars) (periods_below (length b.codes) vars s.first ps (omega (arith, few))) assumes.below;
+      none = λ never has_set.
+          let within : IsTrue (is_within s.first s.last has_set.day) = and_from _ _ (le-leb s.first has_set.day has_set.not_before) (le-leb has_set.day s.last has_set.not_after) in
+          let alike : AreAlike b has_set.day s.first = slice.steady has_set.day within in
+          let good : is_good b s.first has_set.set ≡ true = sym (good_alike b has_set.day s.first has_set.set alike) ∙ has_set.is_good_then in
+          let len : length has_set.set ≡ length b.codes = length_from_good b s.first has_set.set good in
+          let lift = codes.lifts s.first slice.not_before slice.not_after has_set.set good in
+          never lift.0 lift.2
+          (list_all-append (is_true lift.0) (periods_of b ps s) ls
+          ∙ and_from _ _ (periods_true (length b.codes) s.first ps lift.0 lift.1.periods)
+          (assumes.right has_set.set lift.0 len lift.1.begins lift.2 ∙ ap (λ (f : Rule). holds f has_set.set) (sym (goal_same b has_set.day s.first alike q)) ∙ has_set.meets_goal));
+      meets = λ x h.
+          let held : all_true h.assignment (periods_of b ps s ++ ls) ≡ true = all_of_each h.assignment (periods_of b ps s ++ ls) h.assumed in
+          let parts = and_parts (all_true h.assignment (periods_of b ps s)) (all_true h.assignment ls) (sym (list_all-append (is_true h.assignment) (periods_of b ps s) ls) ∙ held) in
+          let begins : BeginsWith x h.assignment = λ i below. h.begins i (omega (arith, below, h.counted)) in
+          let says : SaysOn b ps s.first x h.assignment = record { begins = begins; periods = periods_say (length b.codes) s.first ps h.assignment parts.0 } in
+          let good : is_good b s.first x ≡ true = codes.begins_good s.first slice.not_before slice.not_after x h.assignment h.counted says h.satisfied in
+          record {
+            good_then = λ day within. good_alike b day s.first x (slice.steady day within) ∙ good;
+            met_then = λ day within.
+                ap (λ (f : Rule). holds f x) (goal_same b day s.first (slice.steady day within) q)
+                ∙ sym (assumes.right x h.assignment h.counted begins h.satisfied) ∙ parts.1;
+          };
+    })
 
 -- what is good on the first day is so through the slice, and so is a goal that is met
-pub good_through_core : (b : Contents) (s : Slice) (x : List Bool) → CoreFacts b s → length x ≡ length b.codes → is_good b s.first x ≡ true
-    → (day : ℕ) → IsTrue (is_within s.first s.last day) → is_good b day x ≡ true
-good_through_core b s x facts len good day within =
-    let lift = (facts.sets s.first (on_first s facts.order)).lifts x len good in
-    (facts.sets day within).begins_so lift.0 x len lift.1.begins lift.1.satisfies
-
-pub meets_found_core : (b : Contents) (s : Slice) (q : Question) (x : List Bool) → CoreFacts b s → length x ≡ length b.codes → is_good b s.first x ≡ true
-    → holds (goal b s.first q) x ≡ true → MeetsThrough b s q x
-meets_found_core b s q x facts len good met = record {
-  good_then = good_through_core b s x facts len good;
-  met_then = λ day within. ap (λ (f : Rule). holds f x) (facts.goals day within q) ∙ met;
+pub meets_found_core : (b : Contents) (s : Slice) (q : Question) (x : List Bool) → IsInTerm b s → is_good b s.first x ≡ true → holds (goal b s.first q) x ≡ true → MeetsThrough b s q x
+meets_found_core b s q x slice good met = record {
+  good_then = λ day within. good_alike b day s.first x (slice.steady day within) ∙ good;
+  met_then = λ day within. ap (λ (f : Rule). holds f x) (goal_same b day s.first (slice.steady day within) q) ∙ met;
 }
 
--- Void assumes nothing
-pub void_assumes : (b : Contents) (day : ℕ) → Assumes b day Void []
-void_assumes b day = record { below = λ l is_in. absurd (false≢true is_in); right = λ x a len begins sat. refl }
+-- so a set that is good on the first day shows that the slice isn't void
+pub found_not_void : (b : Contents) (s : Slice) (f : Found) → IsInTerm b s → IsFound b s.first f → HasSet b s Void
+found_not_void b s f slice found = has_from_meets b s Void f.set slice.order (meets_found_core b s Void f.set slice found.good_then refl)
 
--- a solver that derived further clauses still stands over them
-pub core_onwards : (b : Contents) (s : Slice) (old new : Solving) → IsOverCore b s old → Onwards old new → IsOverCore b s new
-core_onwards b s old new h on = record {
-  stands = record { number = on.extends.same_number ∙ h.stands.number; given = on.extends.same_given ∙ h.stands.given };
-  variables = on.same_vars ∙ h.variables;
+-- Void assumes nothing more
+pub void_assumes : (b : Contents) (cs : List (List ℕ)) (vars day : ℕ) → Assumes b cs vars day Void []
+void_assumes b cs vars day = record { below = λ l is_in_list. absurd (false≢true is_in_list); right = λ x a len begins sat. refl }
+
+-- so it is asked with the periods alone
+pub void_asks : (b : Contents) (ps : List Slice) (s : Slice) (cs : List (List ℕ)) (vars : ℕ) (on : List ℕ) → CodesBook b ps cs → length b.codes + length ps < vars → IsInTerm b s
+    → on ≡ periods_of b ps s → Asks b s Void cs vars on
+void_asks b ps s cs vars on codes few slice are =
+    asks_by b ps s Void cs vars [] on codes few slice (void_assumes b cs vars s.first) (are ∙ sym (append-nil (periods_of b ps s)))
+
+pub some_not_void : (b : Contents) (s : Slice) (sets : List Found) (none : Bool) → none ≡ (length sets == 0) → not none ≡ true → IsInTerm b s → All (IsFound b s.first) sets → HasSet b s Void
+some_not_void b s [] none is some slice found = absurd (false≢true (sym (ap not is) ∙ some))
+some_not_void b s (f ∷ sets) none is some slice found = found_not_void b s f slice (found 0 f (omega arith))
+
+pub found_by_meets : (b : Contents) (s : Slice) (x : List Bool) (f : Found) → s.first ≤ s.last → MeetsThrough b s Void x → length x ≡ length b.codes → f.set ≡ x → KnowsUsages b f → IsFound b s.first f
+found_by_meets b s x f order meets counted is knows = record {
+  counted = ap (λ (y : List Bool). length y) is ∙ counted;
+  good_then = ap (λ (y : List Bool). is_good b s.first y) is ∙ meets.good_then s.first (on_first s order);
+  usages = knows;
+}
+
+-- a solver that derived further clauses was given the same ones
+pub usages_onwards : (b : Contents) (lits : List ℕ) (old new : Solving) → AreUsages b (given_of old.kernel) old.vars lits → Onwards old new → AreUsages b (given_of new.kernel) new.vars lits
+usages_onwards b lits old new h on =
+    subst (λ (vars : ℕ). AreUsages b (given_of new.kernel) vars lits) (sym on.same_vars)
+    (subst (λ (cs : List (List ℕ)). AreUsages b cs old.vars lits) (sym on.extends.same_given) h)
+
+pub book_onwards : (b : Contents) (ps : List Slice) (old new : Solving) → IsOverBook b ps old → Onwards old new → IsOverBook b ps new
+book_onwards b ps old new h on = record {
   codes = on.same_codes ∙ h.codes;
+  periods = omega (arith, h.periods, on.same_vars);
+  clauses = subst (CodesBook b ps) (sym on.extends.same_given) h.clauses;
 }
 
-pub begins_over_core : (b : Contents) (s : Slice) (ls : List ℕ) (solving : Solving) (x : List Bool) → IsOverCore b s solving → Begins (given_of solving.kernel) ls solving.codes x
-    → Begins (core_clauses b s.first) ls (length b.codes) x
-begins_over_core b s ls solving x over h =
-    subst (λ (n : ℕ). Begins (core_clauses b s.first) ls n x) over.codes
-    (subst (λ (cs : List (List ℕ)). Begins cs ls solving.codes x) over.stands.given h)
-
--- a solver that was begun over them
-pub core_begun : (b : Contents) (s : Slice) (clauses : List (List ℕ)) (vars : ℕ) (solving : Solving) → clauses ≡ core_clauses b s.first → vars ≡ goals_start b s.first
-    → StandsOver clauses solving.kernel → solving.vars ≡ vars → solving.codes ≡ length b.codes → IsOverCore b s solving
-core_begun b s clauses vars solving are count over counted codes = record {
-  stands = subst (λ (cs : List (List ℕ)). StandsOver cs solving.kernel) are over;
-  variables = counted ∙ count;
-  codes = codes;
+pub known_onwards : (b : Contents) (asking : Asking) (sets more : List Found) (old new : Solving) → IsKnown b asking sets old → Onwards old new
+    → All (IsFound b asking.task.slice.first) more → IsKnown b asking more new
+known_onwards b asking sets more old new h on found = record {
+  over = book_onwards b asking.periods.now old new h.over on;
+  usages = usages_onwards b asking.usages.now old new h.usages on;
+  found = found;
 }
+
+-- so what it is asked means the same, and what it finds begins an assignment as before
+pub asks_onwards : (b : Contents) (s : Slice) (q : Question) (ls : List ℕ) (old new : Solving) → Asks b s q (given_of old.kernel) old.vars ls → Onwards old new → Asks b s q (given_of new.kernel) new.vars ls
+asks_onwards b s q ls old new h on =
+    subst (λ (vars : ℕ). Asks b s q (given_of new.kernel) vars ls) (sym on.same_vars)
+    (subst (λ (cs : List (List ℕ)). Asks b s q cs old.vars ls) (sym on.extends.same_given) h)
+
+pub begins_onwards : (b : Contents) (ps : List Slice) (ls : List ℕ) (x : List Bool) (old new : Solving) → IsOverBook b ps old → Onwards old new → Begins (given_of new.kernel) ls new.codes x
+    → Begins (given_of old.kernel) ls (length b.codes) x
+begins_onwards b ps ls x old new h on begins =
+    subst (λ (n : ℕ). Begins (given_of old.kernel) ls n x) (on.same_codes ∙ h.codes)
+    (subst (λ (cs : List (List ℕ)). Begins cs ls new.codes x) on.extends.same_given begins)
+
+-- what the search for a set of a slice finds meets Void's goal
+pub void_met : (b : Contents) (asking : Asking) (sets : List Found) (old new : Solving) (x : List Bool) → IsAsking b asking → IsKnown b asking sets old → Onwards old new
+    → Begins (given_of new.kernel) asking.on.now new.codes x → MeetsThrough b asking.task.slice Void x
+void_met b asking sets old new x h known on begins =
+    let ps = asking.periods.now in
+    (void_asks b ps asking.task.slice (given_of old.kernel) old.vars asking.on.now known.over.clauses known.over.periods h.task.slice h.on).meets x
+    (begins_onwards b ps asking.on.now x old new known.over on begins)
+
+-- a new solver over the clauses of a book
+pub given_at_first : (clauses : List (List ℕ)) (vars codes : ℕ) (kernel : Derivation) (solving : Solving) → kernel ≡ kernel_of clauses → solving ≡ record { kernel = kernel; vars = vars; codes = codes }
+    → given_of solving.kernel ≡ clauses
+given_at_first clauses vars codes kernel solving is made =
+    ap (λ (s : Solving). given_of s.kernel) made ∙ ap (λ (k : Derivation). given_of k) is ∙ take_all (length clauses) clauses (omega arith)
+
+pub book_begun : (b : Contents) (ps : List Slice) (clauses : List (List ℕ)) (vars : ℕ) (solving : Solving) → CodesBook b ps clauses → length b.codes + length ps < vars
+    → given_of solving.kernel ≡ clauses → solving.vars ≡ vars → solving.codes ≡ length b.codes → IsOverBook b ps solving
+book_begun b ps clauses vars solving coded few given same counted = record {
+  codes = counted;
+  periods = omega (arith, few, same);
+  clauses = subst (CodesBook b ps) (sym given) coded;
+}
+
+pub usages_begun : (b : Contents) (clauses : List (List ℕ)) (vars : ℕ) (lits : List ℕ) (solving : Solving) → AreUsages b clauses vars lits
+    → given_of solving.kernel ≡ clauses → solving.vars ≡ vars → AreUsages b (given_of solving.kernel) solving.vars lits
+usages_begun b clauses vars lits solving h given same =
+    subst (λ (n : ℕ). AreUsages b (given_of solving.kernel) n lits) (sym same) (subst (λ (cs : List (List ℕ)). AreUsages b cs vars lits) (sym given) h)

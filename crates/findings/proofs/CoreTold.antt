@@ -21,7 +21,6 @@ use Rattle.findings.specs.declared.outcome.Outcome.{Outcome}
 use Rattle.findings.specs.declared.outcome.Outcome.TheVariants.{Fine, Noted}
 use Rattle.findings.specs.declared.report.Note.{Note}
 use Rattle.findings.specs.declared.report.Note.TheVariants.{Days, Finding}
-use Rattle.findings.proofs.Lifting.{has_from_meets}
 use Rattle.findings.proofs.SliceLaws.{notes_with_set, notes_void}
 use Rattle.findings.proofs.ToldLaws.{own_notes, parts_more, set_outcome}
 
@@ -82,11 +81,11 @@ parts_of_questions i s (a ∷ asked) notes h =
 later_asked : (b : Contents) (day : ℕ) → map question_of (drop 1 (slice_asked b day)) ≡ later_questions b day
 later_asked b day = ap (λ (qs : List Question). drop 1 qs) (asked_in_order b day)
 
-pub slice_of_core : (i : Inquiry) (s : Slice) (x : List Bool) (own notes : List Note) → s.first ≤ s.last → MeetsThrough i.book s Void x
+pub slice_of_core : (i : Inquiry) (s : Slice) (own notes : List Note) → HasSet i.book s Void
     → AreToldOf i s (later_questions i.book s.first) own → notes ≡ Days s.first s.last ∷ own → SliceNotes i s notes
-slice_of_core i s x own notes order met told all =
+slice_of_core i s own notes has_set told all =
     subst (SliceNotes i s) (sym all)
-    (notes_with_set i s own (has_from_meets i.book s Void x order met)
+    (notes_with_set i s own has_set
     (parts_of_questions i s (drop 1 (slice_asked i.book s.first)) own (subst (λ (qs : List Question). AreToldOf i s qs own) (sym (later_asked i.book s.first)) told)))
 
 pub void_of_core : (i : Inquiry) (s : Slice) (notes : List Note) → (HasSet i.book s Void → ⊥) → notes ≡ Days s.first s.last ∷ Finding Void None ∷ [] → SliceNotes i s notes

@@ -1,5 +1,5 @@
 //! What a question assumes: literals that are true together just where a set meets its goal.
-ghost use Rattle.std.specs.Prelude.{◌≡◌, ℕ, ◌<◌, [], ◌∷◌, All, IfOk, IfSome, OnOk, length, not, true, false};
+ghost use Rattle.std.specs.Prelude.{◌≡◌, ℕ, List, ◌<◌, [], ◌∷◌, ◌++◌, All, IfOk, IfSome, OnOk, length, not, true, false};
 ghost use Rattle.book_model.specs.Contents.{Contents};
 ghost use Rattle.std.specs.List.{list_any};
 ghost use Rattle.clause_pool.specs.Literal.{complement};
@@ -8,7 +8,8 @@ ghost use Rattle.clause_pool.specs.Derivation.{AllFollow};
 ghost use Rattle.clausify.specs.Choices.{is_active_variant};
 ghost use Rattle.clausify.specs.Questions.{QuestionFits};
 ghost use Rattle.solver.specs.Answer.{IsCore};
-ghost use Rattle.findings.specs.Core.{AreUsages, Assumes, AssumesNone, IsUsage};
+ghost use Rattle.book_clauses.specs.BookClauses.{AreUsages, IsUsage};
+ghost use Rattle.findings.specs.Core.{Assumes, AssumesNone};
 
 use book_model::{Book, active};
 use clause_pool::{Kernel, Lit, Ref};
@@ -20,12 +21,12 @@ pub(crate) fn assume(
     assumed: &mut Vec<Lit>,
     book: &Book,
     day: Day,
-    lits: &[Option<Lit>],
+    lits: &[Lit],
     question: Question,
 ) -> Result<bool, Memory>
     requires fits { QuestionFits book.now question }
-    requires usages { AreUsages book.now day lits.now }
-    ensures { IfOk result (λ known. known ≡ true → Assumes book.now day question assumed.new.items) }
+    ensures { (cs : List (List ℕ)) (vars : ℕ) → length book.now.codes < vars → AreUsages book.now cs vars lits.now
+        → IfOk result (λ known. known ≡ true → Assumes book.now cs vars day question assumed.new.items) }
 {
     match question {
         Question::Void => Ok(false),
@@ -67,20 +68,22 @@ fn assume_two(assumed: &mut Vec<Lit>, first: Lit, second: Lit) -> Result<(), Mem
 }
 
 /// The literal of a variant's formula, if it is known.
-pub(crate) fn usage_of(lits: &[Option<Lit>], variant: u32) -> Option<Lit>
-    ensures { (b : Contents) (day : ℕ) → AreUsages b day lits.now → IfSome result (IsUsage b day variant) }
+pub(crate) fn usage_of(lits: &[Lit], variant: u32) -> Option<Lit>
+    ensures { (b : Contents) (cs : List (List ℕ)) (vars : ℕ) → AreUsages b cs vars lits.now
+        → IfSome result (IsUsage b cs vars variant) }
 {
     let place = variant as usize;
     if place >= lits.len() {
         return None;
     }
-    lits[place]
+    Some(lits[place])
 }
 
 // The formula of a variant is true.
-fn assume_usage(assumed: &mut Vec<Lit>, lits: &[Option<Lit>], variant: u32) -> Result<bool, Memory>
-    ensures { (b : Contents) (day : ℕ) → AreUsages b day lits.now → IfOk result (λ known. known ≡ true
-        → Assumes b day (Question.Superfluous variant) assumed.new.items) }
+fn assume_usage(assumed: &mut Vec<Lit>, lits: &[Lit], variant: u32) -> Result<bool, Memory>
+    ensures { (b : Contents) (cs : List (List ℕ)) (vars day : ℕ) → AreUsages b cs vars lits.now
+        → IfOk result (λ known. known ≡ true
+        → Assumes b cs vars day (Question.Superfluous variant) assumed.new.items) }
 {
     let Some(lit) = usage_of(lits, variant) else {
         return Ok(false);
@@ -92,12 +95,13 @@ fn assume_usage(assumed: &mut Vec<Lit>, lits: &[Option<Lit>], variant: u32) -> R
 // Those of two variants are.
 fn assume_both(
     assumed: &mut Vec<Lit>,
-    lits: &[Option<Lit>],
+    lits: &[Lit],
     first: u32,
     second: u32,
 ) -> Result<bool, Memory>
-    ensures { (b : Contents) (day position : ℕ) → AreUsages b day lits.now → IfOk result (λ known. known ≡ true
-        → Assumes b day (Question.Ambiguous position first second) assumed.new.items) }
+    ensures { (b : Contents) (cs : List (List ℕ)) (vars day position : ℕ) → AreUsages b cs vars lits.now
+        → IfOk result (λ known. known ≡ true
+        → Assumes b cs vars day (Question.Ambiguous position first second) assumed.new.items) }
 {
     let Some(one) = usage_of(lits, first) else {
         return Ok(false);
@@ -114,13 +118,13 @@ fn assume_none(
     assumed: &mut Vec<Lit>,
     book: &Book,
     day: Day,
-    lits: &[Option<Lit>],
+    lits: &[Lit],
     position: u32,
 ) -> Result<bool, Memory>
     requires fits { position < length book.now.positions }
-    requires usages { AreUsages book.now day lits.now }
-    ensures { IfOk result (λ known. known ≡ true
-        → Assumes book.now day (Question.Uncovered position) assumed.new.items) }
+    ensures { (cs : List (List ℕ)) (vars : ℕ) → AreUsages book.now cs vars lits.now
+        → IfOk result (λ known. known ≡ true
+        → Assumes book.now cs vars day (Question.Uncovered position) assumed.new.items) }
 {
     assumed.clear();
     let known = assume_unused(assumed, book, day, lits, book.variants_of(position))?;
@@ -132,14 +136,14 @@ fn assume_unused(
     assumed: &mut Vec<Lit>,
     book: &Book,
     day: Day,
-    lits: &[Option<Lit>],
+    lits: &[Lit],
     variants: &[u32],
 ) -> Result<bool, Memory>
     requires fits { All (λ v. v < length book.now.variants) variants.now }
-    requires usages { AreUsages book.now day lits.now }
     requires none { assumed.old.items ≡ [] }
-    ensures { IfOk result (λ known. known ≡ true
-        → AssumesNone book.now day variants.now assumed.new.items) }
+    ensures { (cs : List (List ℕ)) (vars : ℕ) → AreUsages book.now cs vars lits.now
+        → IfOk result (λ known. known ≡ true
+        → AssumesNone book.now cs vars day variants.now assumed.new.items) }
 {
     for variant in variants {
         if !is_active(book, day, *variant) {
@@ -169,30 +173,37 @@ pub(crate) fn are_consistent(assumed: &[Lit]) -> bool
     !assumed.iter().any(|lit| has_complement(assumed, *lit))
 }
 
-/// Whether the clause of a kernel at this place has no literal but complements of what is assumed.
-pub(crate) fn is_core(kernel: &Kernel, assumed: &[Lit], at: Ref) -> bool
+/// Whether the clause of a kernel at this place has no literal but complements of what is assumed, which are these and those.
+pub(crate) fn is_core(kernel: &Kernel, these: &[Lit], those: &[Lit], at: Ref) -> bool
     ensures follow { AllFollow kernel.now }
-    ensures core { result ≡ true → IsCore kernel.now assumed.now at }
+    ensures core { result ≡ true → IsCore kernel.now (these.now ++ those.now) at }
 {
     let pool = kernel.pool();
     if at >= pool.len() {
         return false;
     }
-    are_complements(pool.lits(at), assumed)
+    are_complements(pool.lits(at), these, those)
 }
 
 // Whether each of a clause's literals is the complement of one that is assumed.
-fn are_complements(clause: &[Lit], assumed: &[Lit]) -> bool
-    ensures { result ≡ not (list_any (λ l. not (has assumed.now (complement l))) clause.now) }
+fn are_complements(clause: &[Lit], these: &[Lit], those: &[Lit]) -> bool
+    ensures { result ≡ not (list_any (λ l. not (has (these.now ++ those.now) (complement l))) clause.now) }
 {
-    !clause.iter().any(|lit| lacks_complement(assumed, *lit))
+    !clause
+        .iter()
+        .any(|lit| lacks_complement(these, those, *lit))
 }
 
 // Whether the complement of a literal isn't assumed.
-fn lacks_complement(assumed: &[Lit], lit: Lit) -> bool
-    ensures { result ≡ not (has assumed.now (complement lit)) }
+fn lacks_complement(these: &[Lit], those: &[Lit], lit: Lit) -> bool
+    ensures { result ≡ not (has (these.now ++ those.now) (complement lit)) }
 {
-    !has_complement(assumed, lit)
+    let in_these = has_complement(these, lit);
+    if in_these {
+        return false;
+    }
+    let in_those = has_complement(those, lit);
+    !in_those
 }
 
 // Whether it is.

@@ -1,10 +1,11 @@
-//! The pairs of variants, asked over the core of a slice before the other questions of the positions. A refutation then rests on
-//! no answer of those, so it stands in a later slice too where only they change. No answer hangs on it.
+//! The pairs of variants, asked over the clauses of a book before the other questions of the positions. A refutation then rests on no
+//! answer of those. No answer hangs on it.
 ghost use Rattle.solver.specs.Solver.{Onwards};
 
-use crate::assuming::usage_of;
-use crate::core_known::CoreKnown;
-use clause_pool::{Kernel, Lit, Ref};
+use crate::assuming::{is_core, usage_of};
+use crate::book_known::BookKnown;
+use crate::core_report::Asking;
+use clause_pool::{Kernel, Lit};
 use clausify::Question;
 use pb_base::Memory;
 use slice_hints::Sets;
@@ -24,16 +25,15 @@ pub(crate) struct Pair {
     other: Lit,
 }
 
-// What is propagated to refute a pair.
+// Which of the two is propagated to refute a pair.
 #[derive(Clone, Copy)]
 enum Way {
     First,
     Second,
-    Both,
 }
 
 /// The pair that the question at a place is for, where both literals are known.
-pub(crate) fn pair_at(questions: &[Question], lits: &[Option<Lit>], place: usize) -> Option<Pair> {
+pub(crate) fn pair_at(questions: &[Question], usages: &[Lit], place: usize) -> Option<Pair> {
     match questions.get(place) {
         Some(
             Question::Ambiguous {
@@ -46,36 +46,17 @@ pub(crate) fn pair_at(questions: &[Question], lits: &[Option<Lit>], place: usize
             position: *position,
             first: *first,
             second: *second,
-            one: usage_of(lits, *first)?,
-            other: usage_of(lits, *second)?,
+            one: usage_of(usages, *first)?,
+            other: usage_of(usages, *second)?,
         }),
         _ => None,
     }
 }
 
-/// Refutes the pair at a place of the questions without a search, if it can, and those of its position before the first of them.
-#[tactic(auto, using(solver::proofs::PoolLaws::onwards_same, solver::proofs::PoolLaws::onwards_twice))]
-pub(crate) fn refute_pairs(
-    alloc: Global,
-    questions: &[Question],
-    lits: &[Option<Lit>],
-    solver: &mut Solver,
-    sets: &Sets,
-    known: &mut CoreKnown<'_>,
-    pair: &Pair,
-) -> Result<(), Memory>
-    ensures { Onwards solver.old solver.new }
-{
-    if is_first(questions, lits, pair) {
-        refute_alone(alloc, questions, lits, solver, sets, known, pair)?;
-    }
-    refute_pair(solver, sets, known, pair, Way::Both)
-}
-
-// Whether a pair is the first of its position.
-fn is_first(questions: &[Question], lits: &[Option<Lit>], pair: &Pair) -> bool {
+/// Whether a pair is the first of its position.
+pub(crate) fn is_first(questions: &[Question], usages: &[Lit], pair: &Pair) -> bool {
     match pair.place.checked_sub(1) {
-        Some(before) => match pair_at(questions, lits, before) {
+        Some(before) => match pair_at(questions, usages, before) {
             Some(other) => other.position != pair.position,
             None => true,
         },
@@ -83,38 +64,81 @@ fn is_first(questions: &[Question], lits: &[Option<Lit>], pair: &Pair) -> bool {
     }
 }
 
-// Refutes what the propagation of a variant's formula can of the pairs of a position, of which this is the first: first of the
-// first ones, then of the second ones.
+/// Refutes what the propagation of one formula can of the pairs of a position, of which this is the first, and gives the places of
+/// those that were open before.
 #[tactic(auto, using(solver::proofs::PoolLaws::onwards_twice))]
-fn refute_alone(
+pub(crate) fn refute_alone(
     alloc: Global,
     questions: &[Question],
-    lits: &[Option<Lit>],
+    asking: Asking<'_>,
     solver: &mut Solver,
     sets: &Sets,
-    known: &mut CoreKnown<'_>,
+    known: &mut BookKnown<'_>,
     pair: &Pair,
+) -> Result<Vec<usize>, Memory>
+    ensures { Onwards solver.old solver.new }
+{
+    let pairs = open_from(alloc, questions, asking, solver.kernel(), sets, known, pair)?;
+    let sorted = by_second(alloc, &pairs)?;
+    refute_in_turn(asking, solver, sets, known, &pairs, &sorted)?;
+    places_of(alloc, &pairs)
+}
+
+// Does so first in the way in which fewer formulas are propagated.
+#[tactic(auto, using(solver::proofs::PoolLaws::onwards_twice))]
+fn refute_in_turn(
+    asking: Asking<'_>,
+    solver: &mut Solver,
+    sets: &Sets,
+    known: &mut BookKnown<'_>,
+    pairs: &[Pair],
+    sorted: &[Pair],
 ) -> Result<(), Memory>
     ensures { Onwards solver.old solver.new }
 {
-    let pairs = pairs_from(alloc, questions, lits, pair)?;
-    enter_known(solver, known, &pairs);
-    refute_each(solver, sets, known, &pairs, Way::First)?;
-    let sorted = by_second(alloc, &pairs)?;
-    refute_each(solver, sets, known, &sorted, Way::Second)
+    if runs(pairs, Way::First) <= runs(sorted, Way::Second) {
+        refute_each(asking, solver, sets, known, pairs, Way::First)?;
+        return refute_each(asking, solver, sets, known, sorted, Way::Second);
+    }
+    refute_each(asking, solver, sets, known, sorted, Way::Second)?;
+    refute_each(asking, solver, sets, known, pairs, Way::First)
 }
 
-// The pairs of a position, of which this is the first.
-fn pairs_from(
+// How many formulas are propagated for these pairs.
+fn runs(pairs: &[Pair], way: Way) -> usize {
+    let mut count: usize = 0;
+    let mut last = None;
+    for pair in pairs {
+        let variant = match way {
+            Way::First => pair.first,
+            Way::Second => pair.second,
+        };
+        if last != Some(variant) {
+            count = count.wrapping_add(1);
+        }
+        last = Some(variant);
+    }
+    count
+}
+
+// The open pairs of a position, of which this is the first.
+fn open_from(
     alloc: Global,
     questions: &[Question],
-    lits: &[Option<Lit>],
+    asking: Asking<'_>,
+    kernel: &Kernel,
+    sets: &Sets,
+    known: &BookKnown<'_>,
     pair: &Pair,
 ) -> Result<Vec<Pair>, Memory> {
     let mut pairs = Vec::new(alloc);
     for place in pair.place..questions.len() {
-        match pair_at(questions, lits, place) {
-            Some(other) if other.position == pair.position => pairs.push(other)?,
+        match pair_at(questions, asking.usages, place) {
+            Some(other) if other.position == pair.position => {
+                if !is_settled(asking, kernel, sets, known, &other) {
+                    pairs.push(other)?;
+                }
+            }
             _ => return Ok(pairs),
         }
     }
@@ -137,77 +161,111 @@ fn by_second(alloc: Global, pairs: &[Pair]) -> Result<Vec<Pair>, Memory> {
     Ok(sorted)
 }
 
-// Enters the clauses that the kernel began with.
-fn enter_known(solver: &Solver, known: &mut CoreKnown<'_>, pairs: &[Pair]) {
+fn places_of(alloc: Global, pairs: &[Pair]) -> Result<Vec<usize>, Memory> {
+    let mut places = Vec::new(alloc);
     for pair in pairs {
-        if let Some(at) = known.cores.of_both(pair.one, pair.other) {
-            known.put(solver.kernel(), pair.place, at);
-        }
+        places.push(pair.place)?;
     }
+    Ok(places)
 }
 
 // Refutes what can be of these pairs in this way.
 #[tactic(auto, using(solver::proofs::PoolLaws::onwards_same))]
 fn refute_each(
+    asking: Asking<'_>,
     solver: &mut Solver,
     sets: &Sets,
-    known: &mut CoreKnown<'_>,
+    known: &mut BookKnown<'_>,
     pairs: &[Pair],
     way: Way,
 ) -> Result<(), Memory>
     ensures { Onwards solver.old solver.new }
 {
     for pair in pairs {
-        refute_pair(solver, sets, known, pair, way)?;
+        refute_one(asking, solver, sets, known, pair, way)?;
     }
     Ok(())
 }
 
-// Refutes a pair by the propagation of its variants' formulas, if it can.
+// Refutes a pair by the propagation of one of its variants' formulas, if it can.
 #[tactic(auto, using(solver::proofs::PoolLaws::onwards_same))]
-fn refute_pair(
+fn refute_one(
+    asking: Asking<'_>,
     solver: &mut Solver,
     sets: &Sets,
-    known: &mut CoreKnown<'_>,
+    known: &mut BookKnown<'_>,
     pair: &Pair,
     way: Way,
 ) -> Result<(), Memory>
     ensures { Onwards solver.old solver.new }
 {
-    if is_settled(solver.kernel(), sets, known, pair) {
+    if is_settled(asking, solver.kernel(), sets, known, pair) {
         return Ok(());
     }
     let first = pair.one;
     let second = pair.other;
-    let place = pair.place;
     let found = match way {
-        Way::First => known.known.refuting.against(solver, first, second)?,
-        Way::Second => known.known.refuting.against(solver, second, first)?,
-        Way::Both => known.known.refuting.against_both(solver, first, second)?,
+        Way::First => known.refuting.against(solver, asking.on, first, second)?,
+        Way::Second => known.refuting.against(solver, asking.on, second, first)?,
     };
     if let Some(at) = found {
-        known.put(solver.kernel(), place, at);
+        known.cores.put_pair(
+            solver.kernel(),
+            pair.first,
+            pair.second,
+            &[first, second],
+            at,
+        );
     }
     Ok(())
 }
 
-// Whether a pair needs no refutation: one is known, or a set seems to have both variants.
-fn is_settled(kernel: &Kernel, sets: &Sets, known: &mut CoreKnown<'_>, pair: &Pair) -> bool {
-    let place = pair.place;
-    if known.cores.at(place).is_some() {
-        return true;
+/// Refutes a pair by the propagation of both formulas, if it can. Whether it needs none, or is refuted now.
+#[tactic(auto, using(solver::proofs::PoolLaws::onwards_same))]
+pub(crate) fn refute_both(
+    asking: Asking<'_>,
+    solver: &mut Solver,
+    sets: &Sets,
+    known: &mut BookKnown<'_>,
+    pair: &Pair,
+) -> Result<bool, Memory>
+    ensures { Onwards solver.old solver.new }
+{
+    if is_settled(asking, solver.kernel(), sets, known, pair) {
+        return Ok(true);
     }
-    if let Some(at) = unit_for(kernel, known, pair) {
-        known.cores.put(place, at);
-        return true;
-    }
-    sets.using(pair.first) & sets.using(pair.second) != 0
+    let first = pair.one;
+    let second = pair.other;
+    let found = known
+        .refuting
+        .against_both(solver, asking.on, first, second)?;
+    let Some(at) = found else {
+        return Ok(false);
+    };
+    known.cores.put_pair(
+        solver.kernel(),
+        pair.first,
+        pair.second,
+        &[first, second],
+        at,
+    );
+    Ok(true)
 }
 
-// The clause that refutes one of a pair's formulas, if one is known.
-fn unit_for(kernel: &Kernel, known: &CoreKnown<'_>, pair: &Pair) -> Option<Ref> {
-    match known.known.units.refuting(kernel, pair.one) {
-        Some(at) => Some(at),
-        None => known.known.units.refuting(kernel, pair.other),
+// Whether a pair needs no refutation: a set seems to have both variants, or one is known.
+fn is_settled(
+    asking: Asking<'_>,
+    kernel: &Kernel,
+    sets: &Sets,
+    known: &BookKnown<'_>,
+    pair: &Pair,
+) -> bool {
+    if sets.using(pair.first) & sets.using(pair.second) != 0 {
+        return true;
+    }
+    let lits = [pair.one, pair.other];
+    match known.cores.of_pair(pair.first, pair.second, &lits) {
+        Some(at) => is_core(kernel, asking.on, &lits, at),
+        None => false,
     }
 }

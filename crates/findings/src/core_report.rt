@@ -1,168 +1,124 @@
-//! The report of a slice, whose questions are asked over its core. Where one is left the slice is checked over all its clauses.
-ghost use Rattle.std.specs.Prelude.{◌≡◌, ◌++◌, ◌<◌, ◌≤◌, [], All, IfOk, IfSome, OnOk, length, true};
-ghost use Rattle.book_model.specs.Slices.{IsOrdered, IsSteady};
+//! The report of a slice, whose questions are asked over the clauses of the whole book. Where one is left the slice is checked over all
+//! its own clauses.
+ghost use Rattle.std.specs.Prelude.{◌≡◌, ◌++◌, All, IfOk, IfSome, OnOk, true};
+ghost use Rattle.chains.specs.Growth.{given_of};
 ghost use Rattle.clausify.specs.Questions.{HasSet, QuestionFits};
-ghost use Rattle.derivation.specs.Limits.{asked_of};
-ghost use Rattle.pb_base.specs.declared.limits.TheConstants.{MOST_QUESTIONS, MOST_BUDGET};
-ghost use Rattle.slice_hints.specs.Found.{IsFound, KnowsUsages};
+ghost use Rattle.slice_hints.specs.Found.{IsFound};
 ghost use Rattle.solver.specs.Answer.{IsCore};
 ghost use Rattle.findings.specs.Notes.{SliceNotes};
-ghost use Rattle.findings.specs.Findings.{MeetsThrough};
 ghost use Rattle.findings.specs.Answering.{inquiry};
-ghost use Rattle.findings.specs.Core.{AreToldOf, AreUsages, Assumes, IsCoreTask, IsOverCore, OwnOf, later_questions, outcome_of_none};
+ghost use Rattle.findings.specs.Core.{AreToldOf, Asks, IsAsking, IsKnown, IsOverBook, OwnOf, later_questions, outcome_of_none};
 ghost use Rattle.findings.specs.Outcomes.{notes_of};
 
 use crate::answer::keep;
 use crate::assuming::{are_consistent, assume, is_core};
-use crate::core_known::CoreKnown;
-use crate::core_pairs::{pair_at, refute_pairs};
-use crate::earlier::Earlier;
-use crate::laws::book_laws;
+use crate::book_known::BookKnown;
+use crate::core_pairs::{is_first, pair_at, refute_alone, refute_both};
 use crate::outcome::{Outcome, from_set};
 use crate::questions::later_questions;
 use crate::report::Note;
-use crate::slice::{SliceCheck, begin, check_slice, first_sets, void_note, with_days};
-use crate::slice_core::{Core, CoreUsages, core_of};
+use crate::slice::{void_note, with_days};
 use crate::task::{SliceTask, is_asked, with_few};
-use book_model::Book;
+use book_model::{Book, Slice};
 use clause_pool::{Lit, Ref};
-use clausify::{Layout, Question};
-use pb_base::{CodeSet, Memory};
-use slice_hints::Sets;
+use clausify::Question;
+use pb_base::Memory;
+use slice_hints::{Sets, found_with};
 use solver::{Answer, Solver};
 use std::alloc::Global;
 
-/// The notes of a slice. Sets of the slice before may answer its questions; those of this one take their places.
-pub(crate) fn report_slice(
-    alloc: Global,
-    book: &Book,
-    task: SliceTask,
-    earlier: &mut Earlier,
-) -> Result<Vec<Note>, Memory>
-    requires steady { IsSteady book.now task.slice }
-    requires order { IsOrdered task.slice }
-    requires few { asked_of book.now task.slice ≤ MOST_QUESTIONS }
-    requires some { 0 < task.effort.budget }
-    requires budget { task.effort.budget ≤ MOST_BUDGET }
-    requires earlier { All (KnowsUsages book.now) earlier.old.sets.items }
-    ensures earlier { OnOk result (All (KnowsUsages book.now) earlier.new.sets.items) }
-    ensures notes { IfOk result (λ notes. SliceNotes (inquiry book.now task.effort) task.slice notes.items) }
-{
-    book_laws(book);
-    let told = report_core(alloc, book, task, earlier)?;
-    match told {
-        Some(notes) => Ok(notes),
-        None => {
-            let checked = check_slice(alloc, book, task, earlier)?;
-            let SliceCheck { notes, proof: _ } = checked;
-            Ok(notes)
-        }
-    }
+/// A slice that is asked over the clauses of its book.
+#[derive(Clone, Copy)]
+pub(crate) struct Asking<'a> {
+    pub(crate) task: SliceTask,
+    /// The periods of the book's rules.
+    pub(crate) periods: &'a [Slice],
+    /// What says which of them the slice is in. Every question assumes it.
+    pub(crate) on: &'a [Lit],
+    /// By the place of a variant, the literal of its formula.
+    pub(crate) usages: &'a [Lit],
 }
 
-// The notes of a slice, unless a question is left.
-fn report_core(
+/// The notes of a slice, unless a question is left. These sets are good on its first day.
+pub(crate) fn report_core(
     alloc: Global,
     book: &Book,
-    task: SliceTask,
-    earlier: &mut Earlier,
-) -> Result<Option<Vec<Note>>, Memory>
-    requires task { IsCoreTask book.now task }
-    requires earlier { All (KnowsUsages book.now) earlier.old.sets.items }
-    ensures earlier { OnOk result (All (KnowsUsages book.now) earlier.new.sets.items) }
-    ensures notes { IfOk result (λ told. IfSome told
-        (λ notes. SliceNotes (inquiry book.now task.effort) task.slice notes.items)) }
-{
-    let core = core_of(alloc, book, &task.slice)?;
-    let Core {
-        pool,
-        vars,
-        layout,
-        usages,
-    } = core;
-    earlier.chains.go_on(layout);
-    let mut solver = begin(alloc, book, &task.slice, pool, vars, earlier)?;
-    let told = tell_core(alloc, book, task, &usages, &mut solver, earlier)?;
-    if told.is_some() {
-        let kernel = solver.into_kernel();
-        earlier.chains.follow(book, &task.slice, &kernel)?;
-    }
-    Ok(told)
-}
-
-// Asks the questions of a slice: first Void, and then those behind it.
-fn tell_core(
-    alloc: Global,
-    book: &Book,
-    task: SliceTask,
-    usages: &CoreUsages,
+    asking: Asking<'_>,
     solver: &mut Solver,
-    earlier: &mut Earlier,
+    sets: &mut Sets,
+    known: &mut BookKnown<'_>,
 ) -> Result<Option<Vec<Note>>, Memory>
-    requires task { IsCoreTask book.now task }
-    requires usages { AreUsages book.now task.slice.first usages.now.lits.items }
-    requires over { IsOverCore book.now task.slice solver.old }
-    requires earlier { All (KnowsUsages book.now) earlier.old.sets.items }
-    ensures earlier { OnOk result (All (KnowsUsages book.now) earlier.new.sets.items) }
+    requires asking { IsAsking book.now asking }
+    requires known { IsKnown book.now asking sets.old solver.old }
+    ensures known { OnOk result (IsKnown book.now asking.entry sets.new solver.new) }
     ensures notes { IfOk result (λ told. IfSome told
-        (λ notes. SliceNotes (inquiry book.now task.effort) task.slice notes.items)) }
+        (λ notes. SliceNotes (inquiry book.now asking.entry.task.effort) asking.entry.task.slice notes.items)) }
 {
-    let searched = solver.solve(&[], task.effort.budget)?;
+    if is_not_void(book, asking, sets) {
+        return tell_behind(alloc, book, asking, solver, sets, known);
+    }
+    let searched = solver.solve(asking.on, asking.task.effort.budget)?;
     match searched {
-        Answer::Set(set) => tell_behind(alloc, book, task, usages, solver, set, earlier),
+        Answer::Set(set) => {
+            sets.put(found_with(alloc, book, set)?)?;
+            tell_behind(alloc, book, asking, solver, sets, known)
+        }
         Answer::Closed(at) => {
-            let notes = void_closed(alloc, book, task, solver, at)?;
+            let notes = void_closed(alloc, book, asking, solver, at)?;
             Ok(Some(notes))
         }
         Answer::Spent(_) => Ok(None),
     }
 }
 
-// What is told of a slice without a good set: a clause of the kernel has no literal.
+// Whether one of these sets is good in the slice.
+fn is_not_void(book: &Book, asking: Asking<'_>, sets: &Sets) -> bool
+    requires asking { IsAsking book.now asking }
+    requires found { All (IsFound book.now asking.task.slice.first) sets.now }
+    ensures { result ≡ true → HasSet book.now asking.entry.task.slice Question.Void }
+{
+    !sets.is_empty()
+}
+
+// What is told of a slice without a good set: a clause of the kernel has no literal but complements of what is assumed of it.
 fn void_closed(
     alloc: Global,
     book: &Book,
-    task: SliceTask,
+    asking: Asking<'_>,
     solver: &Solver,
     at: Ref,
 ) -> Result<Vec<Note>, Memory>
-    requires task { IsCoreTask book.now task }
-    requires over { IsOverCore book.now task.slice solver.now }
-    requires core { IsCore solver.now.kernel [] at }
-    ensures { IfOk result (λ notes. SliceNotes (inquiry book.now task.effort) task.slice notes.items) }
+    requires asking { IsAsking book.now asking }
+    requires over { IsOverBook book.now asking.periods.now solver.now }
+    requires core { IsCore solver.now.kernel asking.on.now at }
+    ensures { IfOk result (λ notes.
+        SliceNotes (inquiry book.now asking.entry.task.effort) asking.entry.task.slice notes.items) }
 {
     solver.kernel().pool();
-    let notes = void_note(alloc, &task.slice)?;
+    let notes = void_note(alloc, &asking.task.slice)?;
     Ok(notes)
 }
 
-// Asks the questions behind Void, which this set answers.
+// Asks the questions behind Void, which a set answers.
 fn tell_behind(
     alloc: Global,
     book: &Book,
-    task: SliceTask,
-    usages: &CoreUsages,
+    asking: Asking<'_>,
     solver: &mut Solver,
-    set: CodeSet,
-    earlier: &mut Earlier,
+    sets: &mut Sets,
+    known: &mut BookKnown<'_>,
 ) -> Result<Option<Vec<Note>>, Memory>
-    requires task { IsCoreTask book.now task }
-    requires usages { AreUsages book.now task.slice.first usages.now.lits.items }
-    requires over { IsOverCore book.now task.slice solver.old }
-    requires counted { length set ≡ length book.now.codes }
-    requires void { MeetsThrough book.now task.slice Question.Void set }
-    requires earlier { All (KnowsUsages book.now) earlier.old.sets.items }
-    ensures earlier { OnOk result (All (KnowsUsages book.now) earlier.new.sets.items) }
+    requires asking { IsAsking book.now asking }
+    requires known { IsKnown book.now asking sets.old solver.old }
+    requires some { HasSet book.now asking.task.slice Question.Void }
+    ensures known { OnOk result (IsKnown book.now asking.entry sets.new solver.new) }
     ensures notes { IfOk result (λ told. IfSome told
-        (λ notes. SliceNotes (inquiry book.now task.effort) task.slice notes.items)) }
+        (λ notes. SliceNotes (inquiry book.now asking.entry.task.effort) asking.entry.task.slice notes.items)) }
 {
-    let mut sets = first_sets(alloc, book, &task.slice, &set, &mut earlier.sets)?;
-    let layout = earlier.chains.layout();
-    let told = ask_behind(alloc, book, task, usages, layout, solver, &mut sets)?;
-    sets.hand_on(&mut earlier.sets)?;
+    let told = ask_behind(alloc, book, asking, solver, sets, known)?;
     match told {
         Some(mut own) => {
-            let notes = with_days(alloc, &task.slice, &mut own)?;
+            let notes = with_days(alloc, &asking.task.slice, &mut own)?;
             Ok(Some(notes))
         }
         None => Ok(None),
@@ -173,71 +129,94 @@ fn tell_behind(
 fn ask_behind(
     alloc: Global,
     book: &Book,
-    task: SliceTask,
-    usages: &CoreUsages,
-    layout: &Layout,
+    asking: Asking<'_>,
     solver: &mut Solver,
     sets: &mut Sets,
+    known: &mut BookKnown<'_>,
 ) -> Result<Option<Vec<Note>>, Memory>
-    requires task { IsCoreTask book.now task }
-    requires usages { AreUsages book.now task.slice.first usages.now.lits.items }
-    requires over { IsOverCore book.now task.slice solver.old }
-    requires sets { All (IsFound book.now task.slice.first) sets.old }
-    ensures sets { All (IsFound book.now task.slice.first) sets.new }
-    ensures told { IfOk result (λ told. IfSome told (λ notes. AreToldOf (inquiry book.now task.effort) task.slice
-        (later_questions book.now task.slice.first) notes.items)) }
+    requires asking { IsAsking book.now asking }
+    requires known { IsKnown book.now asking sets.old solver.old }
+    ensures known { OnOk result (IsKnown book.now asking.entry sets.new solver.new) }
+    ensures told { IfOk result (λ told. IfSome told (λ notes.
+        AreToldOf (inquiry book.now asking.entry.task.effort) asking.entry.task.slice
+        (later_questions book.now asking.entry.task.slice.first) notes.items)) }
 {
-    let questions = later_questions(alloc, book, task.slice.first)?;
-    let count = questions.len();
-    let mut known = CoreKnown::of(alloc, book, &usages.list, count, layout, solver)?;
-    let lits = &usages.lits;
-    answer_pairs(
-        alloc, book, task, &questions, lits, solver, sets, &mut known,
-    )?;
-    ask_each(
-        alloc, book, task, &questions, lits, solver, sets, &mut known,
-    )
+    let questions = later_questions(alloc, book, asking.task.slice.first)?;
+    answer_pairs(alloc, book, asking, &questions, solver, sets, known)?;
+    ask_each(alloc, book, asking, &questions, solver, sets, known)
 }
 
-// Looks for what answers the questions for pairs.
+// Looks for what answers the questions for pairs, position by position.
 fn answer_pairs(
     alloc: Global,
     book: &Book,
-    task: SliceTask,
+    asking: Asking<'_>,
     questions: &[Question],
-    lits: &[Option<Lit>],
     solver: &mut Solver,
     sets: &mut Sets,
-    known: &mut CoreKnown<'_>,
+    known: &mut BookKnown<'_>,
 ) -> Result<(), Memory>
-    requires task { IsCoreTask book.now task }
+    requires asking { IsAsking book.now asking }
     requires fits { All (QuestionFits book.now) questions.now }
-    requires usages { AreUsages book.now task.slice.first lits.now }
-    requires over { IsOverCore book.now task.slice solver.old }
-    requires sets { All (IsFound book.now task.slice.first) sets.old }
-    ensures over { IsOverCore book.now task.slice solver.new }
-    ensures sets { All (IsFound book.now task.slice.first) sets.new }
+    requires known { IsKnown book.now asking sets.old solver.old }
+    ensures known { OnOk result (IsKnown book.now asking.entry sets.new solver.new) }
 {
-    let few = SliceTask {
-        slice: task.slice,
-        effort: with_few(task.effort),
+    for place in 0..questions.len() {
+        answer_from(alloc, book, asking, questions, place, solver, sets, known)?;
+    }
+    Ok(())
+}
+
+// Looks for what answers the questions for the pairs of a position, if the first of them is at this place.
+fn answer_from(
+    alloc: Global,
+    book: &Book,
+    asking: Asking<'_>,
+    questions: &[Question],
+    place: usize,
+    solver: &mut Solver,
+    sets: &mut Sets,
+    known: &mut BookKnown<'_>,
+) -> Result<(), Memory>
+    requires asking { IsAsking book.now asking }
+    requires fits { All (QuestionFits book.now) questions.now }
+    requires known { IsKnown book.now asking sets.old solver.old }
+    ensures known { OnOk result (IsKnown book.now asking.entry sets.new solver.new) }
+{
+    let Some(pair) = pair_at(questions, asking.usages, place) else {
+        return Ok(());
     };
+    if !is_first(questions, asking.usages, &pair) {
+        return Ok(());
+    }
+    let open = refute_alone(alloc, questions, asking, solver, sets, known, &pair)?;
+    answer_open(alloc, book, asking, questions, &open, solver, sets, known)
+}
+
+// Looks for what answers the questions at these places.
+fn answer_open(
+    alloc: Global,
+    book: &Book,
+    asking: Asking<'_>,
+    questions: &[Question],
+    places: &[usize],
+    solver: &mut Solver,
+    sets: &mut Sets,
+    known: &mut BookKnown<'_>,
+) -> Result<(), Memory>
+    requires asking { IsAsking book.now asking }
+    requires fits { All (QuestionFits book.now) questions.now }
+    requires known { IsKnown book.now asking sets.old solver.old }
+    ensures known { OnOk result (IsKnown book.now asking.entry sets.new solver.new) }
+{
     let mut assumed = Vec::new(alloc);
-    for (place, question) in questions.iter().enumerate() {
-        let Some(pair) = pair_at(questions, lits, place) else {
-            continue;
-        };
-        refute_pairs(alloc, questions, lits, solver, sets, known, &pair)?;
-        if known.cores.at(place).is_some() {
-            continue;
-        }
-        let _ = answer(
+    for place in places {
+        answer_at(
             alloc,
             book,
-            few,
-            place,
-            *question,
-            lits,
+            asking,
+            questions,
+            *place,
             &mut assumed,
             solver,
             sets,
@@ -247,40 +226,94 @@ fn answer_pairs(
     Ok(())
 }
 
+// Looks for what answers the question for a pair, which is at this place.
+#[tactic(auto, using(crate::proofs::CoreLaws::known_onwards))]
+fn answer_at(
+    alloc: Global,
+    book: &Book,
+    asking: Asking<'_>,
+    questions: &[Question],
+    place: usize,
+    assumed: &mut Vec<Lit>,
+    solver: &mut Solver,
+    sets: &mut Sets,
+    known: &mut BookKnown<'_>,
+) -> Result<(), Memory>
+    requires asking { IsAsking book.now asking }
+    requires fits { All (QuestionFits book.now) questions.now }
+    requires known { IsKnown book.now asking sets.old solver.old }
+    ensures known { OnOk result (IsKnown book.now asking.entry sets.new solver.new) }
+{
+    let Some(pair) = pair_at(questions, asking.usages, place) else {
+        return Ok(());
+    };
+    if refute_both(asking, solver, sets, known, &pair)? {
+        return Ok(());
+    }
+    let Some(question) = questions.get(place) else {
+        return Ok(());
+    };
+    answer_soon(alloc, book, asking, *question, assumed, solver, sets, known)
+}
+
+// Looks for what answers a question before its turn, with few clauses learnt.
+fn answer_soon(
+    alloc: Global,
+    book: &Book,
+    asking: Asking<'_>,
+    question: Question,
+    assumed: &mut Vec<Lit>,
+    solver: &mut Solver,
+    sets: &mut Sets,
+    known: &mut BookKnown<'_>,
+) -> Result<(), Memory>
+    requires asking { IsAsking book.now asking }
+    requires fits { QuestionFits book.now question }
+    requires known { IsKnown book.now asking sets.old solver.old }
+    ensures known { OnOk result (IsKnown book.now asking.entry sets.new solver.new) }
+{
+    let few = Asking {
+        task: SliceTask {
+            slice: asking.task.slice,
+            effort: with_few(asking.task.effort),
+        },
+        periods: asking.periods,
+        on: asking.on,
+        usages: asking.usages,
+    };
+    let answered = answer(alloc, book, few, question, assumed, solver, sets, known)?;
+    drop(answered);
+    Ok(())
+}
+
 // Asks each question in its turn. None where one is left.
 fn ask_each(
     alloc: Global,
     book: &Book,
-    task: SliceTask,
+    asking: Asking<'_>,
     questions: &[Question],
-    lits: &[Option<Lit>],
     solver: &mut Solver,
     sets: &mut Sets,
-    known: &mut CoreKnown<'_>,
+    known: &mut BookKnown<'_>,
 ) -> Result<Option<Vec<Note>>, Memory>
-    requires task { IsCoreTask book.now task }
+    requires asking { IsAsking book.now asking }
     requires fits { All (QuestionFits book.now) questions.now }
-    requires usages { AreUsages book.now task.slice.first lits.now }
-    requires over { IsOverCore book.now task.slice solver.old }
-    requires sets { All (IsFound book.now task.slice.first) sets.old }
-    ensures over { IsOverCore book.now task.slice solver.new }
-    ensures sets { All (IsFound book.now task.slice.first) sets.new }
+    requires known { IsKnown book.now asking sets.old solver.old }
+    ensures known { OnOk result (IsKnown book.now asking.entry sets.new solver.new) }
     ensures told { IfOk result (λ told. IfSome told (λ notes.
-        AreToldOf (inquiry book.now task.effort) task.slice questions.now notes.items)) }
+        AreToldOf (inquiry book.now asking.entry.task.effort) asking.entry.task.slice questions.now notes.items)) }
 {
     let mut notes = Vec::new(alloc);
     let mut assumed = Vec::new(alloc);
-    for (place, question) in questions.iter().enumerate() {
-        if !is_asked(task.effort.ask, *question) {
+    for question in questions {
+        if !is_asked(asking.task.effort.ask, *question) {
             continue;
         }
         let answered = answer(
             alloc,
             book,
-            task,
-            place,
+            asking,
             *question,
-            lits,
             &mut assumed,
             solver,
             sets,
@@ -306,106 +339,117 @@ fn put(notes: &mut Vec<Note>, outcome: Outcome) -> Result<(), Memory>
     Ok(())
 }
 
-// What comes of the question at a place. None where it is left.
+// What comes of a question. None where it is left.
 fn answer(
     alloc: Global,
     book: &Book,
-    task: SliceTask,
-    place: usize,
+    asking: Asking<'_>,
     question: Question,
-    lits: &[Option<Lit>],
     assumed: &mut Vec<Lit>,
     solver: &mut Solver,
     sets: &mut Sets,
-    known: &mut CoreKnown<'_>,
+    known: &mut BookKnown<'_>,
 ) -> Result<Option<Outcome>, Memory>
-    requires task { IsCoreTask book.now task }
+    requires asking { IsAsking book.now asking }
     requires fits { QuestionFits book.now question }
-    requires usages { AreUsages book.now task.slice.first lits.now }
-    requires over { IsOverCore book.now task.slice solver.old }
-    requires sets { All (IsFound book.now task.slice.first) sets.old }
-    ensures over { IsOverCore book.now task.slice solver.new }
-    ensures sets { All (IsFound book.now task.slice.first) sets.new }
+    requires known { IsKnown book.now asking sets.old solver.old }
+    ensures known { OnOk result (IsKnown book.now asking.entry sets.new solver.new) }
     ensures told { IfOk result (λ told. IfSome told (λ outcome.
-        OwnOf (inquiry book.now task.effort) task.slice question (notes_of outcome))) }
+        OwnOf (inquiry book.now asking.entry.task.effort) asking.entry.task.slice question (notes_of outcome))) }
 {
-    match sets.met(book, task.slice.first, question) {
+    match sets.met(book, asking.task.slice.first, question) {
         Some(found) => {
             let outcome = from_set(alloc, question, &found.set)?;
             return Ok(Some(outcome));
         }
         None => {}
     }
-    let is_known = assume(assumed, book, task.slice.first, lits, question)?;
+    let is_known = assume(
+        assumed,
+        book,
+        asking.task.slice.first,
+        asking.usages,
+        question,
+    )?;
     if !is_known {
         return Ok(None);
     }
+    if is_refuted(book, asking, question, solver, known, assumed) {
+        return Ok(Some(from_none(question)));
+    }
+    let all = with_periods(alloc, asking.on, assumed)?;
     seek(
-        alloc, book, task, place, question, assumed, solver, sets, known,
+        alloc, book, asking, question, assumed, &all, solver, sets, known,
     )
 }
 
-// The same of one that assumes these literals and that no set which was found before answers.
+// What every question of the slice assumes, and what this one does.
+fn with_periods(alloc: Global, on: &[Lit], assumed: &[Lit]) -> Result<Vec<Lit>, Memory>
+    ensures { IfOk result (λ all. all.items ≡ on.now ++ assumed.now) }
+{
+    let mut all = Vec::new(alloc);
+    all.extend_from_slice(on)?;
+    all.extend_from_slice(assumed)?;
+    Ok(all)
+}
+
+// What comes of a question by a search. It assumes all these literals.
 fn seek(
     alloc: Global,
     book: &Book,
-    task: SliceTask,
-    place: usize,
+    asking: Asking<'_>,
     question: Question,
-    assumed: &[Lit],
+    own: &[Lit],
+    all: &[Lit],
     solver: &mut Solver,
     sets: &mut Sets,
-    known: &mut CoreKnown<'_>,
+    known: &mut BookKnown<'_>,
 ) -> Result<Option<Outcome>, Memory>
-    requires task { IsCoreTask book.now task }
+    requires asking { IsAsking book.now asking }
     requires fits { QuestionFits book.now question }
-    requires assumed { Assumes book.now task.slice.first question assumed.now }
-    requires over { IsOverCore book.now task.slice solver.old }
-    requires sets { All (IsFound book.now task.slice.first) sets.old }
-    ensures over { IsOverCore book.now task.slice solver.new }
-    ensures sets { All (IsFound book.now task.slice.first) sets.new }
+    requires asks { Asks book.now asking.task.slice question (given_of solver.old.kernel) solver.old.vars all.now }
+    requires known { IsKnown book.now asking sets.old solver.old }
+    ensures known { OnOk result (IsKnown book.now asking.entry sets.new solver.new) }
     ensures told { IfOk result (λ told. IfSome told (λ outcome.
-        OwnOf (inquiry book.now task.effort) task.slice question (notes_of outcome))) }
+        OwnOf (inquiry book.now asking.entry.task.effort) asking.entry.task.slice question (notes_of outcome))) }
 {
-    if is_refuted(book, task, question, solver, known, place, assumed) {
+    if !are_consistent(all) {
         return Ok(Some(from_none(question)));
     }
-    if !are_consistent(assumed) {
-        return Ok(Some(from_none(question)));
-    }
-    known.point(solver, book, task.slice.first, sets, question);
-    let searched = solver.solve(assumed, task.effort.budget)?;
+    known.point(solver, book, asking.task.slice.first, sets, question);
+    let searched = solver.solve(all, asking.task.effort.budget)?;
     match searched {
         Answer::Set(set) => {
-            let outcome = keep(alloc, book, task.slice.first, question, set, sets)?;
+            let outcome = keep(alloc, book, asking.task.slice.first, question, set, sets)?;
             Ok(Some(outcome))
         }
         Answer::Closed(at) => {
-            known.put(solver.kernel(), place, at);
-            Ok(Some(closed_outcome(book, task, question, solver, assumed, at)))
+            known.cores.put(solver.kernel(), question, own, at);
+            Ok(Some(closed_outcome(book, asking, question, solver, all, at)))
         }
         Answer::Spent(_) => Ok(None),
     }
 }
 
-// Whether a clause is known that shows that the question at a place, which assumes these literals, has no set.
+// Whether a clause is known that shows that a question has no set, which assumes these literals beside those of the periods.
 fn is_refuted(
     book: &Book,
-    task: SliceTask,
+    asking: Asking<'_>,
     question: Question,
     solver: &Solver,
-    known: &CoreKnown<'_>,
-    place: usize,
+    known: &BookKnown<'_>,
     assumed: &[Lit],
 ) -> bool
-    requires task { IsCoreTask book.now task }
-    requires assumed { Assumes book.now task.slice.first question assumed.now }
-    requires over { IsOverCore book.now task.slice solver.now }
-    ensures { result ≡ true → HasSet book.now task.slice question → ⊥ }
+    requires asking { IsAsking book.now asking }
+    requires over { IsOverBook book.now asking.periods.now solver.now }
+    ensures { result ≡ true
+        → Asks book.now asking.entry.task.slice question (given_of solver.now.kernel) solver.now.vars
+        (asking.entry.on.now ++ assumed.now) → HasSet book.now asking.entry.task.slice question → ⊥ }
 {
     let kernel = solver.kernel();
-    match known.core_for(kernel, place, assumed) {
-        Some(at) => is_core(kernel, assumed, at),
+    let _codes = book.codes();
+    match known.cores.at(question, assumed) {
+        Some(at) => is_core(kernel, asking.on, assumed, at),
         None => false,
     }
 }
@@ -413,18 +457,16 @@ fn is_refuted(
 // What comes of a question of which a clause of the kernel shows that it has no set.
 fn closed_outcome(
     book: &Book,
-    task: SliceTask,
+    asking: Asking<'_>,
     question: Question,
     solver: &Solver,
-    assumed: &[Lit],
+    all: &[Lit],
     at: Ref,
 ) -> Outcome
-    requires task { IsCoreTask book.now task }
     requires fits { QuestionFits book.now question }
-    requires assumed { Assumes book.now task.slice.first question assumed.now }
-    requires over { IsOverCore book.now task.slice solver.now }
-    requires core { IsCore solver.now.kernel assumed.now at }
-    ensures { OwnOf (inquiry book.now task.effort) task.slice question (notes_of result) }
+    requires asks { Asks book.now asking.task.slice question (given_of solver.now.kernel) solver.now.vars all.now }
+    requires core { IsCore solver.now.kernel all.now at }
+    ensures { OwnOf (inquiry book.now asking.entry.task.effort) asking.entry.task.slice question (notes_of result) }
 {
     solver.kernel().pool();
     from_none(question)

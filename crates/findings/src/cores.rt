@@ -1,171 +1,155 @@
-//! Clauses that may show that a question has no set, so that no search is begun for it. No answer hangs on it.
-use crate::assuming::is_core;
+//! Clauses that may show that a question has no set, so that no search is begun for it. No answer hangs on it: a clause is looked at
+//! before it counts, since it may rest on periods that the slice isn't in.
+use book_model::Book;
 use clause_pool::{Kernel, Lit, Ref};
-use clausify::Usage;
+use clausify::Question;
 use pb_base::Memory;
 use std::alloc::Global;
 
-/// By the place of a question, a clause of complements of what it assumes; and derived clauses that a kernel began with.
+/// By what is asked, the latest clause of complements of what that assumes, and of periods.
 #[derive(Drop)]
 pub(crate) struct Cores {
-    by_place: Vec<Option<u32>>,
-    // Clauses of the complements of two usages: the codes of the two literals, in order, and beside them where the clauses stand.
-    both: Vec<(u64, u64)>,
-    both_at: Vec<u32>,
-    // Clauses of usages alone: the code of the first literal, and beside it where the clause stands.
-    firsts: Vec<u64>,
-    firsts_at: Vec<u32>,
+    // By the code of a literal that is assumed alone.
+    by_lit: Vec<Option<u32>>,
+    // By variant, its place in its position, and where its pairs begin.
+    ranks: Vec<usize>,
+    pair_starts: Vec<usize>,
+    by_pair: Vec<Option<u32>>,
+    by_position: Vec<Option<u32>>,
 }
 
 impl Cores {
-    /// Those that a kernel has for so many questions and these usages.
-    pub(crate) fn of(
-        alloc: Global,
-        kernel: &Kernel,
-        usages: &[Usage],
-        questions: usize,
-    ) -> Result<Cores, Memory> {
+    /// None yet, over so many variables.
+    pub(crate) fn none(alloc: Global, book: &Book, vars: u32) -> Result<Cores, Memory> {
         let mut cores = Cores {
-            by_place: vec![in alloc; None; questions]?,
-            both: Vec::new(alloc),
-            both_at: Vec::new(alloc),
-            firsts: Vec::new(alloc),
-            firsts_at: Vec::new(alloc),
+            by_lit: vec![in alloc; None; (vars as usize).wrapping_mul(2)]?,
+            ranks: vec![in alloc; 0; book.variants().len()]?,
+            pair_starts: vec![in alloc; 0; book.variants().len()]?,
+            by_pair: Vec::new(alloc),
+            by_position: vec![in alloc; None; book.positions().len()]?,
         };
-        let used = used_literals(alloc, usages)?;
-        for (first, second, at) in clauses_of_two(alloc, kernel, &used)? {
-            cores.both.push((first, second))?;
-            cores.both_at.push(at)?;
+        let mut pairs: usize = 0;
+        for position in 0..book.positions().len() {
+            pairs = cores.number(book.variants_of(position as u32), pairs);
         }
-        for (first, at) in clauses_of_usages(alloc, kernel, &used)? {
-            cores.firsts.push(first)?;
-            cores.firsts_at.push(at)?;
-        }
+        cores.by_pair.resize(pairs, None)?;
         Ok(cores)
     }
 
-    /// The clause for the question at this place.
-    pub(crate) fn at(&self, place: usize) -> Option<Ref> {
-        match self.by_place.get(place) {
-            Some(Some(at)) => Some(*at as usize),
-            _ => None,
+    // Numbers the pairs of a position from this number on, and gives the next one.
+    fn number(&mut self, variants: &[u32], from: usize) -> usize {
+        let mut pairs = from;
+        for (rank, variant) in variants.iter().enumerate() {
+            if let Some(entry) = self.ranks.get_mut(*variant as usize) {
+                *entry = rank;
+            }
+            if let Some(entry) = self.pair_starts.get_mut(*variant as usize) {
+                *entry = pairs;
+            }
+            let behind = variants.len().wrapping_sub(rank).wrapping_sub(1);
+            pairs = pairs.wrapping_add(behind);
         }
+        pairs
     }
 
-    /// The clause at a place of the kernel is one for the question at this place.
-    pub(crate) fn put(&mut self, place: usize, at: Ref) {
-        match self.by_place.get_mut(place) {
-            Some(entry) => *entry = u32::try_from(at).ok(),
-            None => {}
-        }
+    fn pair_place(&self, first: u32, second: u32) -> Option<usize> {
+        let one = *self.ranks.get(first as usize)?;
+        let other = *self.ranks.get(second as usize)?;
+        let start = *self.pair_starts.get(first as usize)?;
+        Some(start.wrapping_add(other).wrapping_sub(one).wrapping_sub(1))
     }
 
-    /// The clause that the kernel began with of the complements of these two.
-    pub(crate) fn of_both(&self, first: Lit, second: Lit) -> Option<Ref> {
-        let one = first.not().code();
-        let other = second.not().code();
-        let sought = (one.min(other), one.max(other));
-        match self.both.binary_search(&sought) {
-            Ok(number) => match self.both_at.get(number) {
-                Some(at) => Some(*at as usize),
-                None => None,
-            },
-            Err(_) => None,
+    /// The clause for a pair, or for one of the two literals alone.
+    pub(crate) fn of_pair(&self, first: u32, second: u32, lits: &[Lit]) -> Option<Ref> {
+        if let Some(at) = entry_at(&self.by_pair, self.pair_place(first, second)?) {
+            return Some(at);
         }
-    }
-
-    /// A clause that the kernel began with of complements of some of these.
-    pub(crate) fn of_some(&self, kernel: &Kernel, assumed: &[Lit]) -> Option<Ref> {
-        for lit in assumed {
-            let found = self.beginning(kernel, lit.not(), assumed);
-            if found.is_some() {
-                return found;
+        for lit in lits {
+            if let Some(at) = entry_at(&self.by_lit, lit.code() as usize) {
+                return Some(at);
             }
         }
         None
     }
 
-    // One whose first literal is this one.
-    fn beginning(&self, kernel: &Kernel, first: Lit, assumed: &[Lit]) -> Option<Ref> {
-        let sought = first.code();
-        let begin = self.firsts.partition_point(|code| *code < sought);
-        for number in begin..self.firsts.len() {
-            if self.firsts.get(number) != Some(&sought) {
+    /// The clause for a question that assumes these literals.
+    pub(crate) fn at(&self, question: Question, assumed: &[Lit]) -> Option<Ref> {
+        match question {
+            Question::Void => None,
+            Question::Ambiguous {
+                position: _,
+                first,
+                second,
+            } => self.of_pair(first, second, assumed),
+            Question::Uncovered(position) => entry_at(&self.by_position, position as usize),
+            _ => entry_at(&self.by_lit, assumed.first()?.code() as usize),
+        }
+    }
+
+    /// The clause at a place of the kernel is one for a question that assumes these literals.
+    pub(crate) fn put(&mut self, kernel: &Kernel, question: Question, assumed: &[Lit], at: Ref) {
+        match question {
+            Question::Void => {}
+            Question::Ambiguous {
+                position: _,
+                first,
+                second,
+            } => self.put_pair(kernel, first, second, assumed, at),
+            Question::Uncovered(position) => put(&mut self.by_position, position as usize, at),
+            _ => {
+                if let Some(lit) = assumed.first() {
+                    put(&mut self.by_lit, lit.code() as usize, at);
+                }
+            }
+        }
+    }
+
+    /// The same for a pair. Where the clause speaks of one of the two literals alone, it is one for that.
+    pub(crate) fn put_pair(
+        &mut self,
+        kernel: &Kernel,
+        first: u32,
+        second: u32,
+        lits: &[Lit],
+        at: Ref,
+    ) {
+        if let Some(place) = self.pair_place(first, second) {
+            put(&mut self.by_pair, place, at);
+        }
+        if let Some(lit) = alone_in(kernel, lits, at) {
+            put(&mut self.by_lit, lit.code() as usize, at);
+        }
+    }
+}
+
+// The one of these literals whose complement the clause at a place has, if it has no other one's.
+fn alone_in(kernel: &Kernel, lits: &[Lit], at: Ref) -> Option<Lit> {
+    let pool = kernel.pool();
+    if at >= pool.len() {
+        return None;
+    }
+    let mut alone = None;
+    for lit in pool.lits(at) {
+        let other = lit.not();
+        if lits.iter().any(|one| *one == other) {
+            if alone.is_some() {
                 return None;
             }
-            let Some(at) = self.firsts_at.get(number) else {
-                return None;
-            };
-            if is_core(kernel, assumed, *at as usize) {
-                return Some(*at as usize);
-            }
+            alone = Some(other);
         }
-        None
+    }
+    alone
+}
+
+fn entry_at(entries: &[Option<u32>], place: usize) -> Option<Ref> {
+    match entries.get(place) {
+        Some(Some(at)) => Some(*at as usize),
+        _ => None,
     }
 }
 
-// By the code of a literal, whether it is a usage's.
-fn used_literals(alloc: Global, usages: &[Usage]) -> Result<Vec<bool>, Memory> {
-    let mut used = Vec::new(alloc);
-    for usage in usages {
-        let place = usage.literal.code() as usize;
-        if place >= used.len() {
-            used.resize(place + 1, false)?;
-        }
-        if let Some(entry) = used.get_mut(place) {
-            *entry = true;
-        }
+fn put(entries: &mut [Option<u32>], place: usize, at: Ref) {
+    if let Some(entry) = entries.get_mut(place) {
+        *entry = u32::try_from(at).ok();
     }
-    Ok(used)
-}
-
-fn is_used(used: &[bool], lit: Lit) -> bool {
-    used.get(lit.code() as usize) == Some(&true)
-}
-
-// The derived clauses of the complements of two usages, by these.
-fn clauses_of_two(
-    alloc: Global,
-    kernel: &Kernel,
-    used: &[bool],
-) -> Result<Vec<(u64, u64, u32)>, Memory> {
-    let mut sorted = Vec::new(alloc);
-    let pool = kernel.pool();
-    for at in kernel.given()..pool.len() {
-        let [first, second] = pool.lits(at) else {
-            continue;
-        };
-        if !is_used(used, first.not()) || !is_used(used, second.not()) {
-            continue;
-        }
-        if let Ok(place) = u32::try_from(at) {
-            sorted.push((first.code(), second.code(), place))?;
-        }
-    }
-    sorted.sort_unstable();
-    Ok(sorted)
-}
-
-// The derived clauses of usages alone, by the first one.
-fn clauses_of_usages(
-    alloc: Global,
-    kernel: &Kernel,
-    used: &[bool],
-) -> Result<Vec<(u64, u32)>, Memory> {
-    let mut sorted = Vec::new(alloc);
-    let pool = kernel.pool();
-    for at in kernel.given()..pool.len() {
-        let lits = pool.lits(at);
-        if lits.iter().any(|lit| !is_used(used, *lit)) {
-            continue;
-        }
-        let Some(first) = lits.first() else {
-            continue;
-        };
-        if let Ok(place) = u32::try_from(at) {
-            sorted.push((first.code(), place))?;
-        }
-    }
-    sorted.sort_unstable();
-    Ok(sorted)
 }

@@ -4,9 +4,9 @@
 
 mod answer;
 mod assuming;
+mod book_known;
 mod check;
 mod check_by;
-mod core_known;
 mod core_pairs;
 mod core_report;
 mod cores;
@@ -21,7 +21,6 @@ mod report;
 mod report_by;
 mod slice;
 mod slice_checks;
-mod slice_core;
 mod slice_reports;
 mod task;
 

@@ -8,8 +8,9 @@ use clausify::Gates;
 use pb_base::Memory;
 use preparing::{Implied, Refuter};
 use propagate::Engine;
-use solver::{Deriver, Solver};
+use solver::{Assumed, Deriver, Solver};
 use std::alloc::Global;
+use std::mem::replace;
 
 // What is derived next.
 #[derive(Clone, Copy)]
@@ -34,6 +35,10 @@ pub(crate) struct Refuting<'a> {
     refuter: Refuter,
     next: Derived,
     found: Option<Ref>,
+    // The clause that is false by what is assumed first.
+    conflict: Option<Ref>,
+    // What is assumed first.
+    with_first: Vec<Lit>,
 }
 
 impl<'a> Deriver for Refuting<'a> {
@@ -80,6 +85,8 @@ impl<'a> Refuting<'a> {
             refuter: Refuter::new(alloc, codes),
             next: Derived::Shared(solver.vars()),
             found: None,
+            conflict: None,
+            with_first: Vec::new(alloc),
         };
         solver.derive_by(&mut refuting)?;
         Ok(refuting)
@@ -115,10 +122,7 @@ impl<'a> Refuting<'a> {
     ) -> Result<Option<Ref>, Memory>
         ensures { Onwards solver.old solver.new }
     {
-        let is_new = solver.assume(implied.lit)?;
-        if is_new {
-            self.forget();
-        }
+        self.assume(solver, &[implied.lit])?;
         self.derive_next(solver, Derived::False(goal, *implied))
     }
 
@@ -160,21 +164,42 @@ impl<'a> Refuting<'a> {
         Ok(found)
     }
 
-    /// The place of a clause of the complements of two literals, or of one of them, where propagation of the first makes one of
-    /// them false. While the same literal is the first, it is propagated once.
+    // Assumes these literals alone, unless they are. While they are the same nothing is propagated again.
+    fn assume(&mut self, solver: &mut Solver, lits: &[Lit]) -> Result<(), Memory>
+        ensures { solver.new ≡ solver.old }
+    {
+        match solver.assume(lits)? {
+            Assumed::Before => {}
+            Assumed::Now => {
+                self.forget();
+                self.conflict = None;
+            }
+            Assumed::False(at) => {
+                self.forget();
+                self.conflict = Some(at);
+            }
+        }
+        Ok(())
+    }
+
+    /// The place of a clause of the complements of two literals, or of one of them, and of some of these others, where propagation of
+    /// the others and the first makes one of them false. While the same literal is the first, it is propagated once.
     #[tactic(auto, using(solver::proofs::PoolLaws::onwards_equal, solver::proofs::PoolLaws::onwards_after))]
     pub(crate) fn against(
         &mut self,
         solver: &mut Solver,
+        others: &[Lit],
         first: Lit,
         second: Lit,
     ) -> Result<Option<Ref>, Memory>
         ensures { Onwards solver.old solver.new }
     {
-        let is_new = solver.assume(first)?;
-        if is_new {
-            self.forget();
-        }
+        self.with_first.clear();
+        self.with_first.extend_from_slice(others)?;
+        self.with_first.push(first)?;
+        let lits = replace(&mut self.with_first, Vec::new(self.alloc));
+        self.assume(solver, &lits)?;
+        self.with_first = lits;
         self.against_one(solver, first, second)
     }
 
@@ -188,6 +213,9 @@ impl<'a> Refuting<'a> {
     ) -> Result<Option<Ref>, Memory>
         ensures { Onwards solver.old solver.new }
     {
+        if let Some(at) = self.conflict {
+            return self.derive_next(solver, Derived::Core(first, at));
+        }
         let found = self.derive_next(solver, Derived::Against(second))?;
         if found.is_some() {
             return Ok(found);
@@ -200,12 +228,13 @@ impl<'a> Refuting<'a> {
     pub(crate) fn against_both(
         &mut self,
         solver: &mut Solver,
+        others: &[Lit],
         first: Lit,
         second: Lit,
     ) -> Result<Option<Ref>, Memory>
         ensures { Onwards solver.old solver.new }
     {
-        let found = self.against(solver, first, second)?;
+        let found = self.against(solver, others, first, second)?;
         if found.is_some() {
             return Ok(found);
         }

@@ -1,22 +1,35 @@
 //! The reports of slices, one for each.
-ghost use Rattle.std.specs.Prelude.{◌≡◌, ◌<◌, ◌≤◌, [], All, IfOk, OnOk};
+ghost use Rattle.std.specs.Prelude.{◌≡◌, ◌+◌, ◌*◌, ◌<◌, ◌≤◌, All, IfOk, OnOk, length};
 ghost use Rattle.std.specs.List.{AllZip};
-ghost use Rattle.book_model.specs.declared.record.Slice.{Slice};
-ghost use Rattle.slice_hints.specs.Found.{KnowsUsages};
+ghost use Rattle.book_clauses.specs.BookClauses.{AreUsages, CodesBook};
+ghost use Rattle.book_model.specs.Activity.{is_within};
+ghost use Rattle.chains.specs.Growth.{given_of};
+ghost use Rattle.clause_pool.specs.Clause.{AreBelow};
+ghost use Rattle.slice_hints.specs.Found.{IsFound};
 ghost use Rattle.findings.specs.Answering.{inquiry};
 ghost use Rattle.findings.specs.Checkable.{IsCheckable, IsEffort};
+ghost use Rattle.findings.specs.Core.{IsKnown, IsOverBook, periods_of};
 ghost use Rattle.findings.specs.Notes.{SliceNotes};
 ghost use Rattle.pb_base.specs.declared.limits.TheConstants.{MOST_BUDGET};
 ghost use Rattle.pb_base.specs.InParts.{InParts};
 
-use crate::core_report::report_slice;
+use crate::book_known::BookKnown;
+use crate::core_report::{Asking, report_core};
 use crate::earlier::Earlier;
+use crate::laws::book_laws;
 use crate::report::{Note, Report};
+use crate::slice::{SliceCheck, check_slice};
 use crate::task::{Effort, SliceTask};
-use book_model::{Book, Slice};
-use pb_base::Memory;
+use book_clauses::{BookClauses, book_clauses, periods_on};
+use book_model::{Book, Slice, active};
+use clause_pool::{Kernel, Lit, Pool};
+use clausify::Layout;
+use pb_base::{Day, Memory};
 use shared_work::Work;
+use slice_hints::Sets;
+use solver::Solver;
 use std::alloc::Global;
+use std::mem::replace;
 
 /// A book whose slices are asked. The notes of a slice are made of it.
 #[derive(Clone, Copy)]
@@ -41,7 +54,7 @@ impl<'a> Work for SliceReports<'a> {
     }
 }
 
-/// The notes of each slice. Each hands on to the next.
+/// The notes of each slice. One solver over the clauses of the book answers for all of them.
 pub(crate) fn reports_of(
     alloc: Global,
     book: &Book,
@@ -53,52 +66,181 @@ pub(crate) fn reports_of(
     requires budget { effort.budget ≤ MOST_BUDGET }
     ensures { IfOk result (λ reports. AllZip (SliceNotes (inquiry book.now effort)) slices.now reports.items) }
 {
-    let mut reports = Vec::new(alloc);
-    let mut earlier = Earlier::none(alloc);
-    report_each(alloc, book, slices, effort, &mut earlier, &mut reports)?;
-    Ok(reports)
+    let made = book_clauses(alloc, book)?;
+    reports_over(alloc, book, slices, effort, made)
 }
 
+// The same by these clauses of the book.
+fn reports_over(
+    alloc: Global,
+    book: &Book,
+    slices: &[Slice],
+    effort: Effort,
+    made: BookClauses,
+) -> Result<Vec<Report>, Memory>
+    requires slices { All (IsCheckable book.now) slices.now }
+    requires some { 0 < effort.budget }
+    requires budget { effort.budget ≤ MOST_BUDGET }
+    requires codes { CodesBook book.now made.periods.items made.pool.clauses }
+    requires below { AreBelow (2 * made.vars) made.pool.clauses }
+    requires periods { length book.now.codes + length made.periods.items < made.vars }
+    requires usages { AreUsages book.now made.pool.clauses made.vars made.usages.items }
+    ensures { IfOk result (λ reports. AllZip (SliceNotes (inquiry book.now effort)) slices.now reports.items) }
+{
+    let BookClauses {
+        pool,
+        vars,
+        layout,
+        usages,
+        periods,
+    } = made;
+    let mut solver = solver_over(alloc, book, pool, vars)?;
+    let coded = CodedBook {
+        layout: &layout,
+        periods: &periods,
+        usages: &usages,
+    };
+    reports_by(alloc, book, slices, effort, coded, &mut solver)
+}
+
+// A solver over these clauses of the book.
+fn solver_over(alloc: Global, book: &Book, pool: Pool, vars: u32) -> Result<Solver, Memory>
+    requires below { AreBelow (2 * vars) pool.clauses }
+    requires codes { length book.now.codes ≤ vars }
+    ensures given { IfOk result (λ s. given_of s.kernel ≡ pool.clauses) }
+    ensures vars { IfOk result (λ s. s.vars ≡ vars) }
+    ensures codes { IfOk result (λ s. s.codes ≡ length book.now.codes) }
+{
+    let kernel = Kernel::of(alloc, pool);
+    let solver = Solver::new(alloc, kernel, vars, book.codes().len())?;
+    Ok(solver)
+}
+
+// What the clauses of a book are coded with.
+#[derive(Clone, Copy)]
+struct CodedBook<'a> {
+    layout: &'a Layout,
+    periods: &'a [Slice],
+    usages: &'a [Lit],
+}
+
+// The notes of each slice by a solver over the clauses.
+fn reports_by(
+    alloc: Global,
+    book: &Book,
+    slices: &[Slice],
+    effort: Effort,
+    coded: CodedBook<'_>,
+    solver: &mut Solver,
+) -> Result<Vec<Report>, Memory>
+    requires slices { All (IsCheckable book.now) slices.now }
+    requires some { 0 < effort.budget }
+    requires budget { effort.budget ≤ MOST_BUDGET }
+    requires over { IsOverBook book.now coded.periods.now solver.old }
+    requires usages { AreUsages book.now (given_of solver.old.kernel) solver.old.vars coded.usages.now }
+    ensures { IfOk result (λ reports. AllZip (SliceNotes (inquiry book.now effort)) slices.now reports.items) }
+{
+    let mut known = BookKnown::of(alloc, book, coded.usages, coded.layout, solver)?;
+    report_each(alloc, book, slices, effort, coded, solver, &mut known)
+}
+
+// Goes from one slice to the next.
 fn report_each(
     alloc: Global,
     book: &Book,
     slices: &[Slice],
     effort: Effort,
-    earlier: &mut Earlier,
-    reports: &mut Vec<Report>,
-) -> Result<(), Memory>
+    coded: CodedBook<'_>,
+    solver: &mut Solver,
+    known: &mut BookKnown<'_>,
+) -> Result<Vec<Report>, Memory>
     requires slices { All (IsCheckable book.now) slices.now }
     requires some { 0 < effort.budget }
     requires budget { effort.budget ≤ MOST_BUDGET }
-    requires none { reports.old.items ≡ [] }
-    requires earlier { All (KnowsUsages book.now) earlier.old.sets.items }
-    ensures { OnOk result (AllZip (SliceNotes (inquiry book.now effort)) slices.now reports.new.items) }
+    requires over { IsOverBook book.now coded.periods.now solver.old }
+    requires usages { AreUsages book.now (given_of solver.old.kernel) solver.old.vars coded.usages.now }
+    ensures { IfOk result (λ reports. AllZip (SliceNotes (inquiry book.now effort)) slices.now reports.items) }
 {
-    for slice in slices.iter() {
-        let report = report_one(alloc, book, *slice, effort, earlier)?;
-        reports.push(report)?;
+    let mut reports = Vec::new(alloc);
+    let mut sets = Sets::new(alloc, book)?;
+    // The sets are good on this day.
+    let mut day = book.term().first;
+    solver.vars();
+    for slice in slices {
+        sets.go_on(alloc, book, day, slice.first)?;
+        day = slice.first;
+        let task = SliceTask {
+            slice: *slice,
+            effort,
+        };
+        let on = periods_on(alloc, book, coded.periods, day)?;
+        let asking = Asking {
+            task,
+            periods: coded.periods,
+            on: &on,
+            usages: coded.usages,
+        };
+        let notes = report_slice(alloc, book, asking, solver, &mut sets, known)?;
+        reports.push(Report::of(notes))?;
     }
-    Ok(())
+    Ok(reports)
 }
 
-fn report_one(
+// The notes of a slice. Where a question is left, or the slice isn't in the term, it is checked over all its own clauses.
+fn report_slice(
     alloc: Global,
     book: &Book,
-    slice: Slice,
-    effort: Effort,
-    earlier: &mut Earlier,
-) -> Result<Report, Memory>
-    requires slice { IsCheckable book.now slice }
-    requires some { 0 < effort.budget }
-    requires budget { effort.budget ≤ MOST_BUDGET }
-    requires earlier { All (KnowsUsages book.now) earlier.old.sets.items }
-    ensures earlier { OnOk result (All (KnowsUsages book.now) earlier.new.sets.items) }
-    ensures notes { IfOk result (SliceNotes (inquiry book.now effort) slice) }
+    asking: Asking<'_>,
+    solver: &mut Solver,
+    sets: &mut Sets,
+    known: &mut BookKnown<'_>,
+) -> Result<Vec<Note>, Memory>
+    requires slice { IsCheckable book.now asking.task.slice }
+    requires effort { IsEffort asking.task.effort }
+    requires on { asking.on.now ≡ periods_of book.now asking.periods.now asking.task.slice }
+    requires known { IsKnown book.now asking sets.old solver.old }
+    ensures known { OnOk result (IsKnown book.now asking.entry sets.new solver.new) }
+    ensures notes { IfOk result (λ notes.
+        SliceNotes (inquiry book.now asking.entry.task.effort) asking.entry.task.slice notes.items) }
 {
-    let task = SliceTask { slice, effort };
-    let notes = report_slice(alloc, book, task, earlier)?;
-    let report = Report::of(notes);
-    Ok(report)
+    book_laws(book);
+    if is_in_term(book, asking.task.slice.first) {
+        let told = report_core(alloc, book, asking, solver, sets, known)?;
+        if let Some(notes) = told {
+            return Ok(notes);
+        }
+    }
+    let checked = check_alone(alloc, book, asking.task, sets)?;
+    Ok(checked)
+}
+
+fn is_in_term(book: &Book, day: Day) -> bool
+    ensures { result ≡ is_within book.now.first book.now.last day }
+{
+    let term = book.term();
+    active(term.first, term.last, day)
+}
+
+// The notes of a slice by its own clauses. Sets that are good in it may answer questions, and it leaves some.
+fn check_alone(
+    alloc: Global,
+    book: &Book,
+    task: SliceTask,
+    sets: &mut Sets,
+) -> Result<Vec<Note>, Memory>
+    requires slice { IsCheckable book.now task.slice }
+    requires effort { IsEffort task.effort }
+    requires sets { All (IsFound book.now task.slice.first) sets.old }
+    ensures sets { OnOk result (All (IsFound book.now task.slice.first) sets.new) }
+    ensures notes { IfOk result (λ notes. SliceNotes (inquiry book.now task.effort) task.slice notes.items) }
+{
+    let mut earlier = Earlier::none(alloc);
+    let found = replace(sets, Sets::new(alloc, book)?);
+    found.hand_on(&mut earlier.sets)?;
+    let checked = check_slice(alloc, book, task, &mut earlier)?;
+    let SliceCheck { notes, proof: _ } = checked;
+    sets.put_earlier(book, task.slice.first, &mut earlier.sets)?;
+    Ok(notes)
 }
 
 /// The notes of these, one behind the other.

@@ -1,4 +1,4 @@
-//! What a solver derives of disjunctions before it is asked, and that it keeps what it has learnt.
+//! What a solver derives of disjunctions before it is asked, what it assumes, and that it keeps what it has learnt.
 ghost use Rattle.std.specs.Prelude.{◌≡◌, ◌*◌, ◌<◌, ◌≤◌, IfOk, IfSome, OnOk};
 ghost use Rattle.clause_pool.specs.Clause.{AreBelow, IsBelow};
 ghost use Rattle.pb_base.specs.declared.limits.TheConstants.{MOST_BUDGET};
@@ -8,7 +8,7 @@ use clausify::{Gate, Gates, Joint};
 use pb_base::Memory;
 use preparing::{Implied, Refuter};
 use propagate::Engine;
-use solver::{Answer, Deriver, Solver};
+use solver::{Answer, Assumed, Deriver, Solver};
 use std::alloc::Global;
 use std::test::Fail;
 
@@ -158,7 +158,7 @@ impl Deriver for Preparing {
 // Whether the goal 9 is refuted by what the two literals come to together that it implies.
 fn is_refuted_by_both(solver: &mut Solver, preparing: &mut Preparing) -> Result<bool, Memory> {
     let [first, second] = implied();
-    solver.assume(first.lit)?;
+    solver.assume(&[first.lit])?;
     preparing.conflict = solver.assume_further(second.lit)?;
     solver.derive_by(preparing)?;
     let Some(at) = preparing.found else {
@@ -179,6 +179,28 @@ fn a_question_of_two_literals(rt: HostRuntime) -> Result<(), Fail> {
     let mut preparing = Preparing::new(rt.alloc(), &[either(0, 1, 0), either(0, 1, 3)])?;
     let refuted = is_shared_and_refuted(&mut solver, &mut preparing);
     assert!(rt; matches!(refuted, Ok(true)));
+    Ok(())
+}
+
+// 0 excludes 1, and asks for it.
+const CLASHING: &[u8] = b"-0-1;-0+1;";
+
+// Whether literals are assumed, are so already when asked again, and others make a clause false.
+fn are_assumed_in_turn(solver: &mut Solver) -> Result<bool, Memory> {
+    let alone = [Lit::new(2, true), Lit::new(3, false)];
+    let others = [Lit::new(2, true), Lit::new(0, true)];
+    let first = solver.assume(&alone)?;
+    let again = solver.assume(&alone)?;
+    let clash = solver.assume(&others)?;
+    let are_assumed = matches!(first, Assumed::Now) && matches!(again, Assumed::Before);
+    Ok(are_assumed && matches!(clash, Assumed::False(_)))
+}
+
+#[test]
+fn literals_in_turn(rt: HostRuntime) -> Result<(), Fail> {
+    let mut solver = solver_of(rt.alloc(), CLASHING)?;
+    let assumed = are_assumed_in_turn(&mut solver);
+    assert!(rt; matches!(assumed, Ok(true)));
     Ok(())
 }
 

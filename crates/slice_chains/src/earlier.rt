@@ -1,7 +1,7 @@
 //! What the kernel of a slice derived, handed on to the next one. No answer hangs on it.
 ghost use Rattle.chains.specs.Growth.{Grows};
 
-use crate::moves::{Days, Moves, goal_count};
+use crate::moves::{Days, Moves};
 use book_model::{Book, Slice};
 use chains::{Trace, derive_again};
 use clause_pool::Kernel;
@@ -70,23 +70,9 @@ impl EarlierChains {
             before: self.day,
             now: slice.first,
         };
-        let mut moves = moves_to(alloc, book, days, &before, &self.now)?;
+        let mut moves = Moves::of(alloc, book, days, &before, &self.now)?;
         derive_again(alloc, kernel, &trace, &mut moves)
     }
-}
-
-// What moves from a slice to one of this layout: that of goals too, if it has any.
-fn moves_to(
-    alloc: Global,
-    book: &Book,
-    days: Days,
-    before: &Layout,
-    now: &Layout,
-) -> Result<Moves, Memory> {
-    if goal_count(now) == 0 {
-        return Moves::of_records(alloc, book, days, before, now);
-    }
-    Moves::of(alloc, book, days, before, now)
 }
 
 // The layout of no clauses. It takes no memory.

@@ -70,28 +70,6 @@ impl Moves {
         Ok(moves)
     }
 
-    /// Those of what the records make. What goals made, where the earlier slice has any, is gone.
-    pub(crate) fn of_records(
-        alloc: Global,
-        book: &Book,
-        days: Days,
-        before: &Layout,
-        now: &Layout,
-    ) -> Result<Moves, Memory> {
-        let mut moves = Moves {
-            vars: Vec::new(alloc),
-            clauses: Vec::new(alloc),
-            next_goal: now.goals.var,
-        };
-        moves.keep_codes(book.codes().len())?;
-        let there = records_of(alloc, book, days)?;
-        moves.add_records(before, now, &there)?;
-        let goals = goal_count(before);
-        put_nones(&mut moves.vars, goals)?;
-        put_nones(&mut moves.clauses, goals.saturating_mul(3))?;
-        Ok(moves)
-    }
-
     // The codes and the variable that is always true stay, and so does the clause that says so.
     fn keep_codes(&mut self, codes: u32) -> Result<(), Memory>
         ensures vars { OnOk result (self.new.vars.items ≡ self.old.vars.items ++ kept codes) }
@@ -397,12 +375,6 @@ impl There {
             now: self.now && other.now,
         }
     }
-}
-
-/// How many variables the goals of a layout have.
-pub(crate) fn goal_count(layout: &Layout) -> usize {
-    let before = layout.goals.var.saturating_sub(layout.gates.first) as usize;
-    layout.gates.list.len().saturating_sub(before)
 }
 
 // A place as it is kept. One of more than 32 bits isn't found again.

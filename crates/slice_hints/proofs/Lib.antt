@@ -1,2 +1,3 @@
 pub mod ImpliedLaws
 pub mod UsageLaws
+pub mod SpoiltLaws

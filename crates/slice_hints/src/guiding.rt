@@ -28,7 +28,7 @@ pub fn guide(
     match question {
         Question::Void => {}
         Question::Necessary(_) | Question::Inadmissible(_) => prefer_new_codes(hints, book, sets),
-        Question::Superfluous(_) => prefer_new_usages(hints, sets, &usages.asked),
+        Question::Superfluous(_) => prefer_new_usages(hints, book, day, sets, &usages.asked),
         Question::Ambiguous {
             position: _,
             first,
@@ -39,7 +39,7 @@ pub fn guide(
         }
         Question::Uncovered(position) => {
             prefer_codes_at(hints, book, day, sets, position);
-            prefer_disjunctions_at(hints, usages, refuter, position);
+            prefer_disjunctions_at(hints, book, day, usages, refuter, position);
         }
     }
 }
@@ -59,17 +59,25 @@ fn prefer_new_codes(hints: &mut Vec<Lit>, book: &Book, sets: &Sets) {
     }
 }
 
-// Prefers each variant's formula that is true over no set.
-fn prefer_new_usages(hints: &mut Vec<Lit>, sets: &Sets, usages: &[Asked]) {
+// Prefers the formula of each active variant that is true over no set.
+fn prefer_new_usages(hints: &mut Vec<Lit>, book: &Book, day: Day, sets: &Sets, usages: &[Asked]) {
     for asked in usages {
         match asked.question {
             Question::Superfluous(variant) => {
-                if sets.using(variant) == 0 {
+                if sets.using(variant) == 0 && is_active(book, day, variant) {
                     prefer(hints, asked.goal);
                 }
             }
             _ => {}
         }
+    }
+}
+
+// Whether the variant at this place is active, if there is one.
+fn is_active(book: &Book, day: Day, variant: u32) -> bool {
+    match book.variants().get(variant as usize) {
+        Some(record) => active(record.from, record.until, day),
+        None => false,
     }
 }
 
@@ -85,10 +93,27 @@ fn prefer_codes_at(hints: &mut Vec<Lit>, book: &Book, day: Day, sets: &Sets, pos
     }
 }
 
-// Prefers the disjunctions that are parts of the formulas of a position's variants, true at first: what is learnt then speaks of
-// them, and not of each code that they are of. Of those of the same literals, the one that the others imply is.
-fn prefer_disjunctions_at(hints: &mut Vec<Lit>, usages: &Usages, refuter: &Refuter, position: u32) {
-    let Some(span) = usages.span(position) else {
+// Prefers the disjunctions that are parts of the formulas of a position's active variants, true at first: what is learnt then speaks
+// of them, and not of each code that they are of. Of those of the same literals, the one that the others imply is.
+fn prefer_disjunctions_at(
+    hints: &mut Vec<Lit>,
+    book: &Book,
+    day: Day,
+    usages: &Usages,
+    refuter: &Refuter,
+    position: u32,
+)
+    requires { position < length book.now.positions }
+{
+    for variant in book.variants_of(position) {
+        if is_active(book, day, *variant) {
+            prefer_disjunctions_of(hints, usages, refuter, *variant);
+        }
+    }
+}
+
+fn prefer_disjunctions_of(hints: &mut Vec<Lit>, usages: &Usages, refuter: &Refuter, variant: u32) {
+    let Some(span) = usages.span(variant) else {
         return;
     };
     for var in span.from..span.until {

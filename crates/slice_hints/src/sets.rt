@@ -1,18 +1,21 @@
 //! Sets that are good on a day, and the questions that they answer.
 //! The sets that were found so far, each of which may answer questions to come.
-ghost use Rattle.std.specs.Prelude.{◌≡◌, ℕ, ◌<◌, [], All, IfOk, IfSome, OnOk, length, true};
+ghost use Rattle.std.specs.Prelude.{◌≡◌, ℕ, ◌<◌, ◌==◌, [], All, IfOk, IfSome, OnOk, length, true};
 ghost use Rattle.pb_base.specs.Rule.{holds};
 ghost use Rattle.book_model.specs.Contents.{Contents};
 ghost use Rattle.book_model.specs.Good.{is_good};
 ghost use Rattle.clausify.specs.Questions.{goal, QuestionFits};
-ghost use Rattle.slice_hints.specs.Found.{IsFound, KnowsUsages};
+ghost use Rattle.book_model.specs.Book.{ConstructFits, SupplementFits};
+ghost use Rattle.slice_hints.specs.Found.{IsFound, KnowsUsages, breaks_anew, fires_anew, is_spoilt};
+ghost use Rattle.std.specs.List.{list_any};
 
 use crate::found::{Found, meets};
-use book_model::{Book, active, is_good};
+use book_model::{Book, Construct, Supplement, active, breaks, fires, is_good};
 use clausify::Question;
 use pb_base::{CodeSet, Day, Memory};
 use std::alloc::Global;
 use std::marker::Model;
+use std::mem::replace;
 
 // The most sets that are kept.
 const MOST_SETS: usize = 512;
@@ -108,6 +111,68 @@ impl Sets {
         self.put(found)
     }
 
+    /// Goes on from a day to another one: keeps those sets that are good on it too.
+    pub fn go_on(&mut self, alloc: Global, book: &Book, before: Day, day: Day) -> Result<(), Memory>
+        requires found { All (IsFound book.now before) self.old }
+        ensures found { OnOk result (All (IsFound book.now day) self.new) }
+    {
+        if !any_spoilt(book, before, day, &self.found) {
+            return Ok(());
+        }
+        let found = replace(&mut self.found, Vec::new(alloc));
+        self.clear_tables();
+        self.put_each(book, before, day, found)
+    }
+
+    // Keeps those sets of an earlier day that are good on this one too.
+    fn put_each(
+        &mut self,
+        book: &Book,
+        before: Day,
+        day: Day,
+        found: Vec<Found>,
+    ) -> Result<(), Memory>
+        requires found { All (IsFound book.now day) self.old }
+        requires earlier { All (IsFound book.now before) found.items }
+        ensures { OnOk result (All (IsFound book.now day) self.new) }
+    {
+        for one in found {
+            self.put_unspoilt(book, before, day, one)?;
+        }
+        Ok(())
+    }
+
+    // Keeps a set of an earlier day, if no rule is against it on this one.
+    fn put_unspoilt(
+        &mut self,
+        book: &Book,
+        before: Day,
+        day: Day,
+        found: Found,
+    ) -> Result<(), Memory>
+        requires found { All (IsFound book.now day) self.old }
+        requires earlier { IsFound book.now before found }
+        ensures { All (IsFound book.now day) self.new }
+    {
+        if is_spoilt(book, before, day, &found) {
+            return Ok(());
+        }
+        self.put(found)
+    }
+
+    // No set is in the tables.
+    fn clear_tables(&mut self)
+        ensures { self.new ≡ self.old }
+    {
+        self.all = 0;
+        for sets in self.with_code.iter_mut() {
+            *sets = 0;
+        }
+        for sets in self.using.iter_mut() {
+            *sets = 0;
+        }
+    }
+
     /// Hands the sets on to a later day, the first of them last.
     pub fn hand_on(mut self, earlier: &mut Vec<Found>) -> Result<(), Memory>
         ensures { (b : Contents) → All (KnowsUsages b) self
@@ -166,6 +231,13 @@ impl Sets {
             } => self.using(first) & self.using(second),
             Question::Uncovered(position) => self.all & !self.covering(book, day, position),
         }
+    }
+
+    /// Whether there is none.
+    pub fn is_empty(&self) -> bool
+        ensures { result ≡ (length self.now == 0) }
+    {
+        self.found.is_empty()
     }
 
     /// The set that was found last.
@@ -245,6 +317,55 @@ fn met_by_any<'a>(
         }
     }
     None
+}
+
+// Whether some of these sets, which are good on a day, isn't on another one.
+fn any_spoilt(book: &Book, before: Day, day: Day, found: &[Found]) -> bool
+    requires { All (IsFound book.now before) found.now }
+    ensures { result ≡ list_any (λ f. is_spoilt book.now before day f.set) found.now }
+{
+    found.iter().any(|one| is_spoilt(book, before, day, one))
+}
+
+// Whether a set that is good on a day isn't on another one: a rule is against it that wasn't active before.
+fn is_spoilt(book: &Book, before: Day, day: Day, found: &Found) -> bool
+    requires { IsFound book.now before found.now }
+    ensures { result ≡ is_spoilt book.now before day found.now.set }
+{
+    any_fires_anew(book.supplements(), before, day, &found.set)
+        || any_breaks_anew(book.constructs(), before, day, &found.set)
+}
+
+fn any_fires_anew(supplements: &[Supplement], before: Day, day: Day, set: &CodeSet) -> bool
+    requires { All (SupplementFits (length set.now)) supplements.now }
+    ensures { result ≡ list_any (fires_anew before day set.now) supplements.now }
+{
+    supplements
+        .iter()
+        .any(|rule| fires_anew(rule, before, day, set))
+}
+
+fn fires_anew(rule: &Supplement, before: Day, day: Day, set: &CodeSet) -> bool
+    requires { SupplementFits (length set.now) rule.now }
+    ensures { result ≡ fires_anew before day set.now rule.now }
+{
+    !active(rule.from, rule.until, before) && fires(rule, day, set)
+}
+
+fn any_breaks_anew(constructs: &[Construct], before: Day, day: Day, set: &CodeSet) -> bool
+    requires { All (ConstructFits (length set.now)) constructs.now }
+    ensures { result ≡ list_any (breaks_anew before day set.now) constructs.now }
+{
+    constructs
+        .iter()
+        .any(|rule| breaks_anew(rule, before, day, set))
+}
+
+fn breaks_anew(rule: &Construct, before: Day, day: Day, set: &CodeSet) -> bool
+    requires { ConstructFits (length set.now) rule.now }
+    ensures { result ≡ breaks_anew before day set.now rule.now }
+{
+    !active(rule.from, rule.until, before) && breaks(rule, day, set)
 }
 
 // Whether a set is of the codes of a book, and good on a day.

@@ -16,7 +16,7 @@ pub(crate) struct Span {
 pub struct Usages {
     /// The questions, in order.
     pub(crate) asked: Vec<Asked>,
-    // By position, the variables of its variants' formulas. They are made variant by variant, so they stand together.
+    // By variant, the variables of its formula.
     spans: Vec<Option<Span>>,
 }
 
@@ -38,33 +38,30 @@ impl Usages {
         Ok(Usages { asked, spans })
     }
 
-    /// The variables of the formulas of a position's variants, if they have any.
-    pub(crate) fn span(&self, position: u32) -> Option<Span> {
-        match self.spans.get(position as usize) {
+    /// The variables of a variant's formula, if it has any.
+    pub(crate) fn span(&self, variant: u32) -> Option<Span> {
+        match self.spans.get(variant as usize) {
             Some(span) => *span,
             None => None,
         }
     }
 }
 
-// The variables of each position's usages. These are the last records of a layout, in the order of their questions.
+// The variables of each variant's formula. Usages are the last records of a layout, in the order of their questions.
 fn spans_of(
     alloc: Global,
     book: &Book,
     usages: &[Asked],
     layout: &Layout,
 ) -> Result<Vec<Option<Span>>, Memory> {
-    let mut spans = vec![in alloc; None; book.positions().len()]?;
+    let mut spans = vec![in alloc; None; book.variants().len()]?;
     let rules = layout.starts.len().saturating_sub(usages.len());
     for (number, usage) in usages.iter().enumerate() {
         let Question::Superfluous(variant) = usage.question else {
             continue;
         };
-        let Some(variant) = book.variants().get(variant as usize) else {
-            continue;
-        };
-        if let Some(span) = span_of(layout, rules.saturating_add(number)) {
-            widen(&mut spans, variant.position, span);
+        if let Some(entry) = spans.get_mut(variant as usize) {
+            *entry = span_of(layout, rules.saturating_add(number));
         }
     }
     Ok(spans)
@@ -81,17 +78,4 @@ fn span_of(layout: &Layout, place: usize) -> Option<Span> {
         from: start.var,
         until: end.var,
     })
-}
-
-// These variables are a position's too.
-fn widen(spans: &mut [Option<Span>], position: u32, more: Span) {
-    if let Some(span) = spans.get_mut(position as usize) {
-        *span = match *span {
-            Some(before) => Some(Span {
-                from: before.from,
-                until: more.until,
-            }),
-            None => Some(more),
-        };
-    }
 }

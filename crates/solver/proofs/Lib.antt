@@ -6,3 +6,4 @@ pub mod LearnLaws
 pub mod EndLaws
 pub mod CountLaws
 pub mod OneLaws
+pub mod TouchLaws

@@ -19,7 +19,7 @@ use Rattle.propagate.specs.Quiet.{Quiet, IsQuietFor}
 use Rattle.propagate.proofs.QuietLaws.{has_take}
 use Rattle.propagate.proofs.AssignmentLaws.{has_push, push_has, push_here}
 use Rattle.propagate.proofs.KeepLaws.{same_default, has_at}
-use Rattle.solver.specs.Marks.{AreClear, IsChain, AreFalse, AreFalseBut, AreFalseOrBlamed, AreFalseUnless, IsMarked, IsUnmarked, IsResolved, false_at, IsResolvedAt, IsTop, NoneMarked, start_of, IsUip, IsResolving}
+use Rattle.solver.specs.Marks.{AreClear, IsChain, AreFalse, AreFalseBut, AreFalseUnless, IsMarked, IsUnmarked, IsResolved, false_at, IsResolvedAt, IsTop, NoneMarked, start_of, IsUip, IsResolving}
 use Rattle.solver.specs.declared.resolution.Resolution.{Resolution}
 use Rattle.solver.proofs.TrailLaws.{placed_in, has_placed, has_longer, same_place, consistent}
 
@@ -332,22 +332,6 @@ unmarked_clear old new c marks u l = elim (cases_Bool (has c l)) [
   | inl is_in ↦ u.gone l is_in
   | inr none ↦ u.kept l none ∙ marks l ∙ none
 ]
-
--- the steps down the whole trail
-pub skip_unmarked : (lits : List ℕ) (marks : List Bool) (k : ℕ) (a : List ℕ) → marked marks (false_at lits (k - 1)) ≡ false → AreFalseOrBlamed (take k lits) marks a → AreFalseOrBlamed (take (k - 1) lits) marks a
-skip_unmarked lits marks k a none h = narrow lits marks (k - 1) k (λ l. has a (complement l) ≡ true) (λ j low high m.
-    let e : j ≡ k - 1 = omega (arith, low, high) in
-    absurd (true≢false (sym m ∙ ap (λ (i : ℕ). marked marks (false_at lits i)) e ∙ none))) h
-
-pub skip_opened : (lits : List ℕ) (marks : List Bool) (k : ℕ) (a : List ℕ) → has a (get_or lits (k - 1) 0) ≡ true → AreFalseOrBlamed (take k lits) marks a → AreFalseOrBlamed (take (k - 1) lits) marks a
-skip_opened lits marks k a is_in h = narrow lits marks (k - 1) k (λ l. has a (complement l) ≡ true) (λ j low high m.
-    let e : j ≡ k - 1 = omega (arith, low, high) in
-    ap (has a) (complement-complement (get_or lits j 0) ∙ ap (λ (i : ℕ). get_or lits i 0) e) ∙ is_in) h
-
-pub step_resolved : (t : Trail) (k : ℕ) (a : List ℕ) (old new : List Bool) → 0 < k → IsResolvedAt t (k - 1) old new → AreFalseOrBlamed (take k t.lits) old a → AreFalseOrBlamed (take (k - 1) t.lits) new a
-step_resolved t k a old new some r h =
-    let e : k ≡ k - 1 + 1 = omega (arith, some) in
-    resolved_here t (k - 1) (λ l. has a (complement l) ≡ true) old new r (subst (λ (n : ℕ). AreFalseOrBlamed (take n t.lits) old a) e h)
 
 pub none_marked : (n l : ℕ) → marked (replicate n false) l ≡ false
 none_marked zero l = refl

@@ -5,6 +5,7 @@
 --     AreFalseBut lits marks x      the same, but for one literal
 --     AreFalseOrBlamed lits marks assumptions
 --                                   the same, but for complements of assumptions
+--     IsMarkedAt lits marks l end k a marked literal is the false one at a place before another
 --     IsMarked old new c            the literals of a clause are marked besides
 --     IsResolved old new x c        what a resolution on a literal with a clause does to the marks
 --     IsResolvable t marks at       a false literal is marked and has a reason
@@ -64,6 +65,12 @@ pub record IsResolved (old new : List Bool) (x : ℕ) (c : List ℕ) : Type 0 wh
 -- the false literal whose complement stands at a place of the trail
 abbrev pub false_at : List ℕ → ℕ → ℕ
 false_at lits k = complement (slice_index lits k)
+
+-- a marked literal is the false one at a place before another
+pub record IsMarkedAt (lits : List ℕ) (marks : List Bool) (l end k : ℕ) : Type 0 where
+  pub before : k < end
+  pub is : false_at lits k ≡ l
+  pub is_in : marked marks l ≡ true
 
 -- the literal at a place was resolved away by its reason
 pub record IsResolvedAt (t : Trail) (at : ℕ) (old new : List Bool) : Type 0 where

@@ -21,4 +21,4 @@ mod way;
 
 pub use answer::Answer;
 pub use deriver::Deriver;
-pub use solver::Solver;
+pub use solver::{Assumed, Solver};

@@ -24,6 +24,17 @@ use propagate::Engine;
 use std::alloc::Global;
 use std::marker::Model;
 
+/// What comes of assuming literals.
+#[derive(Clone, Copy)]
+pub enum Assumed {
+    /// They were assumed already.
+    Before,
+    /// They are assumed now.
+    Now,
+    /// The clause at this place is false by some of them.
+    False(Ref),
+}
+
 /// Answers questions over the given clauses of a kernel, and keeps in it what it learns. Contracts see the kernel,
 /// the number of variables, and how many of them, from the first on, are codes.
 #[derive(Drop)]
@@ -151,22 +162,25 @@ impl Solver {
         }
     }
 
-    /// Assumes a literal alone, unless it has a value without, and propagates it. False where it is assumed alone already,
-    /// and nothing was propagated again.
-    pub fn assume(&mut self, lit: Lit) -> Result<bool, Memory>
+    /// Assumes these literals, one after the other, each unless it has a value, and propagates each. Where a clause is false on the
+    /// way, its place is given, and no more is assumed. Where just these are assumed already, nothing is propagated again.
+    pub fn assume(&mut self, lits: &[Lit]) -> Result<Assumed, Memory>
         ensures { self.new ≡ self.old }
     {
-        if begins_with(&self.engine, lit) {
-            return Ok(false);
+        if are_assumed(&self.engine, lits) {
+            return Ok(Assumed::Before);
         }
-        assume_alone(
+        let found = assume_each(
             &self.kernel,
             &mut self.engine,
             &self.resolution,
             &mut self.order,
-            lit,
+            lits,
         )?;
-        Ok(true)
+        match found {
+            Some(at) => Ok(Assumed::False(at)),
+            None => Ok(Assumed::Now),
+        }
     }
 
     /// Assumes a further literal, unless it has a value, and gives the place of the clause that is false then, if one is.
@@ -187,31 +201,46 @@ impl Solver {
     }
 }
 
-// Whether a literal is the only one that is assumed.
-fn begins_with(engine: &Engine, lit: Lit) -> bool {
-    engine.level() == 1 && engine.trail().get(engine.end_of(0)) == Some(&lit)
+// Whether each level begins with one of these literals, in their sequence, and the last level with the last of them.
+fn are_assumed(engine: &Engine, lits: &[Lit]) -> bool {
+    let mut level: u32 = 0;
+    let mut is_last = false;
+    for lit in lits {
+        let end = engine.end_of(level);
+        is_last = level < engine.level() && engine.trail().get(end) == Some(lit);
+        if is_last {
+            level = level.wrapping_add(1);
+        }
+    }
+    is_last && level == engine.level()
 }
 
-// Assumes a literal alone, unless it has a value without, and propagates it.
-fn assume_alone(
+// Assumes these literals alone, each unless it has a value, and propagates each. The clause that is false on the way, if one is.
+#[tactic(auto, using(crate::proofs::LearnLaws::kept_moved))]
+fn assume_each(
     kernel: &Kernel,
     engine: &mut Engine,
     resolution: &Resolution,
     order: &mut Order,
-    lit: Lit,
-) -> Result<(), Memory>
+    lits: &[Lit],
+) -> Result<Option<Ref>, Memory>
     requires kept { IsKept kernel.now.clauses engine.old resolution.now.marks.items }
     requires clear { AreClear resolution.now.marks.items }
     ensures kept { IsKept kernel.now.clauses engine.new resolution.now.marks.items }
     ensures vars { engine.new.vars ≡ engine.old.vars }
 {
     prepare(kernel, engine, resolution, order)?;
-    if lit.var() >= engine.vars() || engine.value(lit).is_some() {
-        return Ok(());
+    let found = engine.propagate(kernel.pool())?;
+    if found.is_some() {
+        return Ok(found);
     }
-    engine.assume(lit);
-    engine.propagate(kernel.pool())?;
-    Ok(())
+    for lit in lits {
+        let found = propagate_further(kernel, engine, *lit)?;
+        if found.is_some() {
+            return Ok(found);
+        }
+    }
+    Ok(None)
 }
 
 // Assumes a further literal, unless it has a value, and gives the clause that is false then.

@@ -4,6 +4,6 @@ use Rattle.findings.proofs.AssumeLaws.{assumes_uncovered}
 use Rattle.findings.proofs.assuming.assume_none.Goals as goal
 
 pub returns : goal.returns
-returns c = λ known.
-    assumes_uncovered c.args.book.now c.args.day c.args.position c.assume_unused.new.assumed.items
-    (subst (λ (vs : List ℕ). AssumesNone c.args.book.now c.args.day vs c.assume_unused.new.assumed.items) c.variants_of.ensures.value (c.in_ok-known.ensures known))
+returns c = λ cs vars are known.
+    assumes_uncovered c.args.book.now cs vars c.args.day c.args.position c.assume_unused.new.assumed.items
+    (subst (λ (vs : List ℕ). AssumesNone c.args.book.now cs vars c.args.day vs c.assume_unused.new.assumed.items) c.variants_of.ensures.value (c.in_ok-known.ensures cs vars are known))

@@ -1,0 +1,4 @@
+pub mod PeriodLaws
+pub mod MeetLaws
+pub mod BookLaws
+pub mod StepLaws

@@ -1,0 +1,2 @@
+pub mod BookClauses
+pub mod Coding
