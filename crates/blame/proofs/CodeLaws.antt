@@ -36,9 +36,9 @@ use Rattle.blame.specs.declared.entries.Entry.TheVariants.{Supplement, Construct
 use Rattle.blame.proofs.ListLaws.{length-first}
 
 -- an item speaks of the codes, and takes few variables
-record IsSmall (n : ℕ) (i : Item) : Type 0 where
-  fits : item_fits n i ≡ true
-  small : connectives i.rule ≤ 512
+pub record IsSmall (n : ℕ) (i : Item) : Type 0 where
+  pub fits : item_fits n i ≡ true
+  pub small : connectives i.rule ≤ 512
 
 supplement_small : (n : ℕ) (ss : List SupplementRecord) (p : ℕ) → AllByRecursion (SupplementFits n) ss → IsSmall n (option_map_or supplement_item (slice_get ss p) (free_item always))
 supplement_small n [] p h = record { fits = refl; small = omega arith }
@@ -50,7 +50,7 @@ construct_small n [] p h = record { fits = refl; small = omega arith }
 construct_small n (c ∷ cs) zero h = record { fits = construct_item_fits n c h.0; small = demand_item_below n c.demand h.0.demand }
 construct_small n (c ∷ cs) (suc p) h = construct_small n cs p h.1
 
-entry_small : (b : Contents) → IsBook b → (e : Entry) → IsThere b e → IsSmall (length b.codes) (entry_item b e)
+pub entry_small : (b : Contents) → IsBook b → (e : Entry) → IsThere b e → IsSmall (length b.codes) (entry_item b e)
 entry_small b book (Supplement p) there =
     supplement_small (length b.codes) b.supplements p (recursion_from_All (SupplementFits (length b.codes)) b.supplements book.supplements_fit)
 entry_small b book (Construct p) there =
@@ -92,7 +92,7 @@ pub record Making (b : Contents) (m : List Entry) (i : ℕ) (e : Encoder) : Type
   pub encoded : IsEncoded (map (entry_item b) (take i m)) e
 
 module _ (b : Contents) (day : ℕ) where
-  entry_meets : (x : List Bool) (e : Entry) → is_active b day e ≡ true → meets x (entry_item b e) ≡ meets_entry b day x e
+  pub entry_meets : (x : List Bool) (e : Entry) → is_active b day e ≡ true → meets x (entry_item b e) ≡ meets_entry b day x e
   entry_meets x (Supplement p) on = supplement_meets day x (slice_get b.supplements p) on
   entry_meets x (Construct p) on = construct_meets day x (slice_get b.constructs p) on
   entry_meets x (Chosen c) on = refl
@@ -112,11 +112,11 @@ module _ (b : Contents) (day : ℕ) where
   entry_at m i d fit within = All-get_or (EntryFits b day) m i d within fit
 
   module _ (book : IsBook b) where
-    entries_fit : (m : List Entry) → AllByRecursion (EntryFits b day) m → AllFit (length b.codes) (map (entry_item b) m)
+    pub entries_fit : (m : List Entry) → AllByRecursion (EntryFits b day) m → AllFit (length b.codes) (map (entry_item b) m)
     entries_fit [] fit = tt
     entries_fit (e ∷ m) fit = ((entry_small b book e fit.0.there).fits, entries_fit m fit.1)
 
-    entries_small : (m : List Entry) → AllByRecursion (EntryFits b day) m → variables_of (map (entry_item b) m) ≤ 512 * length m
+    pub entries_small : (m : List Entry) → AllByRecursion (EntryFits b day) m → variables_of (map (entry_item b) m) ≤ 512 * length m
     entries_small [] fit = omega arith
     entries_small (e ∷ m) fit = omega (arith, (entry_small b book e fit.0.there).small, entries_small m fit.1)
 

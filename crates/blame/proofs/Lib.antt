@@ -1,4 +1,8 @@
 pub mod ListLaws
-mod EntryLaws
+pub mod EntryLaws
 mod CodeLaws
-mod ShrinkLaws
+mod ToldLaws
+mod GuardLaws
+mod KeptLaws
+mod AbsentLaws
+mod PlainLaws

@@ -1,6 +1,6 @@
--- Lists of which another has some, and what is left of a list without one of its elements.
+-- Lists of which another has some.
 use Rattle.std.proofs.Common.{◌≡◌, ℕ, zero, suc, ◌+◌, ◌<◌, ◌≤◌, Bool, true, List, [], ◌∷◌, ◌++◌, Some, length, take, get_or, slice_get, refl, sym, ap, subst, ◌∙◌, inl, inr, arith}
-use Rattle.std.specs.List.{remove, list_all, AllByRecursion}
+use Rattle.std.specs.List.{list_all, AllByRecursion}
 use Rattle.std.proofs.lemmas.Bool.{and_parts, and_from}
 use Rattle.std.proofs.lemmas.List.{take_more}
 use Rattle.blame.specs.Entries.{Among}
@@ -19,13 +19,6 @@ module _ {X : Type 0} where
         | inl later ↦ inl (among_among xs h.0 zs h.2 later)
         | inr next ↦ inr (next.0, next.1, among_among xs h.0 next.0 h.2 next.2)
       ]
-
-  pub among_without : (xs ys : List X) (place : ℕ) → place < length ys → Among xs ys → Among xs (remove ys place)
-  among_without [] ys place within h = absurd (omega (arith, ap length h))
-  among_without (x ∷ xs) ys place within (inl h) = inl (among_without xs ys place within h)
-  among_without (x ∷ xs) ys zero within (inr h) = inl (subst (Among xs) (sym (ap (λ (us : List X). remove us 0) h.1)) h.2)
-  among_without (x ∷ xs) ys (suc place) within (inr h) =
-      inr (remove h.0 place, ap (λ (us : List X). remove us (suc place)) h.1, among_without xs h.0 place (omega (arith, ap length h.1)) h.2)
 
   -- one element more, which is taken or left out
   pub among_taken : (xs ys : List X) (x : X) → Among xs ys → Among (xs ++ x ∷ []) (ys ++ x ∷ [])
@@ -55,23 +48,6 @@ module _ {X : Type 0} where
   list_all-among p (x ∷ xs) ys (inr h) all =
       let parts = and_parts (p x) (list_all p xs) all in
       ap (list_all p) h.1 ∙ and_from (p x) (list_all p h.0) parts.0 (list_all-among p xs h.0 h.2 parts.1)
-
-  -- what all elements pass, all but one pass
-  pub list_all-remove : (p : X → Bool) (xs : List X) (place : ℕ) → list_all p xs ≡ true → list_all p (remove xs place) ≡ true
-  list_all-remove p [] zero h = refl
-  list_all-remove p [] (suc place) h = refl
-  list_all-remove p (x ∷ xs) zero h = (and_parts (p x) (list_all p xs) h).1
-  list_all-remove p (x ∷ xs) (suc place) h =
-      let parts = and_parts (p x) (list_all p xs) h in
-      and_from (p x) (list_all p (remove xs place)) parts.0 (list_all-remove p xs place parts.1)
-
-  -- two elements taken out, in either sequence
-  pub remove-remove : (xs : List X) (first second : ℕ) → first ≤ second → suc second < length xs → remove (remove xs first) second ≡ remove (remove xs (suc second)) first
-  remove-remove [] first second order within = absurd (omega arith)
-  remove-remove (x ∷ xs) zero second order within = refl
-  remove-remove (x ∷ xs) (suc first) zero order within = absurd (omega arith)
-  remove-remove (x ∷ xs) (suc first) (suc second) order within =
-      ap (λ (ys : List X). x ∷ ys) (remove-remove xs first second (omega arith) (omega arith))
 
   pub found_within : (xs : List X) (place : ℕ) (x : X) → slice_get xs place ≡ Some x → place < length xs
   found_within [] place x h = cc

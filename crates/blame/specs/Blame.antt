@@ -5,7 +5,7 @@
 --     IsCar b day chosen f x     a car of the day that has the codes and meets the rule
 --     IsNoCar b day chosen f     there is none
 --     IsTold b day chosen f budget told    what is told: a car, or what is to blame, or that the search was left
-use Rattle.std.specs.Prelude.{◌≡◌, ℕ, ◌+◌, ◌<◌, ◌≤◌, Bool, true, false, List, [], ◌∷◌, ◌++◌, None, length, map, slice_get, slice_set}
+use Rattle.std.specs.Prelude.{◌≡◌, ℕ, ◌+◌, ◌<◌, ◌≤◌, Bool, true, false, List, [], ◌∷◌, ◌++◌, None, length, map, slice_get}
 use Rattle.std.specs.Option.{option_map_or}
 use Rattle.std.specs.List.{list_all, remove}
 use Rattle.pb_base.specs.Rule.{Rule, code, always, holds}
@@ -62,13 +62,6 @@ abbrev pub IsLooked : Contents → ℕ → Rule → List Entry → ℕ → Outco
 IsLooked b day f m budget (outcome.Shown x) = IsMetBy b day f m x
 IsLooked b day f m budget (outcome.NotShown at) = IsNone b day f m
 IsLooked b day f m budget (outcome.Left learnt) = IsGivenUp b f m budget learnt.clauses
-
--- the entry at a place goes where none was shown without it, and is needed where one was
-abbrev pub IsSettled : Blamed → Blamed → ℕ → Outcome → Type 0
-IsSettled old new at (outcome.NotShown ref) =
-    (new.entries.items ≡ remove old.entries.items at) × (new.needed.items ≡ remove old.needed.items at)
-IsSettled old new at (outcome.Shown x) = (new.entries.items ≡ old.entries.items) × (new.needed.items ≡ slice_set old.needed.items at true)
-IsSettled old new at (outcome.Left learnt) = (new.entries.items ≡ old.entries.items) × (new.needed.items ≡ old.needed.items)
 
 pub record IsCar (b : Contents) (day : ℕ) (chosen : List ℕ) (f : Rule) (x : List Bool) : Type 0 where
   pub good : is_good b day x ≡ true

@@ -1,2 +1,5 @@
 pub mod Entries
 pub mod Blame
+pub mod Guarding
+pub mod Absent
+pub mod Plain

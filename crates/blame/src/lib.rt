@@ -2,14 +2,24 @@
 #![tactic(auto)]
 
 mod blamed;
+mod codes;
 mod coding;
 mod entries;
+mod guarding;
+mod kept;
 mod looking;
+mod marks;
 mod meeting;
 mod near;
+mod noting;
+mod places;
+mod plain;
 mod rotating;
+mod sets;
 mod shrinking;
 mod telling;
+mod trying;
+mod unused;
 mod used;
 
 pub use blamed::{Blamed, Told};

@@ -1,42 +1,67 @@
 //! Further entries that are needed, found without a search.
 //!
-//! A set that meets all entries but one shows that this one is needed. With one of its codes put in or taken out, the set may meet it
-//! and miss another one alone: then that is needed too. This is called model rotation.
-ghost use Rattle.std.specs.Prelude.{◌≡◌, ◌<◌, length, true, IfOk};
-ghost use Rattle.std.specs.List.{remove};
+//! A set that meets all kept entries but one shows that this one is needed. With one of its codes put in or taken out, the set may meet
+//! it and miss another one alone: then that is needed too. This is called model rotation.
+ghost use Rattle.std.specs.Prelude.{◌≡◌, length, IfOk};
 ghost use Rattle.book_model.specs.Book.{RuleFits};
-ghost use Rattle.blame.specs.Blame.{IsBlame, IsMetBy};
+ghost use Rattle.blame.specs.Guarding.{AreMarked};
 
-use crate::blamed::Blamed;
+use crate::codes::push_codes;
 use crate::entries::Entry;
-use crate::meeting::{meets, meets_all};
-use book_model::{Book, Demand};
-use pb_base::{CodeSet, Day, Formula, Memory, Node};
+use crate::marks::Marks;
+use crate::meeting::meets;
+use crate::noting::note_by;
+use crate::places::Places;
+use crate::sets::{codes_in, set_of};
+use book_model::Book;
+use pb_base::{CodeSet, Day, Formula, Memory};
 use std::alloc::Global;
 
-/// Notes what is needed by a set that meets all entries but one, and by what comes of it.
+// The codes of a set that meets all kept entries but the one at a place.
+#[derive(Drop)]
+struct Lacking {
+    codes: Vec<u32>,
+    at: usize,
+}
+
+/// Notes what else is needed by a set that meets all kept entries but that at a place, and by what comes of it.
 pub(crate) fn rotate(
     alloc: Global,
     book: &Book,
     day: Day,
     rule: &Formula,
-    blamed: &mut Blamed,
+    entries: &[Entry],
+    places: &Places,
+    marks: &mut Marks,
+    at: usize,
     set: &CodeSet,
 ) -> Result<(), Memory>
     requires rule { RuleFits (length book.now.codes) rule.now }
-    requires blame { IsBlame book.now day rule.now blamed.old.entries.items blamed.old.needed.items }
-    ensures entries { blamed.new.entries.items ≡ blamed.old.entries.items }
-    ensures blame { IsBlame book.now day rule.now blamed.new.entries.items blamed.new.needed.items }
+    requires marked { AreMarked book.now day rule.now entries.now marks.old }
+    ensures marked { AreMarked book.now day rule.now entries.now marks.new }
 {
-    let mut sets = Vec::new(alloc);
-    let first = set.copy(alloc)?;
-    sets.push(first)?;
-    // Each entry is noted once, so there are no more sets than entries.
-    let mut left = blamed.entries.len();
+    let mut seen = vec![in alloc; false; entries.len()]?;
+    is_first(&mut seen, at);
+    let mut lacking = Vec::new(alloc);
+    let codes = codes_in(alloc, set)?;
+    lacking.push(Lacking { codes, at })?;
+    // Each entry comes once, so there are no more sets than entries.
+    let mut left = entries.len();
     while left > 0 {
         left -= 1;
-        match sets.pop() {
-            Some(set) => rotate_once(alloc, book, day, rule, blamed, &set, &mut sets)?,
+        match lacking.pop() {
+            Some(one) => rotate_once(
+                alloc,
+                book,
+                day,
+                rule,
+                entries,
+                places,
+                marks,
+                &one,
+                &mut seen,
+                &mut lacking,
+            )?,
             None => return Ok(()),
         }
     }
@@ -49,154 +74,125 @@ fn rotate_once(
     book: &Book,
     day: Day,
     rule: &Formula,
-    blamed: &mut Blamed,
-    set: &CodeSet,
-    sets: &mut Vec<CodeSet>,
+    entries: &[Entry],
+    places: &Places,
+    marks: &mut Marks,
+    one: &Lacking,
+    seen: &mut [bool],
+    lacking: &mut Vec<Lacking>,
 ) -> Result<(), Memory>
     requires rule { RuleFits (length book.now.codes) rule.now }
-    requires blame { IsBlame book.now day rule.now blamed.old.entries.items blamed.old.needed.items }
-    ensures entries { blamed.new.entries.items ≡ blamed.old.entries.items }
-    ensures blame { IsBlame book.now day rule.now blamed.new.entries.items blamed.new.needed.items }
+    requires marked { AreMarked book.now day rule.now entries.now marks.old }
+    ensures marked { AreMarked book.now day rule.now entries.now marks.new }
 {
-    let codes = unmet_codes(alloc, book, day, set, &blamed.entries)?;
-    for code in &codes {
-        let next = changed(alloc, set, *code)?;
-        if notes_need(book, day, rule, blamed, &next) {
-            sets.push(next)?;
+    let mut own = Vec::new(alloc);
+    if let Some(entry) = entries.get(one.at) {
+        push_codes(&mut own, book, *entry)?;
+    }
+    for code in &own {
+        let codes = changed(alloc, &one.codes, *code)?;
+        let set = set_of(alloc, book, &codes)?;
+        if let Some(at) = notes_need(book, day, rule, entries, places, marks, &set, *code) {
+            if is_first(seen, at) {
+                lacking.push(Lacking { codes, at })?;
+            }
         }
     }
     Ok(())
 }
 
-// Where a set meets all entries but one, notes that this one is needed. Whether that is new.
-fn notes_need(book: &Book, day: Day, rule: &Formula, blamed: &mut Blamed, set: &CodeSet) -> bool
-    requires rule { RuleFits (length book.now.codes) rule.now }
-    requires blame { IsBlame book.now day rule.now blamed.old.entries.items blamed.old.needed.items }
-    ensures entries { blamed.new.entries.items ≡ blamed.old.entries.items }
-    ensures blame { IsBlame book.now day rule.now blamed.new.entries.items blamed.new.needed.items }
-{
-    if set.len() != book.codes().len() {
-        return false;
-    }
-    let Some(at) = only_unmet(book, day, set, &blamed.entries) else {
-        return false;
-    };
-    if blamed.needed.get(at) != Some(&false) {
-        return false;
-    }
-    if !shows_need(book, day, rule, set, &blamed.entries, at) {
-        return false;
-    }
-    blamed.needed[at] = true;
-    true
-}
-
-// Whether a set meets the rule and all entries but that at a place.
-fn shows_need(
+// Where a set meets all kept entries but one, notes that this one is needed, and gives its place. Only entries with the code that was
+// changed last are looked at.
+fn notes_need(
     book: &Book,
     day: Day,
     rule: &Formula,
-    set: &CodeSet,
     entries: &[Entry],
-    at: usize,
-) -> bool
+    places: &Places,
+    marks: &mut Marks,
+    set: &CodeSet,
+    code: u32,
+) -> Option<usize>
     requires counted { length set.now ≡ length book.now.codes }
     requires rule { RuleFits (length book.now.codes) rule.now }
-    requires there { at < length entries.now }
-    ensures { result ≡ true → IsMetBy book.now day rule.now (remove entries.now at) set.now }
+    requires marked { AreMarked book.now day rule.now entries.now marks.old }
+    ensures marked { AreMarked book.now day rule.now entries.now marks.new }
 {
-    meets_all(book, day, set, &entries[..at])
-        && meets_all(book, day, set, &entries[at + 1..])
-        && rule.holds(set)
+    let at = only_unmet(book, day, set, entries, places, &marks.kept, code)?;
+    if marks.needed.get(at) == Some(&false) {
+        note_by(book, day, rule, entries, marks, at, set);
+    }
+    if marks.needed.get(at) == Some(&true) {
+        Some(at)
+    } else {
+        None
+    }
 }
 
-// The entry that a set doesn't meet, if there is just one.
-fn only_unmet(book: &Book, day: Day, set: &CodeSet, entries: &[Entry]) -> Option<usize>
+// Whether a place comes the first time.
+fn is_first(seen: &mut [bool], at: usize) -> bool {
+    match seen.get_mut(at) {
+        Some(mark) if !*mark => {
+            *mark = true;
+            true
+        }
+        _ => false,
+    }
+}
+
+// The kept entry with a code that a set doesn't meet, if there is just one.
+fn only_unmet(
+    book: &Book,
+    day: Day,
+    set: &CodeSet,
+    entries: &[Entry],
+    places: &Places,
+    kept: &[bool],
+    code: u32,
+) -> Option<usize>
     requires { length set.now ≡ length book.now.codes }
 {
     let mut only = None;
-    for (place, entry) in entries.iter().enumerate() {
-        if !meets(book, day, set, *entry) {
+    let mut left = places.count(code);
+    while left > 0 {
+        let (place, before) = places.link(left)?;
+        if only != Some(place) && is_unmet(book, day, set, entries, kept, place) {
             if only.is_some() {
                 return None;
             }
             only = Some(place);
         }
+        left = before.min(left - 1);
     }
     only
 }
 
-// The codes of the entry that a set doesn't meet, if there is just one.
-fn unmet_codes(
-    alloc: Global,
+fn is_unmet(
     book: &Book,
     day: Day,
     set: &CodeSet,
     entries: &[Entry],
-) -> Result<Vec<u32>, Memory> {
-    let mut codes = Vec::new(alloc);
-    if set.len() != book.codes().len() {
-        return Ok(codes);
+    kept: &[bool],
+    place: usize,
+) -> bool
+    requires { length set.now ≡ length book.now.codes }
+{
+    match entries.get(place) {
+        Some(entry) => kept.get(place) == Some(&true) && !meets(book, day, set, *entry),
+        None => false,
     }
-    if let Some(at) = only_unmet(book, day, set, entries) {
-        if let Some(entry) = entries.get(at) {
-            push_codes(&mut codes, book, *entry)?;
-        }
-    }
-    Ok(codes)
 }
 
-// Puts the codes of an entry behind others.
-fn push_codes(codes: &mut Vec<u32>, book: &Book, entry: Entry) -> Result<(), Memory> {
-    match entry {
-        Entry::Supplement(place) => {
-            if let Some(supplement) = book.supplements().get(place as usize) {
-                codes.push(supplement.code)?;
-                push_formula(codes, &supplement.rule)?;
-            }
-        }
-        Entry::Construct(place) => {
-            if let Some(construct) = book.constructs().get(place as usize) {
-                push_demand(codes, &construct.demand)?;
-            }
-        }
-        Entry::Chosen(code) => codes.push(code)?,
-    }
-    Ok(())
-}
-
-fn push_demand(codes: &mut Vec<u32>, demand: &Demand) -> Result<(), Memory> {
-    match demand {
-        Demand::Rule { on: None, rule } => push_formula(codes, rule)?,
-        Demand::Rule {
-            on: Some(code),
-            rule,
-        } => {
-            codes.push(*code)?;
-            push_formula(codes, rule)?;
-        }
-        Demand::One(group) => codes.extend_from_slice(group.codes())?,
-        Demand::Most(group) => codes.extend_from_slice(group.codes())?,
-    }
-    Ok(())
-}
-
-fn push_formula(codes: &mut Vec<u32>, rule: &Formula) -> Result<(), Memory> {
-    for node in rule.nodes() {
-        if let Node::Code(code) = node {
-            codes.push(*code)?;
+// These codes without one of them, or with it where it isn't among them.
+fn changed(alloc: Global, codes: &[u32], one: u32) -> Result<Vec<u32>, Memory> {
+    let mut others = Vec::new(alloc);
+    for code in codes {
+        if *code != one {
+            others.push(*code)?;
         }
     }
-    Ok(())
-}
-
-// A set that differs in one code.
-fn changed(alloc: Global, set: &CodeSet, code: u32) -> Result<CodeSet, Memory> {
-    let mut other = CodeSet::none(alloc, set.len())?;
-    for at in 0..set.len() {
-        if set.has(at) != (at == code) {
-            other.with(at);
-        }
+    if others.len() == codes.len() {
+        others.push(one)?;
     }
-    Ok(other)
+    Ok(others)
 }

@@ -8,14 +8,17 @@ ghost use Rattle.blame.specs.Blame.{AreBlamed, AreFew, IsBlame, IsNone, IsTold};
 use crate::blamed::{Blamed, Told};
 use crate::entries::{Entry, all_entries, marked};
 use crate::looking::{Looked, look};
-use crate::near::near_entries;
-use crate::shrinking::shrink;
+use crate::near::{linked_entries, near_entries};
+use crate::shrinking::{shrink, shrink_hinted};
 use crate::used::marks_by;
 use book_model::Book;
 use clause_pool::{Kernel, Ref};
 use item_search::Outcome;
 use pb_base::{Day, Formula, Memory};
 use std::alloc::Global;
+
+// More entries than that are many.
+const MOST_GUARDED: usize = 64;
 
 /// A car of the day that has these codes and meets the rule. If there is none, entries that are to blame: active rules of the day
 /// and some of the codes, of which no set that meets them all meets the rule. Each of them is needed, unless a search without it was
@@ -46,7 +49,8 @@ pub fn find_or_blame(
 }
 
 /// What is to blame of the codes and of the rules in which one of them stands, where these alone leave no set that meets the rule.
-/// Where they leave one, or a search was left, nothing is said.
+/// Where they leave one, the same of all rules that are linked with the codes, unless these are half of all rules or more. Where these
+/// leave one too, or a search was left, nothing is said.
 pub fn blame_near(
     alloc: Global,
     book: &Book,
@@ -115,13 +119,45 @@ fn near_among(
     ensures { IfOk result (λ found. IfSome found (AreBlamed book.now day chosen.now rule.now)) }
 {
     let near = near_entries(alloc, book, chosen, all)?;
-    if near.len() <= chosen.len() {
+    let count = near.len();
+    if count <= chosen.len() {
         return Ok(None);
     }
-    blame_some(alloc, book, day, chosen, rule, budget, all, near)
+    let found = blame_some(alloc, book, day, chosen, rule, budget, all, near)?;
+    match found {
+        Some(blamed) => Ok(Some(blamed)),
+        None => linked_among(alloc, book, day, chosen, rule, budget, all, count),
+    }
 }
 
-// What is to blame of some entries, if these alone leave no set that meets the rule.
+// The same of the rules that are linked with the codes, where these entries are more than so many, and fewer than half of all.
+fn linked_among(
+    alloc: Global,
+    book: &Book,
+    day: Day,
+    chosen: &[u32],
+    rule: &Formula,
+    budget: u32,
+    all: &[Entry],
+    near: usize,
+) -> Result<Option<Blamed>, Memory>
+    requires all { all.now ≡ all_entries book.now day chosen.now }
+    requires fit { All (EntryFits book.now day) all.now }
+    requires few { AreFew all.now }
+    requires rule { RuleFits (length book.now.codes) rule.now }
+    requires some { 0 < budget }
+    requires most { budget ≤ MOST_BUDGET }
+    ensures { IfOk result (λ found. IfSome found (AreBlamed book.now day chosen.now rule.now)) }
+{
+    let linked = linked_entries(alloc, book, chosen, all)?;
+    if linked.len() <= near || linked.len() >= all.len() / 2 {
+        return Ok(None);
+    }
+    blame_some(alloc, book, day, chosen, rule, budget, all, linked)
+}
+
+// What is to blame of some entries, if these alone leave no set that meets the rule. Where they are many, clauses that are learnt
+// with guards speak of most of these, and a search without takes less work.
 fn blame_some(
     alloc: Global,
     book: &Book,
@@ -141,10 +177,38 @@ fn blame_some(
     requires most { budget ≤ MOST_BUDGET }
     ensures { IfOk result (λ found. IfSome found (AreBlamed book.now day chosen.now rule.now)) }
 {
+    if first.len() > MOST_GUARDED {
+        return blame_many(alloc, book, day, chosen, rule, budget, all, first);
+    }
+    let found = shrink_hinted(alloc, book, day, rule, budget, first)?;
+    Ok(found)
+}
+
+// The same by a search without guards.
+fn blame_many(
+    alloc: Global,
+    book: &Book,
+    day: Day,
+    chosen: &[u32],
+    rule: &Formula,
+    budget: u32,
+    all: &[Entry],
+    first: Vec<Entry>,
+) -> Result<Option<Blamed>, Memory>
+    requires all { all.now ≡ all_entries book.now day chosen.now }
+    requires fit { All (EntryFits book.now day) all.now }
+    requires few { AreFew all.now }
+    requires among { Among all.now first.items }
+    requires rule { RuleFits (length book.now.codes) rule.now }
+    requires some { 0 < budget }
+    requires most { budget ≤ MOST_BUDGET }
+    ensures { IfOk result (λ found. IfSome found (AreBlamed book.now day chosen.now rule.now)) }
+{
     let looked = look(alloc, book, day, rule, &first, budget)?;
-    match looked.outcome {
+    let Looked { outcome, marks } = looked;
+    match outcome {
         Outcome::NotShown(_) => {
-            let blamed = blamed_of(alloc, book, day, rule, budget, first, &looked.marks)?;
+            let blamed = blamed_of(alloc, book, day, rule, budget, first, &marks)?;
             Ok(Some(blamed))
         }
         Outcome::Shown(_) => Ok(None),
@@ -207,7 +271,7 @@ fn blamed_of(
 }
 
 // Of all entries those that a search used, if a second search, over them alone, finds that no set meets them together with the
-// rule; else all. Where the search used them all there is nothing to look for.
+// rule; else all. Where the search used most of them a second one gives little.
 fn core_of(
     alloc: Global,
     book: &Book,
@@ -227,7 +291,7 @@ fn core_of(
     ensures none { IfOk result (λ m. IsNone book.now day rule.now m.items) }
 {
     let used = marked(alloc, &all, marks)?;
-    if used.len() == all.len() {
+    if used.len() > all.len() - all.len() / 4 {
         return Ok(all);
     }
     let looked = look(alloc, book, day, rule, &used, budget)?;

@@ -1,2 +1,3 @@
+mod ClashLaws
 mod FindLaws
 mod StayLaws

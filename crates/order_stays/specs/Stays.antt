@@ -7,6 +7,7 @@
 --     IsTogether b day chosen budget together    what is told of whether the codes stay together
 --     IsFoundWith b day kept budget found    what comes of a search for a car that has the codes
 --     codes_literals kept            the literals that the codes are there
+--     codes_of m                     the codes among entries
 use Rattle.std.specs.Prelude.{◌≡◌, ◌⊎◌, ℕ, ◌==◌, Bool, true, false, List, [], ◌∷◌, ◌++◌, map, Option, Some, None}
 use Rattle.std.specs.List.{list_all, list_any, AllByRecursion}
 use Rattle.pb_base.specs.Rule.{always}
@@ -17,6 +18,8 @@ use Rattle.clause_pool.specs.Literal.{literal}
 use Rattle.clause_pool.specs.PoolContents.{PoolContents}
 use Rattle.blame.specs.Blame.{AreBlamed, IsGivenUp}
 use Rattle.blame.specs.Entries.{all_entries, Among}
+use Rattle.blame.specs.declared.entries.Entry.{Entry}
+use Rattle.blame.specs.declared.entries.Entry.TheVariants.{Supplement, Construct, Chosen}
 use Rattle.order_stays.specs.declared.finding.Found.{Found}
 use Rattle.order_stays.specs.declared.finding.Found.TheVariants as found
 use Rattle.order_stays.specs.declared.stay.Stay.{Stay}
@@ -83,3 +86,9 @@ IsFoundWith b day kept budget (found.Undecided learnt) = IsGivenUp b always (all
 
 abbrev pub codes_literals : List ℕ → List ℕ
 codes_literals kept = map (λ c. literal c true) kept
+
+abbrev pub codes_of : List Entry → List ℕ
+codes_of [] = []
+codes_of (Supplement p ∷ m) = codes_of m
+codes_of (Construct p ∷ m) = codes_of m
+codes_of (Chosen c ∷ m) = c ∷ codes_of m

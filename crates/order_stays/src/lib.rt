@@ -1,6 +1,7 @@
 //! Which codes of an order can stay together, and which have to be left out.
 #![tactic(auto)]
 
+mod clash;
 mod finding;
 mod stay;
 mod staying;

@@ -1,8 +1,8 @@
 //! Whether codes can stay together, and what is to blame if they can't.
 //!
 //! One solver over the rules of the day serves the search for a car that has them all, the hint what is to blame that there is none, and
-//! the searches for the codes that stay. Rules in which one of the codes stands are looked at before: a clash as a rule is by these,
-//! and is told then with no coding of all rules.
+//! the searches for the codes that stay. Rules in which one of the codes stands, and those that are linked with these, are looked at
+//! before: a clash as a rule is by these.
 ghost use Rattle.std.specs.Prelude.{◌≡◌, ◌<◌, ◌≤◌, All, IfOk, length};
 ghost use Rattle.pb_base.specs.Rule.{always as true_rule};
 ghost use Rattle.pb_base.specs.declared.limits.TheConstants.{MOST_BUDGET, MOST_CODES};
@@ -11,9 +11,10 @@ ghost use Rattle.item_search.specs.Search.{IsOver};
 ghost use Rattle.blame.specs.Blame.{AreBlamed};
 ghost use Rattle.order_stays.specs.Stays.{IsTogether};
 
+use crate::clash::codes_of;
 use crate::finding::{hint_codes, search_with, solver_of};
 use crate::stay::Together;
-use crate::staying::{codes_that_stay, staying_with};
+use crate::staying::{staying_by, staying_known};
 use blame::{Blamed, Told, blame_by, blame_near, find_or_blame};
 use book_model::Book;
 use clause_pool::Ref;
@@ -63,7 +64,8 @@ fn apart(
     requires most { budget ≤ MOST_BUDGET }
     ensures { IfOk result (IsTogether book.now day chosen.now budget) }
 {
-    let staying = codes_that_stay(alloc, book, day, chosen, budget)?;
+    let codes = codes_of(alloc, &clash.entries)?;
+    let staying = staying_known(alloc, book, day, chosen, budget, &codes)?;
     Ok(Together::Apart(clash, staying))
 }
 
@@ -160,8 +162,9 @@ fn apart_with(
     requires most { budget ≤ MOST_BUDGET }
     ensures { IfOk result (IsTogether book.now day chosen.now budget) }
 {
+    let codes = codes_of(alloc, &clash.entries)?;
     hint_codes(alloc, solver, chosen)?;
-    let staying = staying_with(alloc, book, day, chosen, budget, solver)?;
+    let staying = staying_by(alloc, book, day, chosen, budget, solver, &codes)?;
     Ok(Together::Apart(clash, staying))
 }
 

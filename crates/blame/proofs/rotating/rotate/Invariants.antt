@@ -1,10 +1,8 @@
-use Rattle.std.proofs.Common.{◌≡◌}
-use Rattle.blame.specs.Blame.{IsBlame}
+use Rattle.blame.specs.Guarding.{AreMarked}
 use Rattle.blame.proofs.rotating.rotate.Given as goal
 
 abbrev pub invariant-loop-left : goal.invariant-loop-left
-invariant-loop-left l =
-    (l.blamed.entries.items ≡ l.initial.blamed.entries.items) × IsBlame l.book l.day l.rule l.blamed.entries.items l.blamed.needed.items
+invariant-loop-left l = AreMarked l.book l.day l.rule l.entries l.marks
 
 abbrev pub decreases-loop-left : goal.decreases-loop-left
 decreases-loop-left l = l.left

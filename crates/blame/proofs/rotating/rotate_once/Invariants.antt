@@ -1,7 +1,5 @@
-use Rattle.std.proofs.Common.{◌≡◌}
-use Rattle.blame.specs.Blame.{IsBlame}
+use Rattle.blame.specs.Guarding.{AreMarked}
 use Rattle.blame.proofs.rotating.rotate_once.Given as goal
 
 abbrev pub invariant-loop-code : goal.invariant-loop-code
-invariant-loop-code l =
-    (l.blamed.entries.items ≡ l.initial.blamed.entries.items) × IsBlame l.book l.day l.rule l.blamed.entries.items l.blamed.needed.items
+invariant-loop-code l = AreMarked l.book l.day l.rule l.entries l.marks

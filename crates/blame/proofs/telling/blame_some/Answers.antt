@@ -1,29 +1,13 @@
-use Rattle.std.proofs.Common.{refl, subst}
-use Rattle.blame.specs.Blame.{IsNone}
-use Rattle.blame.proofs.ShrinkLaws.{blamed_by, fit_among, few_among, moved_among}
+use Rattle.blame.proofs.ToldLaws.{fit_among, few_among, hinted_by}
 use Rattle.blame.proofs.telling.blame_some.Goals as goal
 
-pub look-requires-clause-fit : goal.look-requires-clause-fit
-look-requires-clause-fit c =
-    fit_among c.args.book.now c.args.day c.args.all.now c.deref.result.now c.requires.fit
-    (moved_among c.args.all.now c.args.all.now c.args.first.items c.deref.result.now refl c.deref.ensures.value c.requires.among)
+pub shrink_hinted-requires-clause-fit : goal.shrink_hinted-requires-clause-fit
+shrink_hinted-requires-clause-fit c = fit_among c.args.book.now c.args.day c.args.all.now c.args.first.items c.requires.fit c.requires.among
 
-pub look-requires-clause-few : goal.look-requires-clause-few
-look-requires-clause-few c =
-    few_among c.args.all.now c.deref.result.now c.requires.few
-    (moved_among c.args.all.now c.args.all.now c.args.first.items c.deref.result.now refl c.deref.ensures.value c.requires.among)
+pub shrink_hinted-requires-clause-few : goal.shrink_hinted-requires-clause-few
+shrink_hinted-requires-clause-few c = few_among c.args.all.now c.args.first.items c.requires.few c.requires.among
 
-pub blamed_of-requires-clause-fit : goal.blamed_of-requires-clause-fit
-blamed_of-requires-clause-fit c = fit_among c.args.book.now c.args.day c.args.all.now c.args.first.items c.requires.fit c.requires.among
-
-pub blamed_of-requires-clause-few : goal.blamed_of-requires-clause-few
-blamed_of-requires-clause-few c = few_among c.args.all.now c.args.first.items c.requires.few c.requires.among
-
-pub blamed_of-requires-clause-none : goal.blamed_of-requires-clause-none
-blamed_of-requires-clause-none c =
-    subst (IsNone c.args.book.now c.args.day c.args.rule.now) c.deref.ensures.value (rw c.in-NotShown.is at c.in_ok-looked.ensures)
-
-pub returns-in_ok-blamed-in-NotShown : goal.returns-in_ok-blamed-in-NotShown
-returns-in_ok-blamed-in-NotShown c =
-    blamed_by c.args.book.now c.args.day c.args.rule.now c.args.chosen.now c.args.all.now c.args.first.items c.in_ok-blamed-in-NotShown.blamed
-    c.requires.all c.requires.among c.in_ok-blamed-in-NotShown.ensures.among c.in_ok-blamed-in-NotShown.ensures.blame
+pub returns : goal.returns
+returns c =
+    hinted_by c.args.book.now c.args.day c.args.rule.now c.args.chosen.now c.args.all.now c.args.first.items c.in_ok-found.found
+    c.requires.all c.requires.among c.in_ok-found.ensures.among c.in_ok-found.ensures.blame

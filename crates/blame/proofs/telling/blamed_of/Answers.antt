@@ -1,5 +1,5 @@
 use Rattle.blame.proofs.ListLaws.{among_among}
-use Rattle.blame.proofs.ShrinkLaws.{fit_among, few_among}
+use Rattle.blame.proofs.ToldLaws.{fit_among, few_among}
 use Rattle.blame.proofs.telling.blamed_of.Goals as goal
 
 pub shrink-requires-clause-fit : goal.shrink-requires-clause-fit

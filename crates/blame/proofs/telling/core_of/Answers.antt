@@ -1,7 +1,7 @@
 use Rattle.std.proofs.Common.{refl, subst}
 use Rattle.blame.specs.Blame.{IsNone}
 use Rattle.blame.proofs.ListLaws.{among_self}
-use Rattle.blame.proofs.ShrinkLaws.{fit_among, few_among, moved_among}
+use Rattle.blame.proofs.ToldLaws.{fit_among, few_among, moved_among}
 use Rattle.blame.proofs.telling.core_of.Goals as goal
 
 pub look-requires-clause-fit : goal.look-requires-clause-fit

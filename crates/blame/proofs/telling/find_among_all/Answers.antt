@@ -2,7 +2,7 @@ use Rattle.std.proofs.Common.{List, subst, ◌∙◌}
 use Rattle.blame.specs.Blame.{IsGivenUp, IsNone}
 use Rattle.blame.specs.declared.entries.Entry.{Entry}
 use Rattle.blame.proofs.ListLaws.{among_self}
-use Rattle.blame.proofs.ShrinkLaws.{blamed_by, car_by}
+use Rattle.blame.proofs.ToldLaws.{blamed_by, car_by}
 use Rattle.blame.proofs.telling.find_among_all.Goals as goal
 
 pub blamed_of-requires-clause-none : goal.blamed_of-requires-clause-none

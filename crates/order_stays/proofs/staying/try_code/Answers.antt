@@ -6,13 +6,13 @@ use Rattle.order_stays.proofs.staying.try_code.Goals as goal
 pub has-requires : goal.has-requires
 has-requires c = within_car c.args.book.now c.args.day c.args.code c.args.stay.now.car c.requires.car.good c.requires.within
 
-pub find_with-requires-clause-kept : goal.find_with-requires-clause-kept
-find_with-requires-clause-kept c =
+pub find_unless-requires-clause-kept : goal.find_unless-requires-clause-kept
+find_unless-requires-clause-kept c =
     tried_within c.args.book.now c.args.day c.args.code c.args.stay.now c.deref.result.now (c.deref.ensures.value ∙ c.in_ok-push.ensures.items) c.requires.car
     c.requires.kept c.requires.within
 
-pub find_with-requires-clause-few : goal.find_with-requires-clause-few
-find_with-requires-clause-few c =
+pub find_unless-requires-clause-few : goal.find_unless-requires-clause-few
+find_unless-requires-clause-few c =
     tried_few c.args.book.now c.args.day c.args.code c.args.stay.now c.deref.result.now (c.deref.ensures.value ∙ c.in_ok-push.ensures.items) c.requires.car c.requires.few
 
 pub returns-then-has-clause-tried : goal.returns-then-has-clause-tried

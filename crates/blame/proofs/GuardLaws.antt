@@ -1,0 +1,269 @@
+-- A solver over entries, each behind its guard: which sets pass its test, and what it says that no set passes.
+use Rattle.std.proofs.Common.{◌≡◌, ℕ, ◌+◌, ◌*◌, ◌<◌, ◌≤◌, Bool, true, false, not, ◌&&◌, ◌||◌, List, [], ◌∷◌, ◌++◌, Some, None, length, map, get_or, slice_get, refl, sym, ap, subst, ◌∙◌, inl, inr, arith, All, length-append, eqb, filter, slice_index_or, replicate}
+use Rattle.std.proofs.lemmas.Bool.{and_from, cases_Bool, cond-true, cond-false, or_cases, or_left, or_right, false_from_ne_true, false≢true}
+use Rattle.std.proofs.lemmas.List.{append-nil, length-replicate}
+use Rattle.std.proofs.lemmas.List.Elements.{recursion_from_All}
+use Rattle.std.proofs.lemmas.Option.{slice_get-get_or, get_or_from_slice_get, slice_get_within}
+use Rattle.pb_base.specs.Rule.{Rule, holds}
+use Rattle.pb_base.specs.Sets.{has}
+use Rattle.book_model.specs.Book.{IsBook, RuleFits}
+use Rattle.book_model.specs.Contents.{Contents}
+use Rattle.chains.specs.Growth.{given_of}
+use Rattle.clause_pool.specs.Literal.{literal, complement, is_true}
+use Rattle.clause_pool.specs.Clause.{clause_of, has as has_literal, AreBelow}
+use Rattle.clause_pool.specs.Derivation.{Derivation}
+use Rattle.clausify.specs.Formulas.{connectives}
+use Rattle.clausify.specs.Items.{rule_item}
+use Rattle.clausify.specs.Lifting.{CodesJust}
+use Rattle.clausify.specs.declared.encoder.Encoder.{Encoder}
+use Rattle.clausify.proofs.Bounds.{connectives_below}
+use Rattle.clausify.proofs.ItemLaws.{meets, item_fits}
+use Rattle.clausify.proofs.ListLaws.{all-append}
+use Rattle.clausify.proofs.Truth.{true_positive}
+use Rattle.guarded_rules.specs.Guarded.{GuardedItem, guarded, guarded_variables, meets_all_guarded, AllGuardedFit, EncodesGuarded, IsGuarded}
+use Rattle.clausify.proofs.AgreeLaws.{Agree, appended_agree, meets_agree, fits_more}
+use Rattle.guarded_rules.proofs.FitLaws.{guard_appended, fits_guarded}
+use Rattle.guarded_rules.proofs.GuardedLaws.{AllMeetGuarded, all_from_met}
+use Rattle.guarded_rules.proofs.MadeLaws.{guarded_variables-append, guarded_item, guarded_plain, made_below, made_just}
+use Rattle.item_search.specs.Search.{IsMadeOf, IsRefused, denied_literals}
+use Rattle.item_search.proofs.SearchLaws.{refused_denied}
+use Rattle.solver.specs.Solver.{Solving}
+use Rattle.blame.specs.Absent.{absent_clause, are_absent, IsUnused, IsDenied}
+use Rattle.blame.specs.Blame.{AreFew, entry_item}
+use Rattle.blame.specs.Entries.{EntryFits}
+use Rattle.blame.specs.Guarding.{IsOn, AreItems, MayAdd, AreFurther, further_true, IsMade, MeetsKept, AreMarked, IsGuardOf, AreGuards, AreFewer, AreStill, IsUntried, IsGuarding}
+use Rattle.blame.specs.declared.entries.Entry.{Entry}
+use Rattle.blame.specs.declared.marks.Marks.{Marks}
+use Rattle.blame.proofs.AbsentLaws.{just_absent, absent_below, unused_low, absented}
+use Rattle.blame.proofs.CodeLaws.{entry_meets, entry_small, entry_at}
+use Rattle.blame.proofs.KeptLaws.{none_needed}
+use Rattle.blame.proofs.PlainLaws.{just_further, further_below}
+
+-- how far the clauses of the items are made
+pub record Guarding (b : Contents) (m : List Entry) (i : ℕ) (e : Encoder) : Type 0 where
+  pub truth : e.truth ≡ length b.codes + length m
+  pub items : List GuardedItem
+  pub made : IsGuarded items e
+  pub fit : AllGuardedFit (length b.codes + length m) items
+  pub small : guarded_variables items ≤ 512 * i
+  pub met : (y : List Bool) → IsOn b m y → AllMeetGuarded y items
+
+pub guarding_none : (b : Contents) (m : List Entry) (e : Encoder) → IsGuarded [] e → e.truth ≡ length b.codes + length m → Guarding b m 0 e
+guarding_none b m e made truth = record { truth = truth; items = []; made = made; fit = tt; small = omega arith; met = λ y on. tt }
+
+unless_on : (on met : Bool) → (on ≡ true → met ≡ true) → (not on || met) ≡ true
+unless_on true met h = h refl
+unless_on false met h = refl
+
+module _ (b : Contents) (day : ℕ) (book : IsBook b) where
+  pub item_in : (m : List Entry) (i : ℕ) (d : Entry) → All (EntryFits b day) m → i < length m → item_fits (length b.codes + length m) (entry_item b (get_or m i d)) ≡ true
+  item_in m i d fit within =
+      fits_more (length b.codes) (length b.codes + length m) (omega arith) (entry_item b (get_or m i d)) (entry_small b book (get_or m i d) (entry_at b day m i d fit within).there).fits
+
+  pub guarding_more : (m : List Entry) (i g : ℕ) (d : Entry) (e e2 : Encoder) → All (EntryFits b day) m → i < length m → g ≡ length b.codes + i → Guarding b m i e
+      → MayAdd e e2 (guarded (Some g) (entry_item b (get_or m i d))) → Guarding b m (i + 1) e2
+  guarding_more m i g d e e2 fit within is h (inl more) =
+      let x : Entry = get_or m i d in
+      let one : GuardedItem = guarded (Some g) (entry_item b x) in
+      let small : connectives (entry_item b x).rule ≤ 512 = (entry_small b book x (entry_at b day m i d fit within).there).small in
+      record {
+        truth = more.truth ∙ h.truth;
+        items = h.items ++ one ∷ [];
+        made = guarded_item h.items one e e2 h.made more;
+        fit = all-append _ h.items (one ∷ []) h.fit (record { guard = omega (arith, is, within); item = item_in m i d fit within }, tt);
+        small = omega (arith, guarded_variables-append h.items (one ∷ []), h.small, small);
+        met = λ y on.
+            all-append _ h.items (one ∷ []) (h.met y on)
+            (unless_on (has y g) (meets y (entry_item b x)) (λ there. on i x (slice_get-get_or m i d within) (ap (has y) (sym is) ∙ there)), tt);
+      }
+  guarding_more m i g d e e2 fit within is h (inr none) = record {
+    truth = none.truth ∙ h.truth;
+    items = h.items;
+    made = subst (λ (js : List GuardedItem). IsGuarded js e2) (append-nil h.items) (guarded_plain h.items [] e e2 h.made none);
+    fit = h.fit;
+    small = omega (arith, h.small);
+    met = h.met;
+  }
+
+  rule_fits : (f : Rule) → RuleFits (length b.codes) f → item_fits (length b.codes) (rule_item None f) ≡ true
+  rule_fits f rule = and_from _ _ rule.in_range refl
+
+  -- all of them, with the rule
+  pub guarding_all : (m : List Entry) (f : Rule) (i : ℕ) (e e2 : Encoder) → RuleFits (length b.codes) f → Guarding b m i e → EncodesGuarded e e2 (guarded None (rule_item None f))
+      → AreItems b m f e2
+  guarding_all m f i e e2 rule h more =
+      let one : GuardedItem = guarded None (rule_item None f) in
+      record {
+        items = h.items ++ one ∷ [];
+        made = guarded_item h.items one e e2 h.made more;
+        fit =
+            all-append _ h.items (one ∷ []) h.fit
+            (fits_guarded (length b.codes) (length b.codes + length m) (omega arith) None tt (rule_item None f) (rule_fits f rule), tt);
+        met = λ y on holds_. all_from_met y (h.items ++ one ∷ []) (all-append _ h.items (one ∷ []) (h.met y on) (holds_, tt));
+      }
+
+  found_fits : (m : List Entry) (k : ℕ) (e : Entry) → All (EntryFits b day) m → slice_get m k ≡ Some e → EntryFits b day e
+  found_fits m k e fit there =
+      subst (EntryFits b day) (get_or_from_slice_get m k e e there) (entry_at b day m k e fit (slice_get_within m k e there))
+
+  -- a set with just the guards of kept entries that it meets
+  kept_on : (m : List Entry) (x kept : List Bool) → All (EntryFits b day) m → length x ≡ length b.codes → Agree (length b.codes) x (x ++ kept)
+      → ((k : ℕ) → has (x ++ kept) (length b.codes + k) ≡ has kept k) → MeetsKept b day x m kept → IsOn b m (x ++ kept)
+  kept_on m x kept fit counted agree guards met k e there on =
+      let fits : EntryFits b day e = found_fits m k e fit there in
+      meets_agree (length b.codes) x (x ++ kept) agree (entry_item b e) (entry_small b book e fits.there).fits
+      ∙ entry_meets b day x e fits.active
+      ∙ met k e there (sym (guards k) ∙ on)
+
+  -- what the clauses of the items and the further ones say
+  just_second : (m : List Entry) (f : Rule) (first second : Encoder) (items : AreItems b m f first) (further : AreFurther b m first second)
+      → first.truth ≡ length b.codes + length m
+      → CodesJust (length b.codes + length m) (λ x. meets_all_guarded items.items x && further_true further.lists x) second.pool.clauses second.next
+  just_second m f first second items further truth =
+      let all : ℕ = length b.codes + length m in
+      let test : List Bool → Bool = meets_all_guarded items.items in
+      let both : List Bool → Bool = λ x. test x && further_true further.lists x in
+      let just : CodesJust all test first.pool.clauses first.next =
+      subst (λ (k : ℕ). CodesJust k test first.pool.clauses first.next) truth
+      (made_just items.items first (subst (λ (k : ℕ). AllGuardedFit k items.items) (sym truth) items.fit) items.made) in
+      let next : second.next ≡ first.next = omega (arith, further.made.next) in
+      subst (λ (v : ℕ). CodesJust all both second.pool.clauses v) (sym next)
+      (subst (λ (cs : List (List ℕ)). CodesJust all both cs first.next) (sym further.made.clauses)
+      (just_further all first.next test first.pool.clauses further.lists further.low just))
+
+  first_truth : (m : List Entry) (f : Rule) (e : Encoder) (made : IsMade b m f e) → e.truth ≡ length b.codes + length m → made.first.truth ≡ length b.codes + length m
+  first_truth m f e made truth = sym made.further.made.truth ∙ sym made.denied.made.truth ∙ truth
+
+  -- what the solver over all of them says
+  pub guarding_by : (m : List Entry) (f : Rule) (e : Encoder) (s : Solving) → All (EntryFits b day) m → RuleFits (length b.codes) f
+      → e.truth ≡ length b.codes + length m → IsMade b m f e → IsMadeOf e s → IsGuarding b day f m s
+  guarding_by m f e s fit rule truth made over =
+      let n : ℕ = length b.codes in
+      let all : ℕ = n + length m in
+      let second : Encoder = made.second in
+      let denied : IsDenied n second e = made.denied in
+      let us : List ℕ = denied.unused in
+      let both : List Bool → Bool = λ x. meets_all_guarded made.items.items x && further_true made.further.lists x in
+      let free = recursion_from_All (IsUnused denied.used) us denied.free in
+      let room : length denied.used ≤ all = omega (arith, denied.counted) in
+      let just : CodesJust all both second.pool.clauses second.next = just_second m f made.first second made.items made.further (first_truth m f e made truth) in
+      let next : s.vars ≡ second.next = omega (arith, over.variables, denied.made.next) in
+      record {
+        test = λ x. both x && are_absent us x;
+        sets = record {
+          just =
+              subst (λ (v : ℕ). CodesJust all (λ x. both x && are_absent us x) (given_of s.kernel) v) (sym next)
+              (subst (λ (cs : List (List ℕ)). CodesJust all (λ x. both x && are_absent us x) cs second.next) (sym (over.clauses ∙ denied.made.clauses))
+              (just_absent all second.next both second.pool.clauses us (unused_low denied.used all us room free) just));
+          codes = over.codes ∙ truth;
+          within = omega (arith, truth, first_truth m f e made truth, next, made.further.made.next, made.items.made.variables);
+        };
+        passes = λ x kept counted marked met h.
+            let y : List Bool = x ++ kept in
+            let agree : Agree n x y = subst (λ (k : ℕ). Agree k x y) counted (appended_agree x kept) in
+            let guards : (k : ℕ) → has y (n + k) ≡ has kept k = λ k. ap (λ (j : ℕ). has y (j + k)) (sym counted) ∙ guard_appended x kept k in
+            let on : IsOn b m y = kept_on m x kept fit counted agree guards met in
+            let true_ : holds f y ≡ true = meets_agree n x y agree (rule_item None f) (rule_fits f rule) ∙ h in
+            let z = absented n all second.next both second.pool.clauses denied.used us denied.counted (omega arith) denied.stands free just y
+            (length-append x kept ∙ ap (λ (k : ℕ). k + length kept) counted ∙ ap (λ (k : ℕ). n + k) marked)
+            (and_from (meets_all_guarded made.items.items y) (further_true made.further.lists y) (made.items.met y on true_) (made.further.met y on)) in (
+              z.0,
+              (z.1.counted, z.1.passes, λ k inside. z.1.same (n + k) (omega arith) (omega (arith, inside)) ∙ guards k),
+            );
+      }
+
+  -- what the solver asks of these clauses
+  pub made_low : (m : List Entry) (f : Rule) (e : Encoder) → e.truth ≡ length b.codes + length m → IsMade b m f e → AreBelow (2 * e.next) e.pool.clauses
+  made_low m f e truth made =
+      let n : ℕ = length b.codes in
+      let all : ℕ = n + length m in
+      let denied : IsDenied n made.second e = made.denied in
+      let further : AreFurther b m made.first made.second = made.further in
+      let started : made.first.truth ≡ all = first_truth m f e made truth in
+      let next : e.next ≡ made.first.next = omega (arith, denied.made.next, further.made.next) in
+      let room : all ≤ e.next = omega (arith, next, made.items.made.variables, started) in
+      let low = made_below made.items.items made.first (subst (λ (k : ℕ). AllGuardedFit k made.items.items) (sym started) made.items.fit) made.items.made in
+      subst (AreBelow (2 * e.next)) (sym (denied.made.clauses ∙ ap (λ (cs : List (List ℕ)). cs ++ map absent_clause denied.unused) further.made.clauses))
+      (all-append _ (made.first.pool.clauses ++ map clause_of further.lists) (map absent_clause denied.unused)
+      (all-append _ made.first.pool.clauses (map clause_of further.lists) (subst (λ (k : ℕ). AreBelow (2 * k) made.first.pool.clauses) (sym next) low)
+      (further_below all e.next further.lists room further.low))
+      (absent_below e.next denied.unused
+      (unused_low denied.used e.next denied.unused (omega (arith, denied.counted, room)) (recursion_from_All (IsUnused denied.used) denied.unused denied.free))))
+
+  pub made_room : (m : List Entry) (f : Rule) (e : Encoder) → IsMade b m f e → e.truth ≤ e.next
+  made_room m f e made =
+      omega (arith, made.denied.made.next, made.denied.made.truth, made.further.made.next, made.further.made.truth, made.items.made.variables)
+
+  room_by : (m : List Entry) (i : ℕ) (e : Encoder) → i ≤ length m → AreFew m → Guarding b m i e → e.next + 512 < 4294967296
+  room_by m i e within few h = omega (arith, h.truth, h.made.variables, h.small, within, few, book.codes_limit)
+
+  pub guarded_room : (m : List Entry) (i : ℕ) (d : Entry) (e : Encoder) → All (EntryFits b day) m → i < length m → AreFew m → Guarding b m i e
+      → e.next + connectives (entry_item b (get_or m i d)).rule < 4294967296
+  guarded_room m i d e fit within few h =
+      omega (arith, room_by m i e (omega arith) few h, (entry_small b book (get_or m i d) (entry_at b day m i d fit within).there).small)
+
+  pub guarded_rule_room : (m : List Entry) (f : Rule) (i : ℕ) (e : Encoder) → RuleFits (length b.codes) f → AreFew m → i ≤ length m → Guarding b m i e
+      → e.next + connectives f < 4294967296
+  guarded_rule_room m f i e rule few within h = omega (arith, room_by m i e within few h, connectives_below f, rule.size)
+
+-- what is in some of a list is in the list
+in_filter : (w : ℕ → Bool) (ls : List ℕ) (l : ℕ) → has_literal (filter w ls) l ≡ true → has_literal ls l ≡ true
+in_filter w [] l h = h
+in_filter w (x ∷ ls) l h =
+    elim (cases_Bool (w x)) [
+      | inl stays ↦
+          elim (or_cases (eqb x l) (has_literal (filter w ls) l) (sym (ap (λ (ks : List ℕ). has_literal ks l) (cond-true (w x) (x ∷ filter w ls) (filter w ls) stays)) ∙ h)) [
+            | inl same ↦ or_left (eqb x l) (has_literal ls l) same
+            | inr later ↦ or_right (eqb x l) (has_literal ls l) (in_filter w ls l later)
+          ]
+      | inr goes ↦
+          or_right (eqb x l) (has_literal ls l) (in_filter w ls l (sym (ap (λ (ks : List ℕ). has_literal ks l) (cond-false (w x) (x ∷ filter w ls) (filter w ls) goes)) ∙ h))
+    ]
+
+-- the entries that a search made use of are enough
+module _ (b : Contents) (day : ℕ) (f : Rule) (m : List Entry) (s : Solving) (guarding : IsGuarding b day f m s) (k : Derivation) (lits used : List ℕ) (at but n : ℕ) (old new : Marks)
+    (first : n ≡ length b.codes) (refused : IsRefused (length b.codes + length m) guarding.test k lits at) (is : used ≡ denied_literals k at lits)
+    (guards : AreGuards n old.kept.items but lits) (fewer : AreFewer old.kept.items new.kept.items) (still : AreStill n used old.kept.items new.kept.items) where
+  none_used : length old.kept.items ≡ length m → (x : List Bool) → length x ≡ length b.codes → MeetsKept b day x m new.kept.items → holds f x ≡ false
+  none_used counted_old x counted met =
+      false_from_ne_true (holds f x) (λ yes_.
+      let p = guarding.passes x new.kept.items counted (fewer.counted ∙ counted_old) met yes_ in
+      refused_denied (length b.codes + length m) guarding.test k lits at refused p.0
+      (record {
+        counted = p.1.0;
+        passes = p.1.1;
+        lits_true = λ l is_in.
+            let g : IsGuardOf n old.kept.items but l = guards l (in_filter (λ (j : ℕ). has_literal (slice_index_or k.clauses at []) (complement j)) lits l is_in) in
+            let named : has_literal used (literal (n + g.place) true) ≡ true =
+            subst (λ (j : ℕ). has_literal used j ≡ true) g.is (ap (λ (ls : List ℕ). has_literal ls l) is ∙ is_in) in
+            let inside : g.place < length m = subst (λ (j : ℕ). g.place < j) counted_old g.inside in
+            ap (is_true (has p.0)) g.is
+            ∙ true_positive (has p.0) (n + g.place)
+            ∙ ap (λ (j : ℕ). has p.0 (j + g.place)) first
+            ∙ p.1.2 g.place inside
+            ∙ still g.place g.inside g.is_kept named;
+      }))
+
+  pub marked_used : new.needed.items ≡ old.needed.items → AreMarked b day f m old → AreMarked b day f m new
+  marked_used same h = record {
+    kept_counted = fewer.counted ∙ h.kept_counted;
+    needed_counted = ap length same ∙ h.needed_counted;
+    none = none_used h.kept_counted;
+    each = λ j needed.
+        let e = h.each j (sym (ap (λ (ts : List Bool). has ts j) same) ∙ needed) in (
+          e.0,
+          record { counted = e.1.counted; meets = λ i d there kept other. e.1.meets i d there (fewer.fewer i kept) other; holds_there = e.1.holds_there },
+        );
+  }
+
+  -- and so they are where all were kept, and none is known to be needed
+  pub marked_first : new.needed.items ≡ old.needed.items → IsUntried (length m) old → AreMarked b day f m new
+  marked_first same h =
+      let counted_old : length old.kept.items ≡ length m = ap length h.kept ∙ length-replicate (length m) true in
+      let none : new.needed.items ≡ replicate (length m) false = same ∙ h.needed in
+      record {
+        kept_counted = fewer.counted ∙ counted_old;
+        needed_counted = ap length none ∙ length-replicate (length m) false;
+        none = none_used counted_old;
+        each = λ j needed. absurd (false≢true (sym (none_needed (length m) j) ∙ sym (ap (λ (ts : List Bool). has ts j) none) ∙ needed));
+      }

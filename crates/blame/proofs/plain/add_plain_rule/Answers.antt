@@ -1,0 +1,22 @@
+use Rattle.std.proofs.Common.{List, ℕ, [], ◌∷◌, sym, subst}
+use Rattle.clause_pool.specs.Clause.{clause_of}
+use Rattle.clausify.specs.Encoding.{EncodesAlone}
+use Rattle.clausify.specs.Items.{rule_item}
+use Rattle.clausify.specs.declared.encoder.Encoder.{Encoder}
+use Rattle.blame.specs.Plain.{AddsPlain}
+use Rattle.blame.proofs.PlainLaws.{plain_added, plain_none}
+use Rattle.blame.proofs.plain.add_plain_rule.Goals as goal
+use Rattle.blame.proofs.plain.add_plain_rule.Goals.{then-branch+in_ok-clause, else-branch}
+
+pub returns : goal.returns
+returns c =
+    elim c.if-branch.branch [
+      | then-branch+in_ok-clause w ↦
+          subst (λ (e : Encoder). AddsPlain c.args.guard (rule_item c.args.on c.args.rule.now) c.args.encoder.now e) (sym w.encoder-is)
+          (plain_added c.args.guard c.args.on c.args.rule.now c.in_ok-lits.lits.items c.push_literals.new.lits.items c.args.encoder.now w.clause.new.self c.in_ok-lits.ensures
+          (c.in_ok-push_literals.ensures w.if-branch.true)
+          (subst (λ (ls : List ℕ). EncodesAlone c.args.encoder.now w.clause.new.self (clause_of ls ∷ [])) w.deref.ensures.value w.in_ok-clause.ensures))
+      | else-branch w ↦
+          subst (λ (e : Encoder). AddsPlain c.args.guard (rule_item c.args.on c.args.rule.now) c.args.encoder.now e) (sym w.encoder-is)
+          (plain_none c.args.guard (rule_item c.args.on c.args.rule.now) c.args.encoder.now)
+    ]

@@ -1,0 +1,23 @@
+//! Which entries are kept, and which are needed.
+ghost use Rattle.std.specs.Prelude.{IfOk};
+ghost use Rattle.blame.specs.Guarding.{IsUntried};
+
+use pb_base::Memory;
+use std::alloc::Global;
+
+/// Marks of entries, by their places.
+#[derive(Drop)]
+pub(crate) struct Marks {
+    pub(crate) kept: Vec<bool>,
+    pub(crate) needed: Vec<bool>,
+}
+
+/// All of so many are kept, and none is known to be needed.
+pub(crate) fn untried(alloc: Global, count: usize) -> Result<Marks, Memory>
+    ensures { IfOk result (IsUntried count) }
+{
+    Ok(Marks {
+        kept: vec![in alloc; true; count]?,
+        needed: vec![in alloc; false; count]?,
+    })
+}

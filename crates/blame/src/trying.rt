@@ -1,0 +1,153 @@
+//! Tries to leave entries out, by one solver in which each of them has a guard.
+ghost use Rattle.std.specs.Prelude.{◌≡◌, ◌+◌, ◌^◌, ◌<◌, ◌≤◌, ◌&&◌, ℕ, All, IfOk, OnOk, length, true, false};
+ghost use Rattle.pb_base.specs.Sets.{has};
+ghost use Rattle.pb_base.specs.declared.limits.TheConstants.{MOST_BUDGET};
+ghost use Rattle.book_model.specs.Book.{RuleFits};
+ghost use Rattle.clause_pool.specs.Clause.{has as has_literal};
+ghost use Rattle.clause_pool.specs.Literal.{literal};
+ghost use Rattle.blame.specs.Entries.{EntryFits};
+ghost use Rattle.blame.specs.Blame.{AreFew};
+ghost use Rattle.blame.specs.Guarding.{AreFewer, AreGuards, AreMarked, AreNamed, AreStill, IsGuarding, IsUntried};
+
+use crate::entries::Entry;
+use crate::marks::Marks;
+use crate::noting::note_need;
+use crate::places::Places;
+use book_model::Book;
+use clause_pool::Lit;
+use item_search::{Outcome, denied, search};
+use pb_base::{Day, Formula, Memory};
+use solver::Solver;
+use std::alloc::Global;
+
+/// Lets the entry at a place go, if no set meets the others that are kept together with the rule, and with it all that the search
+/// made no use of. If one does, the entry is needed. Nothing is tried where that is known.
+pub(crate) fn try_without(
+    alloc: Global,
+    book: &Book,
+    day: Day,
+    rule: &Formula,
+    budget: u32,
+    entries: &[Entry],
+    places: &Places,
+    solver: &mut Solver,
+    marks: &mut Marks,
+    at: usize,
+) -> Result<(), Memory>
+    requires few { AreFew entries.now }
+    requires rule { RuleFits (length book.now.codes) rule.now }
+    requires there { at < length entries.now }
+    requires guarding { IsGuarding book.now day rule.now entries.now solver.old }
+    requires marked { AreMarked book.now day rule.now entries.now marks.old }
+    requires some { 0 < budget }
+    requires most { budget ≤ MOST_BUDGET }
+    ensures guarding { IsGuarding book.now day rule.now entries.now solver.new }
+    ensures marked { OnOk result (AreMarked book.now day rule.now entries.now marks.new) }
+{
+    if !is_untried(marks, at) {
+        return Ok(());
+    }
+    let codes = book.codes().len();
+    let lits = guards_but(alloc, codes, &marks.kept, at)?;
+    let outcome = search(solver, &lits, budget)?;
+    match outcome {
+        Outcome::Shown(set) => note_need(alloc, book, day, rule, entries, places, marks, at, &set),
+        Outcome::NotShown(place) => {
+            let used = denied(alloc, solver, place, &lits)?;
+            keep_used(alloc, codes, marks, &used)?;
+            Ok(())
+        }
+        Outcome::Left(_) => Ok(()),
+    }
+}
+
+/// Looks whether no set meets all entries together with the rule. Then those are kept of which the search made use.
+pub(crate) fn try_all(
+    alloc: Global,
+    book: &Book,
+    day: Day,
+    rule: &Formula,
+    budget: u32,
+    entries: &[Entry],
+    solver: &mut Solver,
+    marks: &mut Marks,
+) -> Result<bool, Memory>
+    requires few { AreFew entries.now }
+    requires guarding { IsGuarding book.now day rule.now entries.now solver.old }
+    requires untried { IsUntried (length entries.now) marks.old }
+    requires some { 0 < budget }
+    requires most { budget ≤ MOST_BUDGET }
+    ensures guarding { IsGuarding book.now day rule.now entries.now solver.new }
+    ensures marked { IfOk result (λ none. none ≡ true
+        → AreMarked book.now day rule.now entries.now marks.new) }
+{
+    let codes = book.codes().len();
+    let lits = guards_but(alloc, codes, &marks.kept, entries.len())?;
+    let outcome = search(solver, &lits, budget)?;
+    match outcome {
+        Outcome::NotShown(place) => {
+            let used = denied(alloc, solver, place, &lits)?;
+            keep_used(alloc, codes, marks, &used)?;
+            Ok(true)
+        }
+        Outcome::Shown(_) => Ok(false),
+        Outcome::Left(_) => Ok(false),
+    }
+}
+
+fn is_untried(marks: &Marks, at: usize) -> bool {
+    marks.kept.get(at) == Some(&true) && marks.needed.get(at) == Some(&false)
+}
+
+// The literals that the guards of the entries are there that are kept, but for that at a place. The last comes first: so clauses
+// that are learnt watch the guard that is assumed last.
+fn guards_but(alloc: Global, first: u32, kept: &[bool], but: usize) -> Result<Vec<Lit>, Memory>
+    requires { first + length kept.now < 2 ^ 31 }
+    ensures { IfOk result (λ lits. AreGuards first kept.now but lits.items) }
+{
+    let mut lits = Vec::new(alloc);
+    for place in (0..kept.len()).rev() {
+        if place != but && kept[place] {
+            lits.push(Lit::new(first + place as u32, true))?;
+        }
+    }
+    Ok(lits)
+}
+
+// No set meets the entries that these guards name, together with the rule: only these are kept.
+fn keep_used(alloc: Global, first: u32, marks: &mut Marks, used: &[Lit]) -> Result<(), Memory>
+    ensures needed { marks.new.needed.items ≡ marks.old.needed.items }
+    ensures kept { AreFewer marks.old.kept.items marks.new.kept.items }
+    ensures used { OnOk result (AreStill first used.now marks.old.kept.items marks.new.kept.items) }
+{
+    let named = named_by(alloc, first, marks.kept.len(), used)?;
+    keep_named(&mut marks.kept, &named);
+    Ok(())
+}
+
+// For each of so many entries, whether its guard is named.
+fn named_by(alloc: Global, first: u32, count: usize, used: &[Lit]) -> Result<Vec<bool>, Memory>
+    ensures { IfOk result (λ named. AreNamed first count used.now named.items) }
+{
+    let mut named = vec![in alloc; false; count]?;
+    for lit in used {
+        let place = lit.var().wrapping_sub(first) as usize;
+        if place < named.len() {
+            named[place] = true;
+        }
+    }
+    Ok(named)
+}
+
+// Of the kept entries those that are named are kept.
+fn keep_named(kept: &mut Vec<bool>, named: &[bool])
+    ensures fewer { AreFewer kept.old.items kept.new.items }
+    ensures still { (k : ℕ) → has kept.old.items k ≡ true → has named.now k ≡ true
+        → has kept.new.items k ≡ true }
+{
+    for place in 0..kept.len() {
+        if named.get(place) != Some(&true) {
+            kept[place] = false;
+        }
+    }
+}
