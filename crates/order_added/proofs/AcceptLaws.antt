@@ -27,6 +27,7 @@ use Rattle.supplement.specs.Completion.{completion_of}
 use Rattle.supplement.specs.declared.completed.Completed.{Completed}
 use Rattle.order_added.specs.Accepted.{is_acceptance, is_accepted, is_unbroken, is_constructible}
 use Rattle.order_added.specs.Judging.{Judging, passes, is_buildable}
+use Rattle.order_added.specs.Settled.{broken_after}
 
 -- the codes of an order
 
@@ -76,6 +77,16 @@ passes_by j names w ordered done is h completed =
     ap (λ (d : Completed). is_buildable j d.set) same
     ∙ sym (judged_passes j.positions (first_broken_of j.book j.day y) (first_unfit_of j.book j.day y) y (parts j.book j.day y))
     ∙ sym (ap (λ fault. if j.positions then is_acceptance (unless fault (Ok (outcome_of_set j.book j.day y))) else is_unbroken (unless fault (Ok (outcome_of_set j.book j.day y)))) o.faultless)
+
+-- what breaks a rule doesn't pass
+pub refused_when_broken : (b : Contents) (day : ℕ) (positions : Bool) (j : Judging) (names : List (List ℕ)) (ordered : List Bool)
+    → record { book = b; day = day; positions = positions } ≡ j → ordered_of j.book j.day names ≡ Some ordered → is_none (broken_after b day ordered) ≡ false
+    → false ≡ passes j names
+refused_when_broken b day positions j names ordered view h broken =
+    let y : List Bool = (completion_of j.book j.day ordered).set in
+    let broken_here : is_none (broken_after j.book j.day ordered) ≡ false = subst (λ (k : Judging). is_none (broken_after k.book k.day ordered) ≡ false) view broken in
+    sym (ap (λ t. t && (not j.positions || is_none (first_unfit_of j.book j.day y))) broken_here)
+    ∙ passes_by j names (record { book = j.book; day = j.day }) ordered (completion_of j.book j.day ordered) refl h refl
 
 -- what is accepted breaks no rule
 

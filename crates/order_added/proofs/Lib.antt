@@ -1,2 +1,3 @@
 mod AcceptLaws
 mod PassLaws
+mod SettledLaws

@@ -1,3 +1,4 @@
 pub mod Accepted
 pub mod Added
 pub mod Judging
+pub mod Settled

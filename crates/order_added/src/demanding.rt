@@ -1,9 +1,10 @@
 //! The rules that may be broken where a code is missing.
 ghost use Rattle.std.specs.Prelude.{◌≡◌, length, true, false};
 ghost use Rattle.std.specs.Option.{is_none};
-ghost use Rattle.parts_usage.specs.Broken.{first_broken_of};
+ghost use Rattle.order_added.specs.Settled.{broken_after};
 
-use book_model::{Book, Demand, breaks};
+use crate::settled::stays_broken;
+use book_model::{Book, Demand};
 use pb_base::{CodeName, CodeSet, Day, Memory, Node};
 use std::alloc::Global;
 
@@ -60,7 +61,7 @@ impl Demanding {
         Ok(())
     }
 
-    /// Whether a set breaks one of the rules of these codes. It may break others where it doesn't.
+    /// Whether a set breaks one of the rules of these codes, whatever the supplementing rules add to it. It may break others where it doesn't.
     pub(crate) fn breaks_one(
         &self,
         book: &Book,
@@ -69,7 +70,7 @@ impl Demanding {
         set: &CodeSet,
     ) -> bool
         requires { length set.now ≡ length book.now.codes }
-        ensures { result ≡ true → is_none (first_broken_of book.now day set.now) ≡ false }
+        ensures { result ≡ true → is_none (broken_after book.now day set.now) ≡ false }
     {
         for name in names {
             if self.breaks_one_of(book, day, name, set) {
@@ -79,10 +80,10 @@ impl Demanding {
         false
     }
 
-    // Whether it breaks one of the rules of this code.
+    // The same of this code.
     fn breaks_one_of(&self, book: &Book, day: Day, name: &CodeName, set: &CodeSet) -> bool
         requires { length set.now ≡ length book.now.codes }
-        ensures { result ≡ true → is_none (first_broken_of book.now day set.now) ≡ false }
+        ensures { result ≡ true → is_none (broken_after book.now day set.now) ≡ false }
     {
         for rule in self.rules_of(book, name) {
             if is_broken(book, day, *rule, set) {
@@ -103,13 +104,13 @@ impl Demanding {
     }
 }
 
-// Whether a set breaks the rule at a place, if there is one.
+// Whether a set breaks the rule at a place, if there is one, whatever is added to it.
 fn is_broken(book: &Book, day: Day, rule: u32, set: &CodeSet) -> bool
     requires { length set.now ≡ length book.now.codes }
-    ensures { result ≡ true → is_none (first_broken_of book.now day set.now) ≡ false }
+    ensures { result ≡ true → is_none (broken_after book.now day set.now) ≡ false }
 {
     match book.constructs().get(rule as usize) {
-        Some(construct) => breaks(construct, day, set),
+        Some(construct) => stays_broken(book, day, construct, set),
         None => false,
     }
 }

@@ -65,7 +65,7 @@ impl<'a> Judge<'a> {
     }
 
     /// Whether an order of these codes passes. The rules that may be broken by the want of codes that were just taken out are tried
-    /// first.
+    /// first, over the order as it stands.
     pub(crate) fn passes(
         &self,
         alloc: Global,
@@ -92,19 +92,35 @@ impl<'a> Judge<'a> {
         requires { ordered_of self.now.book self.now.day names.now ≡ Some ordered }
         ensures { IfOk result (λ passed. passed ≡ passes self.now names.now) }
     {
+        let broken = self
+            .demanding
+            .breaks_one(self.book, self.day, taken, &ordered);
+        if broken {
+            return Ok(false);
+        }
+        self.passes_completed(alloc, names, ordered)
+    }
+
+    // The same once its set is completed.
+    fn passes_completed(
+        &self,
+        alloc: Global,
+        names: &[CodeName],
+        ordered: CodeSet,
+    ) -> Result<bool, Memory>
+        requires { ordered_of self.now.book self.now.day names.now ≡ Some ordered }
+        ensures { IfOk result (λ passed. passed ≡ passes self.now names.now) }
+    {
         let completed = self.completer.complete(alloc, ordered)?;
-        let passed = self.is_buildable(taken, &completed.set);
+        let passed = self.is_buildable(&completed.set);
         Ok(passed)
     }
 
     // Whether a completed set breaks no rule and fits each position, where these count.
-    fn is_buildable(&self, taken: &[CodeName], set: &CodeSet) -> bool
+    fn is_buildable(&self, set: &CodeSet) -> bool
         requires { length set.now ≡ length self.now.book.codes }
         ensures { result ≡ is_buildable self.now set.now }
     {
-        if self.demanding.breaks_one(self.book, self.day, taken, set) {
-            return false;
-        }
         if first_broken(self.book, self.day, set).is_some() {
             return false;
         }

@@ -5,5 +5,6 @@ mod adding;
 mod demanding;
 mod judge;
 mod runs;
+mod settled;
 
 pub use adding::add;

@@ -1,10 +1,8 @@
-use Rattle.std.proofs.Common.{◌∙◌}
-use Rattle.order_added.proofs.AcceptLaws.{passes_by, same_completing}
+use Rattle.order_added.proofs.AcceptLaws.{refused_when_broken}
 use Rattle.order_added.proofs.judge.Judge.passes_ordered.Goals as goal
 
-pub returns : goal.returns
-returns c =
+pub returns-then-broken : goal.returns-then-broken
+returns-then-broken c =
     let j = c.self.inside in
-    c.is_buildable-passed.ensures
-    ∙ passes_by c.args.self.now c.args.names.now j.completer c.args.ordered c.in_ok-completed.completed
-    (same_completing j.book.now j.day j.positions j.completer c.args.self.now c.self.invariant c.self.view_is) c.requires c.in_ok-completed.ensures.completion
+    refused_when_broken j.book.now j.day j.positions c.args.self.now c.args.names.now c.args.ordered c.self.view_is c.requires
+    (c.breaks_one-broken.ensures c.if-broken.true)
