@@ -10,6 +10,7 @@ pub mod SampleLaws
 pub mod ReportLaws
 pub mod TextLaws
 pub mod Nothing
+pub mod Required
 pub mod CompareLaws
 pub mod FreeLaws
 pub mod AskLaws

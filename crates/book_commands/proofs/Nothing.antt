@@ -86,7 +86,7 @@ use Rattle.book_commands.proofs.Statuses.{decided-outcome}
 
 -- ---- what none of a list's parts has, the list hasn't
 
-none_parted : {X N : Type 0} (IsPart : X → List N → Type 0) (p : N → Bool) (xs : List X) (notes : List N)
+pub none_parted : {X N : Type 0} (IsPart : X → List N → Type 0) (p : N → Bool) (xs : List X) (notes : List N)
     → AllByRecursion (λ (x : X). (own : List N) → IsPart x own → list_any p own ≡ false) xs → InParts IsPart xs notes → list_any p notes ≡ false
 none_parted IsPart p [] notes each h = ap (list_any p) h
 none_parted IsPart p (x ∷ xs) notes each h =
@@ -104,18 +104,18 @@ decided_status : (status : RunStatus) → IsDecided status → status ≢ status
 decided_status status (inl done) = not_undecided status (inl done)
 decided_status status (inr refused) = not_undecided status (inr (inl refused))
 
-found_status : (found left : Bool) → left ≡ false → (if found then statuses.Refused else (if left then statuses.Undecided else statuses.Done)) ≢ statuses.Undecided
+pub found_status : (found left : Bool) → left ≡ false → (if found then statuses.Refused else (if left then statuses.Undecided else statuses.Done)) ≢ statuses.Undecided
 found_status true left none = not_undecided statuses.Refused (inr (inl refl))
 found_status false true none = let clash : true ≡ false = none in absurd (cc)
 found_status false false none = not_undecided statuses.Done (inl refl)
 
 -- ---- replies
 
-same_reply : (answer reply : RunReply) → reply ≡ answer → LeavesNothing answer → LeavesNothing reply
+pub same_reply : (answer reply : RunReply) → reply ≡ answer → LeavesNothing answer → LeavesNothing reply
 same_reply answer reply e h = subst LeavesNothing (sym e) h
 
 -- a fault has one note, which leaves nothing
-at_fault : (answer reply : RunReply) → reply ≡ answer → list_any was_left answer.notes ≡ false → answer.status ≡ statuses.Faulty → LeavesNothing reply
+pub at_fault : (answer reply : RunReply) → reply ≡ answer → list_any was_left answer.notes ≡ false → answer.status ≡ statuses.Faulty → LeavesNothing reply
 at_fault answer reply e none faulty = same_reply answer reply e (record { none = none; decided = not_undecided answer.status (inr (inr faulty)) })
 
 -- ---- check and proof
@@ -196,7 +196,7 @@ slices_behind : (b : Contents) (slices : List Slice) (found : Result (List Slice
 slices_behind b slices (Ok all) h = ap (λ (ss : List Slice). Ok ss) (ok_unless slices all (first_over 0 b all) h)
 slices_behind b slices (Err fault) h = absurd (cc)
 
-slices_in_term : (b : Contents) (slices : List Slice) → b.first ≤ b.last → slices_of b ≡ Ok slices → AllByRecursion (λ (s : Slice). IsDayOf b s.first) slices
+pub slices_in_term : (b : Contents) (slices : List Slice) → b.first ≤ b.last → slices_of b ≡ Ok slices → AllByRecursion (λ (s : Slice). IsDayOf b s.first) slices
 slices_in_term b slices term found = subst (AllByRecursion (λ (s : Slice). IsDayOf b s.first)) (slices_are_all b slices found) (slices_begin b term)
 
 rules_nothing : (i : SupplementInquiry) (notes : List SupplementNote) → i.book.first ≤ i.book.last → AreRulesDecided i.budget i.book → IsReport i notes

@@ -26,6 +26,7 @@ use Rattle.book_commands.proofs.FreeLaws.{free-kind, free-answered}
 use Rattle.book_commands.proofs.Lawful.{IsLawful}
 use Rattle.book_commands.proofs.Releasable.{check-releasable, proof-releasable, verified-releasable}
 use Rattle.book_commands.proofs.Nothing.{check_nothing, proof_nothing, supplements_nothing, compare_nothing, free_nothing, why_nothing, ask_nothing}
+use Rattle.book_commands.proofs.Required.{require_nothing}
 use Rattle.book_commands.proofs.RequireLaws.{require-kind, require-told, has_stated}
 use Rattle.book_commands.proofs.Statuses.{same-kind, order-kind, verify-kind, check-kind, proof-kind, supplements-kind, texts-kind}
 use Rattle.book_commands.proofs.Statuses.{order-status, verify-status, check-answered, proof-answered, supplements-answered, compare-answered, changes-told}
@@ -132,7 +133,7 @@ require_lawful file budget = record {
   answered = λ input files files' reply v h. require-told input file budget files files' reply v h;
   releasable = λ input files files' reply asks h done. not_asked asks;
   unreleasable = λ input files files' reply asks h refused. not_asked asks;
-  leaves_nothing = λ input files files' reply ample h. absurd ample;
+  leaves_nothing = λ input files files' reply ample h. require_nothing input file budget files files' reply ample h;
 }
 
 free_lawful : (day : ℕ) (ordered : List (List ℕ)) (budget : ℕ) → IsLawful (free_promise day ordered budget)

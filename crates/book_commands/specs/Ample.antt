@@ -6,8 +6,9 @@
 --     IsAmpleBeside budget day names text        a search for a car of the day that has the codes of an order
 --     IsAmpleForSome budget day text             one for a car of the day that has some codes, whichever they are
 --     IsAmpleToMeet budget day rule text         one for a car of the day that meets the rule
+--     IsAmpleToRequire budget text stated        each search for each of the requirements that the second text states of the first one's book
 --     IsAmpleForFile IsAmple file input files    so it is of the input and the content of the file
-use Rattle.std.specs.Prelude.{ℕ, ◌<◌, ◌≤◌, ◌^◌, List, [], Option, IfOk, IsSomeAnd, length}
+use Rattle.std.specs.Prelude.{ℕ, ◌<◌, ◌≤◌, ◌^◌, List, [], ◌∷◌, Option, IfOk, IsSomeAnd, length}
 use Rattle.std.specs.List.{AllByRecursion}
 use Rattle.blame.specs.Blame.{blame_items}
 use Rattle.blame.specs.Entries.{all_entries}
@@ -18,10 +19,14 @@ use Rattle.chosen_parts.specs.Chosen.{ids_of_either}
 use Rattle.findings.specs.Left.{IsAmple}
 use Rattle.free_answers.specs.Answer.{chosen_of}
 use Rattle.item_search.specs.Search.{items_variables}
+use Rattle.kept_requirements.specs.Kept.{asked_rules}
 use Rattle.left_cars.specs.Left.{left_items}
 use Rattle.pb_base.specs.Rule.{Rule, always}
 use Rattle.pb_outside.specs.Files.{NamedBytes, content_of}
+use Rattle.requirements.specs.Requirements.{requirements_of}
+use Rattle.requirements.specs.declared.requirement.Requirement.{Requirement}
 use Rattle.rule_text.specs.Reading.{rule_of}
+use Rattle.rules_met.specs.Met.{asked_variables as rule_variables}
 use Rattle.supplement_findings.specs.Clauses.{question_variables}
 use Rattle.supplement_findings.specs.Questions.{questions}
 
@@ -58,6 +63,17 @@ IsAmpleForSome budget day text = IfOk (book_of text) (λ b. (kept : List ℕ) �
 abbrev pub IsAmpleToMeet : ℕ → ℕ → List ℕ → List ℕ → Type 0
 IsAmpleToMeet budget day rule text =
     IfOk (book_of text) (λ b. IfOk (rule_of b.codes rule) (λ f. 3 ^ met_variables b day [] f < budget))
+
+-- each search on a day for a car that meets a rule which is asked of the requirement
+abbrev pub IsDecidedOn : ℕ → Contents → Requirement → ℕ → Type 0
+IsDecidedOn budget b r day = AllByRecursion (λ f. 3 ^ rule_variables b day (f ∷ []) < budget) (asked_rules b day r.claim)
+
+-- on each day of the term
+abbrev pub AreRequirementsDecided : ℕ → Contents → List Requirement → Type 0
+AreRequirementsDecided budget b rs = AllByRecursion (λ r. (day : ℕ) → b.first ≤ day → day ≤ b.last → IsDecidedOn budget b r day) rs
+
+abbrev pub IsAmpleToRequire : ℕ → List ℕ → List ℕ → Type 0
+IsAmpleToRequire budget text stated = IfOk (book_of text) (λ b. IfOk (requirements_of b stated) (AreRequirementsDecided budget b))
 
 -- the file is told and there
 abbrev pub IsAmpleForFile : (List ℕ → List ℕ → Type 0) → List ℕ → List ℕ → Option (List NamedBytes) → Type 0

@@ -20,8 +20,9 @@ use Rattle.requirements.specs.Requirements.{requirements_of}
 use Rattle.requirements.specs.declared.fault.RequirementFault.{RequirementFault}
 use Rattle.requirements.specs.declared.fault.RequirementKind.TheVariants.{AsInBooks}
 use Rattle.requirements.specs.declared.requirement.Requirement.{Requirement}
+use Rattle.book_commands.specs.Ample.{IsAmpleForFile, IsAmpleToRequire}
 use Rattle.book_commands.specs.Ends.{IsCheckStatus, IsDecided}
-use Rattle.book_commands.specs.Promise.{Promise, ReadsFiles, never_ample}
+use Rattle.book_commands.specs.Promise.{Promise, ReadsFiles}
 use Rattle.book_commands.specs.RunReply.{RunReply, book_fault_reply, limit_fault_reply}
 use Rattle.book_commands.specs.declared.log.Note.{Note}
 use Rattle.book_commands.specs.declared.log.Note.TheVariants.{Requirement as RequirementLogged, Stated}
@@ -104,5 +105,5 @@ require_promise file budget = record {
   is_answer = EndsRequire;
   tells_release = false;
   tells_refusal = false;
-  is_ample = never_ample;
+  is_ample = IsAmpleForFile (IsAmpleToRequire budget) file;
 }
