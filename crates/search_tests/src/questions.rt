@@ -188,7 +188,7 @@ const CLASHING: &[u8] = b"-0-1;-0+1;";
 // Whether literals are assumed, are so already when asked again, and others make a clause false.
 fn are_assumed_in_turn(solver: &mut Solver) -> Result<bool, Memory> {
     let alone = [Lit::new(2, true), Lit::new(3, false)];
-    let others = [Lit::new(2, true), Lit::new(0, true)];
+    let others = [Lit::new(2, true), Lit::new(0, true), Lit::new(3, false)];
     let first = solver.assume(&alone)?;
     let again = solver.assume(&alone)?;
     let clash = solver.assume(&others)?;

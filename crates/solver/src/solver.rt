@@ -201,7 +201,8 @@ impl Solver {
     }
 }
 
-// Whether each level begins with one of these literals, in their sequence, and the last level with the last of them.
+// Whether each level begins with one of these literals, in their sequence, the last level with the last of them, and the others
+// are true.
 fn are_assumed(engine: &Engine, lits: &[Lit]) -> bool {
     let mut level: u32 = 0;
     let mut is_last = false;
@@ -210,9 +211,16 @@ fn are_assumed(engine: &Engine, lits: &[Lit]) -> bool {
         is_last = level < engine.level() && engine.trail().get(end) == Some(lit);
         if is_last {
             level = level.wrapping_add(1);
+        } else if !holds(engine, *lit) {
+            return false;
         }
     }
     is_last && level == engine.level()
+}
+
+// Whether a literal is one of the engine's and true.
+fn holds(engine: &Engine, lit: Lit) -> bool {
+    lit.var() < engine.vars() && engine.value(lit) == Some(true)
 }
 
 // Assumes these literals alone, each unless it has a value, and propagates each. The clause that is false on the way, if one is.
