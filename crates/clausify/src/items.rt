@@ -1,8 +1,8 @@
 //! The formulas of the records that are active on a day, each given its literal and the clauses that follow, and the clauses of groups.
-ghost use Rattle.std.specs.Prelude.{◌≡◌, ◌+◌, ◌^◌, ◌<◌, IfOk, OnOk, length, map};
+ghost use Rattle.std.specs.Prelude.{◌≡◌, ◌+◌, ◌^◌, ◌<◌, OnOk, length};
 ghost use Rattle.book_model.specs.Book.{DemandFits};
-ghost use Rattle.clausify.specs.Formulas.{connectives, literals_from};
-ghost use Rattle.clausify.specs.Items.{variables_of, free_item, added_item, rule_item, demand_item, supplement_items, construct_items, rule_items};
+ghost use Rattle.clausify.specs.Formulas.{connectives};
+ghost use Rattle.clausify.specs.Items.{variables_of, added_item, rule_item, demand_item, supplement_items, construct_items, rule_items};
 ghost use Rattle.clausify.specs.Encoding.{EncodesItem, EncodesItems, AddsStarts};
 
 use crate::encoder::Encoder;
@@ -10,7 +10,6 @@ use crate::layout::Start;
 use book_model::{Book, Demand, active};
 use clause_pool::Lit;
 use pb_base::{Day, Formula, Memory};
-use std::alloc::Global;
 
 impl Encoder {
     /// Where the formula is true, the code is present.
@@ -113,23 +112,4 @@ pub fn add_rules(
     add_supplements(encoder, starts, book, day)?;
     add_constructs(encoder, starts, book, day)?;
     Ok(())
-}
-
-/// The literals of formulas of which nothing is claimed, one after another.
-pub fn add_literals(
-    alloc: Global,
-    encoder: &mut Encoder,
-    formulas: &[Formula],
-) -> Result<Vec<Lit>, Memory>
-    requires { encoder.old.next + variables_of (map free_item formulas.now) < 2 ^ 32 }
-    ensures made { OnOk result (EncodesItems encoder.old encoder.new (map free_item formulas.now)) }
-    ensures literals { IfOk result (λ ls. ls.items
-        ≡ literals_from encoder.old.truth encoder.old.next formulas.now) }
-{
-    let mut lits = Vec::new(alloc);
-    for formula in formulas {
-        let lit = encoder.literal(formula)?;
-        lits.push(lit)?;
-    }
-    Ok(lits)
 }

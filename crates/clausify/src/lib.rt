@@ -19,7 +19,7 @@ pub use choices::usages_of;
 pub use coding::{LaidSlice, clauses_of, coded_slice, laid_slice};
 pub use counting::question_count;
 pub use encoder::{Encoded, Encoder};
-pub use items::{add_constructs, add_literals, add_rules};
+pub use items::{add_constructs, add_rules};
 pub use joint::{Joint, tie};
 pub use laws::{chain_laws, core_laws, layout_laws};
 pub use layout::{Gate, Gates, Layout, Start};
