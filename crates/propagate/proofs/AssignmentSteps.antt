@@ -1,18 +1,17 @@
 -- What becomes of an assignment and its tables at each step.
-use Rattle.std.proofs.Common.{◌≡◌, inl, inr, ℕ, zero, suc, ◌+◌, ◌/◌, ◌<◌, ◌≤◌, true, false, List, [], ◌∷◌, ◌++◌, Option, Some, None, length, map, take, get_or, eqb, refl, sym, subst, ◌∙◌, ap, arith, length-append}
+use Rattle.std.proofs.Common.{◌≡◌, inl, inr, ℕ, zero, suc, ◌+◌, ◌/◌, ◌<◌, ◌≤◌, true, false, List, [], ◌∷◌, ◌++◌, append-nil, Option, Some, None, length, map, take, drop, get_or, eqb, refl, sym, subst, ◌∙◌, ap, arith, length-append}
 use Rattle.std.specs.List.{IsDistinct, list_any, slice_set, AllByRecursion}
-use Rattle.std.specs.Option.{option_to_list}
 use Rattle.std.proofs.lemmas.Bool.{cases_eq, false≢true, true≢false, cond-true, cond-false, eqb-false, ne_eqb}
 use Rattle.std.proofs.lemmas.Cmp.{nat_eq_equiv}
 use Rattle.std.proofs.Math.ListN.{replicate, length-replicate}
 use Rattle.std.proofs.lemmas.List.{map-append, get_or-set_same, get_or-set_other, length-set, length-take-le, get_or-take, take_all}
 use Rattle.std.proofs.Math.ListN.{get_or-append, get_or-eq_default}
-use Rattle.std.proofs.Math.Seq.{get_or-append_seam}
+use Rattle.std.proofs.Math.Seq.{get_or-append_seam, take-suc}
 use Rattle.std.proofs.lemmas.Map.Keys.{IsDistinct-push}
 use Rattle.clause_pool.specs.Literal.{complement}
 use Rattle.clause_pool.specs.Clause.{has}
 use Rattle.clause_pool.proofs.LiteralLaws.{complement-half, complement-complement, complement-other}
-use Rattle.propagate.specs.Assignment.{Assigned, IsAssigned, AreTables, with_literal, with_level, first_literals, value_over, known}
+use Rattle.propagate.specs.Assignment.{Assigned, IsAssigned, AreTables, AreFirst, OpensBehind, with_literal, with_level, first_literals, value_over, known}
 use Rattle.propagate.specs.declared.assignment.Truth.{Truth}
 use Rattle.propagate.specs.declared.assignment.Truth.TheVariants.{Open, Holds, Fails}
 use Rattle.propagate.proofs.AssignmentLaws.{few_literals, complement-within, open_variable, variable_open, half_at, has_push, push_has, push_here, push_other}
@@ -281,15 +280,6 @@ none_tables values places vars counted placed each = record {
 }
 
 -- what was taken from the end
-pub taken_was : (lits rest : List ℕ) (r : Option ℕ) (l : ℕ) → lits ≡ rest ++ option_to_list r → r ≡ Some l → lits ≡ rest ++ l ∷ []
-taken_was lits rest r l is some = is ∙ ap (λ (o : Option ℕ). rest ++ option_to_list o) some
-
-pub taken_below : (a : Assigned) (rest : List ℕ) (l : ℕ) → IsAssigned a → a.lits ≡ rest ++ l ∷ [] → l < a.vars + a.vars
-taken_below a rest l h is =
-    let last : has a.lits l ≡ true = subst (λ (xs : List ℕ). has xs l ≡ true) (sym is) (push_here rest l) in
-    let b = h.below l last in
-    omega (arith, b)
-
 pub read_of_replicate : (values : List Truth) (n k : ℕ) (d : Truth) → values ≡ replicate n Open → k < length values → get_or values k d ≡ Open
 read_of_replicate values n k d is within = rw is (go n k (omega (arith, within, ap length is, length-replicate {A = Truth} n Open))) where
   go : (n k : ℕ) → k < n → get_or (replicate n Open) k d ≡ Open
@@ -320,3 +310,42 @@ cut_within a n i h within b =
     let before : i < n = omega (arith, b, length-take-le n a.starts within) in
     let k = kept_within a n i h within before in
     omega (arith, k, get_or-take n a.starts i 0 before)
+
+-- the tables are opened from the last literal on
+pub open_all : (old : List Truth) (lits : List ℕ) (end : ℕ) → OpensBehind old old lits end (length lits)
+open_all old lits end places a is assigned tables starts =
+    let same : a ≡ first_literals a (length lits) = all_literals a assigned.reasons_counted ∙ ap (λ (xs : List ℕ). first_literals a (length xs)) is in
+    record { assigned = subst (λ (b : Assigned). IsAssigned b) same assigned; tables = subst (λ (b : Assigned). AreTables old places b) same tables }
+
+pub open_step : (old values : List Truth) (lits : List ℕ) (end m n l i j : ℕ) → OpensBehind old values lits end m → m ≡ suc n → m ≤ length lits → end ≤ n → i ≡ l → j ≡ complement l → l ≡ get_or lits n l
+    → OpensBehind old (slice_set (slice_set values i Open) j Open) lits end n
+open_step old values lits end m n l i j opens e within low ei ej read places a is assigned tables starts =
+    let f = subst (λ (k : ℕ). AreFirst values places a k) e (opens places a is assigned tables starts) in
+    let inside : n < length a.lits = omega (arith, e, within, ap length is) in
+    let here : get_or a.lits n l ≡ l = ap (λ (xs : List ℕ). get_or xs n l) is ∙ sym read in
+    let split : take (suc n) a.lits ≡ take n a.lits ++ l ∷ [] = take-suc a.lits n l inside ∙ ap (λ (x : ℕ). take n a.lits ++ x ∷ []) here in
+    let same = assigned.reasons_counted in
+    let lits_counted : length (take n a.lits) ≡ n = length-take-le n a.lits (omega (arith, inside)) in
+    let counted : length (take n a.reasons) ≡ length (take n a.lits) = length-take-le n a.reasons (omega (arith, inside, same)) ∙ sym lits_counted in
+    record {
+      assigned = popped_assigned a.vars (take n a.lits) (take (suc n) a.lits) (take n a.reasons) (take (suc n) a.reasons) a.starts l split counted f.assigned
+          (λ k b. let w = starts k b in omega (arith, w, low, lits_counted));
+      tables = popped_tables_by values places a.vars (take n a.lits) (take (suc n) a.lits) (take n a.reasons) (take (suc n) a.reasons) a.starts l i j ei ej split f.assigned f.tables;
+    }
+
+pub first_by : (vars n : ℕ) (lits all : List ℕ) (reasons more : List (Option ℕ)) (starts : List ℕ) → lits ≡ take n all → reasons ≡ take n more
+    → first_literals (record { vars = vars; lits = all; reasons = more; starts = starts }) n ≡ record { vars = vars; lits = lits; reasons = reasons; starts = starts }
+first_by vars n lits all reasons more starts first second = rw (first, second) refl
+
+-- a slice that was lent is written back whole
+pub written_back : (new old : List Truth) (n : ℕ) → n ≡ length old → length new ≡ length old → take n (new ++ drop (length new) old) ≡ new
+written_back new old n all same =
+    ap (λ (xs : List Truth). take n (new ++ xs)) (drop_past (length new) old (omega (arith, same)))
+    ∙ ap (take n) (append-nil new)
+    ∙ take_all n new (omega (arith, all, same))
+  where
+    drop_past : (k : ℕ) (xs : List Truth) → length xs ≤ k → drop k xs ≡ []
+    drop_past zero [] h = refl
+    drop_past (suc k) [] h = refl
+    drop_past zero (x ∷ xs) h = absurd (omega (arith, h))
+    drop_past (suc k) (x ∷ xs) h = drop_past k xs (omega (arith, h))

@@ -1,9 +1,9 @@
 -- What a change of the block or of one room makes of the lists.
-use Rattle.std.proofs.Common.{◌≡◌, ◌⊎◌, inl, inr, ℕ, zero, suc, ◌+◌, ◌-◌, ◌<◌, ◌≤◌, List, [], ◌∷◌, ◌++◌, length, map, take, drop, get_or, replicate, refl, sym, subst, ◌∙◌, ap, arith, length-append}
+use Rattle.std.proofs.Common.{◌≡◌, ◌⊎◌, inl, inr, ℕ, zero, suc, ◌+◌, ◌-◌, ◌<◌, ◌≤◌, List, [], ◌∷◌, ◌++◌, append-nil, length, take, drop, get_or, replicate, refl, sym, subst, ◌∙◌, ap, arith, length-append}
 use Rattle.std.specs.Prelude.{Result, Ok, Err, OnErr}
 use Rattle.std.specs.List.{slice_set, swap_remove}
 use Rattle.std.proofs.lemmas.Bool.{cases_eq}
-use Rattle.std.proofs.lemmas.List.{drop-set-lt, drop-set-add, take-set-le, take_more_set, drop-append-le, take-append-le, length-drop, length-take-le, length-set, length-map, get_or-drop, get_or-take, get_or-set_same, get_or-set_other}
+use Rattle.std.proofs.lemmas.List.{drop-set-lt, drop-set-add, take-set-le, take_more_set, drop-append-le, take-append-le, length-drop, length-take-le, length-map, get_or-drop, get_or-take, get_or-set_same, get_or-set_other}
 use Rattle.std.proofs.Math.Seq.{take-set-lt}
 use Rattle.propagate.specs.Block.{no_span, span_at, entries_in, lists_in, Fits, AreSeparate, IsBlock, IsLonger, HasRoom}
 use Rattle.propagate.specs.Attaching.{pushed_at, popped_at}
@@ -305,3 +305,27 @@ module _ (block : List Watch) (spans : List Span) (model : List (List Watch)) (c
       (subst (λ (t : Span). at < t.len) here (omega (arith, n, there)))
       (subst (λ (t : Span). last ≡ get_or block (t.start + (t.len - 1)) r) here found)
       ∙ ap (λ (ls : List (List Watch)). slice_set ls code (swap_remove (get_or ls code []) at r)) is
+
+-- two readings of one place
+pub one_span : (spans : List Span) (code : ℕ) (s t : Span) → code < length spans → s ≡ get_or spans code s → t ≡ get_or spans code t → t ≡ s
+one_span spans code s t within first second = read_span spans code t within second ∙ sym (read_span spans code s within first)
+
+-- a further entry in the room that a list has
+pub pushed_in_room : (block : List Watch) (spans : List Span) (model : List (List Watch)) (code : ℕ) (s t : Span) → IsBlock spans (length block) → lists_in block spans ≡ model → code < length model
+    → s ≡ get_or spans code s → t ≡ get_or spans code t → (s.len ≡ s.room → ⊥) → (e : Watch)
+    → lists_in (slice_set block (s.start + s.len) e) (slice_set spans code (record { start = t.start; len = s.len + 1; room = t.room })) ≡ pushed_at model code e
+pushed_in_room block spans model code s t b is low first second other e =
+    let within = within_lists block spans model code is low in
+    let here : s ≡ span_at spans code = read_span spans code s within first in
+    let f = fits_read block spans model code s b is low first in
+    let free : s.len < s.room = let h = f.entries in omega (arith, h, other) in
+    let room : HasRoom block block (span_at spans code) s = record {
+      same_entries = ap (λ (r : Span). entries_in block r) here;
+      same_len = ap (λ (r : Span). r.len) here;
+      free = free;
+      before = f.room;
+      place = inl (ap (λ (r : Span). r.start) here, ap (λ (r : Span). r.room) here);
+    } in
+    ap (λ (r : Span). lists_in (slice_set block (s.start + s.len) e) (slice_set spans code (record { start = r.start; len = s.len + 1; room = r.room }))) (one_span spans code s t within first second)
+    ∙ pushed_lists block block spans code s b within ([], sym (append-nil block)) room e
+    ∙ ap (λ (ls : List (List Watch)). pushed_at ls code e) is

@@ -94,3 +94,13 @@ pub record AreTables (values : List Truth) (places : List ℕ) (a : Assigned) : 
   pub places_counted : length places ≡ a.vars
   pub value_is : (l : ℕ) → l < a.vars + a.vars → known (slice_index_or values l Open) ≡ value_over a.lits l
   pub place_is : (k : ℕ) → k < length a.lits → slice_index_or places (slice_index a.lits k / 2) 0 ≡ k
+
+-- the first n literals alone, with their tables
+pub record AreFirst (values : List Truth) (places : List ℕ) (a : Assigned) (n : ℕ) : Type 0 where
+  pub assigned : IsAssigned (first_literals a n)
+  pub tables : AreTables values places (first_literals a n)
+
+-- tables of these literals become those of the first n, where no level begins behind the first so many
+abbrev pub OpensBehind : List Truth → List Truth → List ℕ → ℕ → ℕ → Type 0
+OpensBehind old new lits end n = (places : List ℕ) (a : Assigned) → a.lits ≡ lits → IsAssigned a → AreTables old places a
+    → ((i : ℕ) → i < length a.starts → slice_index a.starts i ≤ end) → AreFirst new places a n

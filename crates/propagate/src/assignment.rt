@@ -1,9 +1,9 @@
 //! Which literals are true, in the order in which they became so.
-ghost use Rattle.std.specs.Prelude.{◌≡◌, ℕ, ◌+◌, ◌-◌, ◌*◌, ◌/◌, ◌<◌, ◌≤◌, ◌^◌, [], ◌∷◌, ◌++◌, length, take, slice_index, slice_index_or, IfOk, OnOk, IfSome, IfNone, Some, None, false};
+ghost use Rattle.std.specs.Prelude.{◌≡◌, ℕ, ◌+◌, ◌-◌, ◌*◌, ◌/◌, ◌<◌, ◌≤◌, ◌^◌, [], ◌∷◌, ◌++◌, length, take, slice_index, slice_index_or, IfOk, OnOk, IfSome, IfNone, Some, None, true, false};
 ghost use Rattle.clause_pool.specs.Literal.{complement};
 ghost use Rattle.clause_pool.specs.Clause.{has};
 ghost use Rattle.propagate.specs.Trail.{IsAbsent, AreRising};
-ghost use Rattle.propagate.specs.Assignment.{IsAssigned, none_assigned, with_literal, with_level, first_literals, first_levels, cut_to, value_over, known, end_of};
+ghost use Rattle.propagate.specs.Assignment.{IsAssigned, none_assigned, with_literal, with_level, first_literals, first_levels, cut_to, value_over, known, end_of, OpensBehind};
 
 use clause_pool::Lit;
 use pb_base::Memory;
@@ -243,19 +243,6 @@ impl Assignment {
         self.starts.push(self.lits.len() as u32).unwrap();
     }
 
-    // Takes the last literal back.
-    fn take_last(&mut self)
-        requires some { 0 < length self.old.lits }
-        requires within { (i : ℕ) → i < length self.old.starts
-            → slice_index self.old.starts i < length self.old.lits }
-        ensures { self.new ≡ first_literals self.old (length self.old.lits - 1) }
-    {
-        let lit = self.lits.pop().unwrap();
-        self.reasons.pop();
-        self.values[lit.code() as usize] = Truth::Open;
-        self.values[lit.not().code() as usize] = Truth::Open;
-    }
-
     // Takes back all literals behind the first so many.
     fn keep_literals(&mut self, end: usize)
         requires counted { length self.old.reasons ≡ length self.old.lits }
@@ -263,9 +250,9 @@ impl Assignment {
         requires within { (i : ℕ) → i < length self.old.starts → slice_index self.old.starts i ≤ end }
         ensures { self.new ≡ first_literals self.old end }
     {
-        while end < self.lits().len() {
-            self.take_last();
-        }
+        open_behind(&mut self.values, &self.lits, end);
+        self.lits.truncate(end);
+        self.reasons.truncate(end);
     }
 
     // Forgets all levels behind this one, but not their literals.
@@ -285,6 +272,24 @@ impl Assignment {
         self.assigned_law();
         self.keep_levels(level);
         self.keep_literals(end);
+    }
+}
+
+// Opens the literals behind the first so many.
+#[inline(always)]
+fn open_behind(values: &mut [Truth], lits: &[Lit], end: usize)
+    requires end { end ≤ length lits.now }
+    requires literals { (l : ℕ) → has lits.now l ≡ true → l < length values.old }
+    requires complements { (l : ℕ) → has lits.now l ≡ true → complement l < length values.old }
+    ensures opened { OpensBehind values.old values.new lits.now end end }
+    ensures count { length values.new ≡ length values.old }
+{
+    let mut at = lits.len();
+    while end < at {
+        at -= 1;
+        let lit = lits[at];
+        values[lit.code() as usize] = Truth::Open;
+        values[lit.not().code() as usize] = Truth::Open;
     }
 }
 

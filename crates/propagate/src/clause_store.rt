@@ -69,12 +69,13 @@ impl ClauseStore {
         ensures ok { OnOk result (self.new ≡ self.old ++ lits.now ∷ []) }
         ensures err { OnErr result (self.new ≡ self.old) }
     {
-        let Ok(start) = u32::try_from(self.codes.len()) else {
+        let start = self.codes.len();
+        if start >= 1 << 32 {
             return Err(Memory);
-        };
+        }
         make_room(&mut self.starts, 1)?;
         make_room(&mut self.codes, lits.len())?;
-        self.starts.push(start).unwrap();
+        self.starts.push_reserved(start as u32);
         append_codes(&mut self.codes, lits);
         Ok(())
     }
@@ -87,7 +88,7 @@ fn append_codes(codes: &mut Vec<u32>, lits: &[Lit])
     ensures { codes.new.items ≡ codes.old.items ++ lits.now }
 {
     for lit in lits {
-        codes.push(lit.code() as u32).unwrap();
+        codes.push_reserved(lit.code() as u32);
     }
 }
 

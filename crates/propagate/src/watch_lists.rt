@@ -114,6 +114,22 @@ impl WatchLists {
         ensures ok { OnOk result (self.new ≡ pushed_at self.old code watch) }
         ensures err { OnErr result (self.new ≡ self.old) }
     {
+        let span = self.spans[code as usize];
+        if span.len == span.room {
+            return self.push_moved(code, watch);
+        }
+        self.block[span.start as usize + span.len as usize] = watch;
+        self.spans[code as usize].len = span.len + 1;
+        Ok(())
+    }
+
+    // The same where the list has no room.
+    #[inline(never)]
+    fn push_moved(&mut self, code: u32, watch: ShortWatch) -> Result<(), Memory>
+        requires { code < length self.old }
+        ensures ok { OnOk result (self.new ≡ pushed_at self.old code watch) }
+        ensures err { OnErr result (self.new ≡ self.old) }
+    {
         let mut span = with_room(&mut self.block, self.spans[code as usize])?;
         self.block[span.start as usize + span.len as usize] = watch;
         span.len += 1;
@@ -162,12 +178,12 @@ impl WatchLists {
         ensures lists { self.new ≡ slice_set self.old code (swap_remove (list_in self.old code) at result) }
     {
         let gone = self.entry(code, at);
-        let mut span = self.spans[code as usize];
+        let span = self.spans[code as usize];
         let start = span.start as usize;
-        span.len -= 1;
-        let last = self.block[start + span.len as usize];
+        let len = span.len - 1;
+        let last = self.block[start + len as usize];
         self.block[start + at] = last;
-        self.spans[code as usize] = span;
+        self.spans[code as usize].len = len;
         gone
     }
 }

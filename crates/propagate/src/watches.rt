@@ -162,7 +162,7 @@ impl WatchedClauses {
             self.store.pop();
             return Err(Memory);
         };
-        self.watched.push(pair).unwrap();
+        self.watched.push_reserved(pair);
         Ok(())
     }
 
