@@ -1,10 +1,12 @@
 -- Which constructibility rules stay broken when a set is completed.
---     is_supplied rules code     a supplementing rule adds the code
---     is_settled rules demand    none adds a code of the demand
---     broken_after b day x       the first constructibility rule that the completed set breaks
-use Rattle.std.specs.Prelude.{ℕ, ◌==◌, ◌&&◌, Bool, true, not, List, Option, None, Some}
+--     is_supplied rules code       a supplementing rule adds the code
+--     AreSupplied rules codes      the set has each code that one of them adds, and no other
+--     is_settled supplied demand   none of these codes stands in the demand
+--     broken_after b day x         the first constructibility rule that the completed set breaks
+use Rattle.std.specs.Prelude.{◌≡◌, ℕ, ◌==◌, ◌&&◌, Bool, true, not, List, Option, None, Some}
 use Rattle.std.specs.List.{list_any, list_all}
 use Rattle.pb_base.specs.Node.{nodes_of}
+use Rattle.pb_base.specs.Sets.{has}
 use Rattle.pb_base.specs.declared.node.Node.{Node}
 use Rattle.pb_base.specs.declared.node.Node.TheVariants.{Code}
 use Rattle.book_model.specs.Contents.{Contents}
@@ -17,18 +19,21 @@ use Rattle.supplement.specs.Completion.{completion_of}
 abbrev pub is_supplied : List Supplement → ℕ → Bool
 is_supplied rules code = list_any (λ s. s.code == code) rules
 
-abbrev pub is_settled_guard : List Supplement → Option ℕ → Bool
-is_settled_guard rules None = true
-is_settled_guard rules (Some code) = not (is_supplied rules code)
+pub record AreSupplied (rules : List Supplement) (codes : List Bool) : Type 0 where
+  pub each : (code : ℕ) → has codes code ≡ is_supplied rules code
 
-abbrev pub is_settled_node : List Supplement → Node → Bool
-is_settled_node rules (Code code) = not (is_supplied rules code)
-is_settled_node rules _ = true
+abbrev pub is_settled_guard : List Bool → Option ℕ → Bool
+is_settled_guard supplied None = true
+is_settled_guard supplied (Some code) = not (has supplied code)
 
-abbrev pub is_settled : List Supplement → Demand → Bool
-is_settled rules (Rule on f) = is_settled_guard rules on && list_all (is_settled_node rules) (nodes_of f)
-is_settled rules (One codes) = list_all (λ code. not (is_supplied rules code)) codes
-is_settled rules (Most codes) = list_all (λ code. not (is_supplied rules code)) codes
+abbrev pub is_settled_node : List Bool → Node → Bool
+is_settled_node supplied (Code code) = not (has supplied code)
+is_settled_node supplied _ = true
+
+abbrev pub is_settled : List Bool → Demand → Bool
+is_settled supplied (Rule on f) = is_settled_guard supplied on && list_all (is_settled_node supplied) (nodes_of f)
+is_settled supplied (One codes) = list_all (λ code. not (has supplied code)) codes
+is_settled supplied (Most codes) = list_all (λ code. not (has supplied code)) codes
 
 abbrev pub broken_after : Contents → ℕ → List Bool → Option ℕ
 broken_after b day x = first_broken_of b day (completion_of b day x).set

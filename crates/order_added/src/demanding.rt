@@ -1,7 +1,7 @@
 //! The rules that may be broken where a code is missing.
 ghost use Rattle.std.specs.Prelude.{◌≡◌, length, true, false};
 ghost use Rattle.std.specs.Option.{is_none};
-ghost use Rattle.order_added.specs.Settled.{broken_after};
+ghost use Rattle.order_added.specs.Settled.{AreSupplied, broken_after};
 
 use crate::settled::stays_broken;
 use book_model::{Book, Demand};
@@ -61,19 +61,22 @@ impl Demanding {
         Ok(())
     }
 
-    /// Whether a set breaks one of the rules of these codes, whatever the supplementing rules add to it. It may break others where it doesn't.
+    /// Whether a set breaks one of the rules of these codes, whatever the supplementing rules add to it. It may
+    /// break others where it doesn't.
     pub(crate) fn breaks_one(
         &self,
         book: &Book,
         day: Day,
         names: &[CodeName],
+        supplied: &CodeSet,
         set: &CodeSet,
     ) -> bool
-        requires { length set.now ≡ length book.now.codes }
+        requires supplied { AreSupplied book.now.supplements supplied.now }
+        requires codes { length set.now ≡ length book.now.codes }
         ensures { result ≡ true → is_none (broken_after book.now day set.now) ≡ false }
     {
         for name in names {
-            if self.breaks_one_of(book, day, name, set) {
+            if self.breaks_one_of(book, day, name, supplied, set) {
                 return true;
             }
         }
@@ -81,12 +84,20 @@ impl Demanding {
     }
 
     // The same of this code.
-    fn breaks_one_of(&self, book: &Book, day: Day, name: &CodeName, set: &CodeSet) -> bool
-        requires { length set.now ≡ length book.now.codes }
+    fn breaks_one_of(
+        &self,
+        book: &Book,
+        day: Day,
+        name: &CodeName,
+        supplied: &CodeSet,
+        set: &CodeSet,
+    ) -> bool
+        requires supplied { AreSupplied book.now.supplements supplied.now }
+        requires codes { length set.now ≡ length book.now.codes }
         ensures { result ≡ true → is_none (broken_after book.now day set.now) ≡ false }
     {
         for rule in self.rules_of(book, name) {
-            if is_broken(book, day, *rule, set) {
+            if is_broken(book, day, *rule, supplied, set) {
                 return true;
             }
         }
@@ -105,12 +116,13 @@ impl Demanding {
 }
 
 // Whether a set breaks the rule at a place, if there is one, whatever is added to it.
-fn is_broken(book: &Book, day: Day, rule: u32, set: &CodeSet) -> bool
-    requires { length set.now ≡ length book.now.codes }
+fn is_broken(book: &Book, day: Day, rule: u32, supplied: &CodeSet, set: &CodeSet) -> bool
+    requires supplied { AreSupplied book.now.supplements supplied.now }
+    requires codes { length set.now ≡ length book.now.codes }
     ensures { result ≡ true → is_none (broken_after book.now day set.now) ≡ false }
 {
     match book.constructs().get(rule as usize) {
-        Some(construct) => stays_broken(book, day, construct, set),
+        Some(construct) => stays_broken(construct, day, supplied, set),
         None => false,
     }
 }

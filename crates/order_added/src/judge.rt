@@ -4,8 +4,9 @@ ghost use Rattle.order_added.specs.Judging.{passes, is_buildable};
 ghost use Rattle.parts_usage.specs.Ordered.{ordered_of};
 
 use crate::demanding::Demanding;
+use crate::settled::supplied_codes;
 use book_model::Book;
-use parts_usage::{find_ordered_set, first_broken, first_unfit};
+use parts_usage::{GuardTable, find_ordered_set, first_unfit};
 use pb_base::{CodeName, CodeSet, Day, Memory};
 use std::alloc::Global;
 use std::marker::Model;
@@ -17,13 +18,17 @@ pub(crate) struct Judge<'a> {
     book: &'a Book,
     day: Day,
     completer: Completer<'a>,
+    guards: GuardTable,
+    supplied: CodeSet,
     demanding: Demanding,
     positions: bool,
 }
 
 impl<'a> Model for Judge<'a> {
     ghost use Rattle.std.specs.Prelude.{◌≡◌};
+    ghost use Rattle.parts_usage.specs.Broken.{guards_of};
     ghost use Rattle.order_added.specs.Judging.{Judging, judging_code};
+    ghost use Rattle.order_added.specs.Settled.{AreSupplied};
 
     ghost Value = { Judging };
 
@@ -31,7 +36,10 @@ impl<'a> Model for Judge<'a> {
 
     ghost view = { λ j. record { book = j.book.now; day = j.day; positions = j.positions } };
 
-    ghost invariant = { λ j. j.completer ≡ record { book = j.book.now; day = j.day } };
+    ghost invariant = { λ j.
+        (j.completer ≡ record { book = j.book.now; day = j.day })
+        × (j.guards ≡ guards_of j.book.now)
+        × AreSupplied j.book.now.supplements j.supplied };
 }
 
 impl<'a> Judge<'a> {
@@ -39,28 +47,38 @@ impl<'a> Judge<'a> {
     pub(crate) fn new(alloc: Global, book: &'a Book, day: Day) -> Result<Judge<'a>, Memory>
         ensures { IfOk result (λ j. j ≡ record { book = book.now; day = day; positions = true }) }
     {
-        let completer = Completer::new(alloc, book, day)?;
-        Ok(Judge {
-            book,
-            day,
-            completer,
-            demanding: Demanding::none(alloc),
-            positions: true,
-        })
+        Judge::with(alloc, book, day, Demanding::none(alloc), true)
     }
 
     /// By the rules alone. Whatever breaks none of them fits each position, but for a book that can't be released.
     pub(crate) fn by_rules(alloc: Global, book: &'a Book, day: Day) -> Result<Judge<'a>, Memory>
         ensures { IfOk result (λ j. j ≡ record { book = book.now; day = day; positions = false }) }
     {
-        let completer = Completer::new(alloc, book, day)?;
         let demanding = Demanding::of(alloc, book)?;
+        Judge::with(alloc, book, day, demanding, false)
+    }
+
+    // With the rules that are tried first.
+    fn with(
+        alloc: Global,
+        book: &'a Book,
+        day: Day,
+        demanding: Demanding,
+        positions: bool,
+    ) -> Result<Judge<'a>, Memory>
+        ensures { IfOk result (λ j. j ≡ record { book = book.now; day = day; positions = positions }) }
+    {
+        let completer = Completer::new(alloc, book, day)?;
+        let guards = GuardTable::of(alloc, book)?;
+        let supplied = supplied_codes(alloc, book)?;
         Ok(Judge {
             book,
             day,
             completer,
+            guards,
+            supplied,
             demanding,
-            positions: false,
+            positions,
         })
     }
 
@@ -94,7 +112,7 @@ impl<'a> Judge<'a> {
     {
         let broken = self
             .demanding
-            .breaks_one(self.book, self.day, taken, &ordered);
+            .breaks_one(self.book, self.day, taken, &self.supplied, &ordered);
         if broken {
             return Ok(false);
         }
@@ -121,7 +139,7 @@ impl<'a> Judge<'a> {
         requires { length set.now ≡ length self.now.book.codes }
         ensures { result ≡ is_buildable self.now set.now }
     {
-        if first_broken(self.book, self.day, set).is_some() {
+        if self.guards.first_broken(self.book, self.day, set).is_some() {
             return false;
         }
         !self.positions || first_unfit(self.book, self.day, set).is_none()
