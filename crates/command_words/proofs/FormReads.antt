@@ -1,8 +1,9 @@
 -- What the option parser reads behind a command word, and that it fails exactly where `taken` has nothing.
-use Rattle.std.proofs.Common.{◌≡◌, ◌∙◌, ◌++◌, ◌==◌, ◌&&◌, ◌||◌, ℕ, Bool, cond, true, false, not, refl, sym, ap, ap₂, subst, List, [], ◌∷◌, Option, Some, None, codes, append-nil}
+use Rattle.std.proofs.Common.{◌≡◌, ◌∙◌, ◌++◌, ◌==◌, ◌&&◌, ℕ, Bool, cond, true, false, not, refl, sym, ap, ap₂, subst, List, [], ◌∷◌, Option, Some, None, codes, append-nil}
 use Rattle.std.specs.Option.{option_map, unwrap_or}
 use Rattle.std.specs.List.{fold, list_all}
 use Rattle.std.specs.Str.{bytes_eq}
+use Rattle.std.proofs.lemmas.Bool.{cond_both, not-true, or_right}
 use Rattle.clap.specs.Lexer.{long_of, name_and_value}
 use Rattle.clap.specs.Walk.{idle, Held, Waiting, Row, Rule, Text, Walk, all_of, first_of, finished, has_row, nothing_held, rows_after, settled, walk, walked, with_default}
 use Rattle.clap.specs.Kinds.{Kinds, or_else}
@@ -29,23 +30,15 @@ Reads name words None = level_fault (leaf name) [] nothing_held words false [] �
 
 -- ---- the end of a walk
 
-or_right : (b : Bool) → (b || true) ≡ true
-or_right true = refl
-or_right false = refl
-
 no_defaults : (rows : List Row) → defaults_fault rows rules ≡ []
 unfolding defaults_fault
 no_defaults rows =
-    let first = or_right (has_row (codes "budget") rows) in
-    let second = or_right (has_row (codes "operands") (with_default rows budget)) in
+    let first = or_right (has_row (codes "budget") rows) true refl in
+    let second = or_right (has_row (codes "operands") (with_default rows budget)) true refl in
     ap₂ (λ a b. or_else (cond a [] (given_default_fault budget budget.defaults)) (or_else (cond b [] (given_default_fault operands operands.defaults)) [])) first second
 
 kept_rows : (id : Text) (rows : List Row) → cond (has_row id rows) rows rows ≡ rows
-kept_rows id rows = go (has_row id rows)
-  where
-    go : (b : Bool) → cond b rows rows ≡ rows
-    go true = refl
-    go false = refl
+kept_rows id rows = cond_both (has_row id rows) rows rows (λ (r : List Row). r ≡ rows) (λ has. refl) (λ has. refl)
 
 same_rows : (held : Held) (rows : List Row) → Settles held rows → finished rules held ≡ rows
 same_rows held rows s = kept_rows (codes "operands") _ ∙ kept_rows (codes "budget") _ ∙ s.rows_are
@@ -235,17 +228,13 @@ long_is_some (b ∷ c ∷ x ∷ xs) long no_end none =
     let clash : Some (name_and_value (x ∷ xs)) ≡ None = sym found ∙ none in
     cc
 
-not_true : (b : Bool) → not b ≡ true → b ≡ false
-not_true true e = let clash : false ≡ true = e in cc
-not_true false e = refl
-
 by_behind : (name : List ℕ) (front behind : Words) → list_all is_plain front ≡ true → is_tame_option behind ≡ true
     → Reads name (front ++ behind) (option_map (λ p. (p.0, front ++ p.1)) (option_in behind))
 by_behind name front [] plain tame = subst (λ (w : Words). IsRead name w (None, w)) (sym (append-nil front)) (plain_read name front plain)
 by_behind name front (word ∷ more) plain tame =
     let parts = both (is_long word && not (bytes_eq word (45 ∷ 45 ∷ []))) (list_all is_plain more) tame in
     let front_parts = both (is_long word) (not (bytes_eq word (45 ∷ 45 ∷ []))) parts.0 in
-    let no_end : bytes_eq word (45 ∷ 45 ∷ []) ≡ false = not_true (bytes_eq word (45 ∷ 45 ∷ [])) front_parts.1 in
+    let no_end : bytes_eq word (45 ∷ 45 ∷ []) ≡ false = not-true (bytes_eq word (45 ∷ 45 ∷ [])) front_parts.1 in
     by_option name front more word (long_of word) plain parts.1 no_end refl (λ none. long_is_some word front_parts.0 no_end none)
 
 pub reads : (name : List ℕ) (words : Words) → is_tame words ≡ true → Reads name words (taken words)

@@ -1,5 +1,5 @@
 -- Prepared words have the parts of the words that they come from, and no others.
-use Rattle.std.proofs.Common.{arith, ◌+◌, drop, take, ◌≡◌, ◌∙◌, ◌++◌, ◌==◌, ℕ, Bool, cond, true, false, not, refl, sym, ap, ap₂, subst, List, [], ◌∷◌, Option, Some, None, codes, inl, inr, true≢false, append_assoc, append-nil}
+use Rattle.std.proofs.Common.{arith, ◌+◌, drop, take, ◌≡◌, ◌∙◌, ◌++◌, ◌==◌, ℕ, Bool, cond, true, false, refl, sym, ap, ap₂, subst, List, [], ◌∷◌, Option, Some, None, codes, inl, inr, true≢false, append_assoc, append-nil}
 use Rattle.std.specs.Prelude.{◌⊎◌, suc}
 use Rattle.std.specs.Option.{option_map, option_and_then}
 use Rattle.std.specs.List.{list_all, position_or_len}
@@ -12,6 +12,7 @@ use Rattle.command_words.specs.Parts.{Words, HasParts, budget_word, dashes, is_p
 use Rattle.command_words.specs.Prepared.{behind_plain, ended, from_option, is_cut_short, is_long, last_words, plain_front, prepared_behind, to_end, with_option}
 use Rattle.command_words.specs.Grammar.{budget_in, is_tame, taken, value_in}
 use Rattle.command_words.proofs.Fronts.{front_plain, split}
+use Rattle.command_words.proofs.PlainWalk.{plain_word_of}
 
 abbrev pub AllPlain : Words → Type 0
 AllPlain words = list_all is_plain words ≡ true
@@ -93,14 +94,6 @@ goes_option before option behind rest text left plain stop no_end long not_cut e
   takes = rw (behind_until before option rest plain stop) (rw (front_until before option rest plain stop) (rw found refl));
 }
 
-plain_differs : (text : List ℕ) → is_plain text ≡ true → bytes_eq text dashes ≡ false
-plain_differs [] e = refl
-plain_differs (b ∷ bs) e = go (b == 45) refl e
-  where
-    go : (t : Bool) → (b == 45) ≡ t → not t ≡ true → bytes_eq (b ∷ bs) dashes ≡ false
-    go true is e = absurd (true≢false (sym e))
-    go false is e = rw is refl
-
 abbrev attached : List ℕ → List ℕ
 attached text = budget_word ++ 61 ∷ text
 
@@ -137,7 +130,7 @@ goes words operands (Some text) h = go h.gives
         subst (λ w. Goes w (Some text) operands) (sym words_are)
         (subst (Goes (h.before ++ budget_word ∷ text ∷ (h.after ++ (h.ending ++ h.further))) (Some text)) (sym h.operands_are)
         (goes_option h.before budget_word (text ∷ (h.after ++ (h.ending ++ h.further))) (text ∷ (h.after ++ h.further)) text (h.after ++ h.further) p.0 refl refl refl
-        (plain_differs text spaced.1) ends refl))
+        (plain_word_of text spaced.1).no_end ends refl))
     go (inr one) =
         let p = all_parts h.before (h.after ++ h.further) plain in
         let words_are : words ≡ h.before ++ attached text ∷ (h.after ++ (h.ending ++ h.further)) =
@@ -160,10 +153,10 @@ pub record IsEnded (words rest : Words) : Type 0 where
   pub ends : ((ending ≡ []) × (further ≡ [])) ⊎ (ending ≡ dashes ∷ [])
   pub plain : AllPlain rest
 
-pub some_same : (a b : Words) → Some a ≡ Some b → a ≡ b
+pub some_same : {T : Type 0} (a b : T) → Some a ≡ Some b → a ≡ b
 some_same a b e = cc
 
-pub never : {X : Type 0} (b : Words) → None ≡ Some b → X
+pub never : {X T : Type 0} (b : T) → None ≡ Some b → X
 never b e = let clash : None ≡ Some b = e in cc
 
 -- plain words behind the `--`
@@ -224,15 +217,12 @@ is_joined (x ∷ xs) = go (x == 61) refl (is_joined xs)
     go true is rest = rw is (ap (λ (b : ℕ). b ∷ xs) (eqb-true x 61 is))
     go false is rest = rw is (behind (has_byte 61 xs) (1 + place) (1 + place + 1) (omega arith) (omega arith) rest)
 
-some_text : (a b : List ℕ) → Some a ≡ Some b → a ≡ b
-some_text a b e = cc
-
 stripped : (word rest : List ℕ) → strip_byte 45 word ≡ Some rest → word ≡ 45 ∷ rest
 stripped [] rest e = let clash : None ≡ Some rest = e in cc
 stripped (x ∷ xs) rest e = go (x == 45) refl e
   where
     go : (t : Bool) → (x == 45) ≡ t → cond t (Some xs) None ≡ Some rest → x ∷ xs ≡ 45 ∷ rest
-    go true is e = ap₂ (λ (b : ℕ) (bs : List ℕ). b ∷ bs) (eqb-true x 45 is) (some_text xs rest e)
+    go true is e = ap₂ (λ (b : ℕ) (bs : List ℕ). b ∷ bs) (eqb-true x 45 is) (some_same xs rest e)
     go false is e = let clash : None ≡ Some rest = e in cc
 
 long_rest : (rest : List ℕ) (p : List ℕ × Option (List ℕ)) → long_of_rest rest ≡ Some p → rest ≡ joined p.0 p.1

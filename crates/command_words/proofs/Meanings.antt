@@ -1,5 +1,5 @@
 -- The words ask for a task exactly where their prepared list is read as that task.
-use Rattle.std.proofs.Common.{◌≡◌, ◌∙◌, ◌++◌, ◌==◌, ℕ, Bool, cond, true, false, not, refl, sym, ap, ap₂, subst, List, [], ◌∷◌, Option, Some, None, Result, Ok, Err, IfOk, inl, inr}
+use Rattle.std.proofs.Common.{◌≡◌, ◌∙◌, ◌++◌, ◌==◌, ℕ, Bool, cond, true, false, not, refl, sym, ap, ap₂, subst, List, [], ◌∷◌, Option, Some, None, inl, inr}
 use Rattle.std.specs.Prelude.{◌⊎◌}
 use Rattle.std.specs.Option.{option_and_then, option_map}
 use Rattle.std.proofs.lemmas.Bool.{eqb-true}
@@ -12,7 +12,7 @@ use Rattle.command_words.specs.Several.{workers_place}
 use Rattle.command_words.specs.Grammar.{is_prepared, parsed, taken}
 use Rattle.command_words.specs.declared.task.Task.{Task}
 use Rattle.command_words.proofs.Laws.{Goes, HasTaken, goes, never, prepares, some_same}
-use Rattle.command_words.proofs.SeveralWords.{first_stays, none_apart, none_in_form, pair_same}
+use Rattle.command_words.proofs.SeveralWords.{first_stays, none_in_form}
 
 -- a task word doesn't begin with `-`
 asks_plain : (name : List ℕ) (budget : Option (List ℕ)) (operands : Words) (task : Task) → asked name budget operands ≡ Some task → is_plain name ≡ true
@@ -94,7 +94,7 @@ one_by_form words a b f g =
     let commands : Some a ≡ Some b = sym x.reads ∙ ap parsed lists ∙ y.reads in
     cc
 
-unprepared : (words : Words) → prepared words ≡ None → MeansByForm words None
+pub unprepared : (words : Words) → prepared words ≡ None → MeansByForm words None
 unprepared words none task f =
     let x = form_read words task f in
     let clash : None ≡ Some x.list = sym none ∙ x.prepares in
@@ -108,17 +108,9 @@ unread words list prepares none task f =
     cc
 
 -- what the prepared list is read as, the words ask for
-list_means : (words list : Words) (found : Option Task) → prepared words ≡ Some list → parsed list ≡ found → MeansByForm words found
+pub list_means : (words list : Words) (found : Option Task) → prepared words ≡ Some list → parsed list ≡ found → MeansByForm words found
 list_means words list None is e = unread words list is e
 list_means words list (Some task) is e = (prepared_form words list is).is_form task e
-
-pub made_means : {E : Type 0} (words list : Words) (made : Result (Option Task) E) → prepared words ≡ Some list
-    → IfOk made (λ found. found ≡ parsed list) → IfOk made (MeansByForm words)
-made_means words list (Ok found) is e = list_means words list found is (sym e)
-made_means words list (Err wanting) is e = tt
-
-pub unprepared_means : (words : Words) → prepared words ≡ None → MeansByForm words None
-unprepared_means words none = unprepared words none
 
 -- ---- words that have the option of several workers
 
@@ -134,7 +126,7 @@ one_place words place task f stands = let same : Some f.place ≡ Some place = s
 
 pub uncut_means : (words : Words) (place : ℕ) → workers_place words ≡ Some place → workers_cut words place ≡ None → MeansSeveral words None
 uncut_means words place stands none task f =
-    none_apart (f.workers, f.others) (sym none ∙ ap (workers_cut words) (sym (one_place words place task f stands)) ∙ f.cut)
+    never (f.workers, f.others) (sym none ∙ ap (workers_cut words) (sym (one_place words place task f stands)) ∙ f.cut)
 
 -- what is cut out, and what is left
 record IsCut (workers n : ℕ) (others rest : Words) : Type 0 where
@@ -143,7 +135,7 @@ record IsCut (workers n : ℕ) (others rest : Words) : Type 0 where
 
 same_cut : (p q : ℕ × Words) → Some p ≡ Some q → IsCut p.0 q.0 p.1 q.1
 same_cut p q e =
-    let same = pair_same p q e in
+    let same = some_same p q e in
     record { number = ap (λ (r : ℕ × Words). r.0) same; words = ap (λ (r : ℕ × Words). r.1) same }
 
 module _ (words : Words) (place n : ℕ) (rest : Words) (stands : workers_place words ≡ Some place) (cut : workers_cut words place ≡ Some (n, rest)) where
@@ -188,7 +180,7 @@ never_by_form behind task f =
 rest_of : (a b : Words) → ask_word ∷ a ≡ ask_word ∷ b → a ≡ b
 rest_of a b same = cc
 
-begins : (words behind : Words) → behind_ask words ≡ Some behind → words ≡ ask_word ∷ behind
+pub begins : (words behind : Words) → behind_ask words ≡ Some behind → words ≡ ask_word ∷ behind
 begins [] behind is = let clash : None ≡ Some behind = is in cc
 begins (word ∷ words) behind is = go (same_name word ask_word) refl is
   where
@@ -207,29 +199,19 @@ no_task words none single means task (by_form f) = means task f
 no_task words none single means task (of_cars f) = no_ask words f.behind none f.words_are
 no_task words none single means task (of_several f) = let clash : None ≡ Some f.place = sym single ∙ f.stands in cc
 
-by_found : (words : Words) (found : Option Task) → behind_ask words ≡ None → workers_place words ≡ None → MeansByForm words found → Means words found
+-- what words mean that don't begin with `ask`
+pub by_found : (words : Words) (found : Option Task) → behind_ask words ≡ None → workers_place words ≡ None → MeansByForm words found → Means words found
 by_found words None none single means = no_task words none single means
 by_found words (Some task) none single means = by_form means
-
--- what words mean that don't begin with `ask`
-pub form_means : {E : Type 0} (words : Words) (made : Result (Option Task) E) → behind_ask words ≡ None → workers_place words ≡ None → IfOk made (MeansByForm words)
-    → IfOk made (Means words)
-form_means words (Ok found) none single means = by_found words found none single means
-form_means words (Err wanting) none single means = tt
 
 no_several : (words : Words) (place : ℕ) → behind_ask words ≡ None → workers_place words ≡ Some place → MeansSeveral words None → AsksNothing words
 no_several words place none stands means task (by_form f) = no_option words task place f stands
 no_several words place none stands means task (of_cars f) = no_ask words f.behind none f.words_are
 no_several words place none stands means task (of_several f) = means task f
 
-by_several : (words : Words) (place : ℕ) (found : Option Task) → behind_ask words ≡ None → workers_place words ≡ Some place → MeansSeveral words found → Means words found
+pub by_several : (words : Words) (place : ℕ) (found : Option Task) → behind_ask words ≡ None → workers_place words ≡ Some place → MeansSeveral words found → Means words found
 by_several words place None none stands means = no_several words place none stands means
 by_several words place (Some task) none stands means = of_several means
-
-pub several_means : {E : Type 0} (words : Words) (place : ℕ) (made : Result (Option Task) E) → behind_ask words ≡ None → workers_place words ≡ Some place
-    → IfOk made (MeansSeveral words) → IfOk made (Means words)
-several_means words place (Ok found) none stands means = by_several words place found none stands means
-several_means words place (Err wanting) none stands means = tt
 
 -- no option makes several workers of `ask`
 never_several : (behind : Words) (task : Task) → AsksOfSeveral (ask_word ∷ behind) task → ⊥
@@ -245,15 +227,10 @@ no_cars_task words behind is asks task (of_cars f) =
     cc
 no_cars_task words behind is asks task (of_several f) = never_several behind task (subst (λ (w : Words). AsksOfSeveral w task) is f)
 
-cars_found : (words behind : Words) (found : Option Task) → words ≡ ask_word ∷ behind → found ≡ ask_task behind → Means words found
+-- and what those mean that do
+pub cars_found : (words behind : Words) (found : Option Task) → words ≡ ask_word ∷ behind → found ≡ ask_task behind → Means words found
 cars_found words behind None is asks = no_cars_task words behind is asks
 cars_found words behind (Some task) is asks = of_cars (record { behind = behind; words_are = is; asks = sym asks })
-
--- and what those mean that do
-pub cars_means : {E : Type 0} (words behind : Words) (made : Result (Option Task) E) → behind_ask words ≡ Some behind → IfOk made (λ found. found ≡ ask_task behind)
-    → IfOk made (Means words)
-cars_means words behind (Ok found) is asks = cars_found words behind found (begins words behind is) asks
-cars_means words behind (Err wanting) is asks = tt
 
 -- words ask for at most one task
 pub one_task : (words : Words) (a b : Task) → Asks words a → Asks words b → a ≡ b

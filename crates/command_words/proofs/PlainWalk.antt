@@ -2,6 +2,7 @@
 use Rattle.std.proofs.Common.{◌≡◌, ◌∙◌, ◌++◌, ◌&&◌, ◌==◌, ℕ, Bool, cond, true, false, not, refl, sym, ap, List, [], ◌∷◌, Option, Some, None, codes, true≢false}
 use Rattle.std.specs.List.{list_all, fold}
 use Rattle.std.specs.Str.{bytes_eq}
+use Rattle.std.proofs.lemmas.Bool.{and_right}
 use Rattle.clap.specs.Lexer.{long_of, short_of}
 use Rattle.clap.specs.Walk.{idle, positional, option, Held, Waiting, Row, Rule, Text, Walk, walked, is_pending, takes_several, pushed, settled, with_values}
 use Rattle.clap.specs.Simple.{Shape, built_leaf, filled, filled_from, with_index}
@@ -69,11 +70,7 @@ abbrev pub budget : Rule
 budget = with_index 1 (filled budget_rule)
 
 never_several : (pending : Option (Text × List Text)) → (is_pending operands pending && takes_several operands) ≡ false
-never_several pending = go (is_pending operands pending)
-  where
-    go : (b : Bool) → (b && takes_several operands) ≡ false
-    go true = refl
-    go false = refl
+never_several pending = and_right (is_pending operands pending) (takes_several operands) refl
 
 -- the word starts the next use of the operands
 to_operands : (held : Held) (word : Text)

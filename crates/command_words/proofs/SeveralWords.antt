@@ -1,5 +1,5 @@
 -- Where the option of several workers stands, and that words of a form don't have it.
-use Rattle.std.proofs.Common.{◌≡◌, ◌∙◌, ◌++◌, ◌==◌, ℕ, zero, suc, ◌+◌, ◌-◌, ◌<◌, ◌≤◌, Bool, cond, true, false, refl, sym, ap, subst, List, [], ◌∷◌, Option, Some, None, codes, drop, inl, inr, length, length-drop, take, arith}
+use Rattle.std.proofs.Common.{◌≡◌, ◌∙◌, ◌++◌, ◌==◌, ℕ, zero, suc, ◌+◌, ◌-◌, ◌<◌, ◌≤◌, Bool, cond, true, false, refl, sym, ap, subst, List, [], ◌∷◌, append-nil, Option, Some, None, codes, drop, inl, inr, length, length-drop, take, arith}
 use Rattle.std.specs.Prelude.{◌⊎◌, String, string_bytes}
 use Rattle.std.specs.declared.alloc.Global.{Global}
 use Rattle.std.specs.List.{list_all}
@@ -12,7 +12,8 @@ use Rattle.command_words.specs.Meaning.{number_in, workers_cut}
 use Rattle.command_words.specs.Parts.{HasParts, IsOption, Words, dashes, is_plain}
 use Rattle.command_words.specs.Prepared.{texts_of}
 use Rattle.command_words.specs.Several.{is_value, is_workers, workers_from, workers_place, workers_value, workers_word}
-use Rattle.command_words.proofs.Laws.{AllPlain, all_parts}
+use Rattle.command_words.proofs.Laws.{AllPlain, all_parts, never, some_same}
+use Rattle.command_words.proofs.PlainWalk.{plain_word_of}
 
 -- the place lies among the words, behind the first one
 record IsBetween (least place most : ℕ) : Type 0 where
@@ -46,12 +47,6 @@ first_taken : (name : List ℕ) (words more : Words) (place : ℕ) → 1 ≤ pla
 first_taken name words more zero some = absurd (omega (arith, some))
 first_taken name words more (suc place) some = record { rest = take place words ++ more; is = refl }
 
-pub none_apart : (p : ℕ × Words) → None ≡ Some p → ⊥
-none_apart p e = cc
-
-pub pair_same : (p q : ℕ × Words) → Some p ≡ Some q → p ≡ q
-pair_same p q e = cc
-
 module _ (name : List ℕ) (words : Words) (place workers : ℕ) (others : Words) (some : 1 ≤ place) where
   -- what is cut out, with the words behind it
   abbrev with_front : Words → ℕ → ℕ × Words
@@ -61,17 +56,17 @@ module _ (name : List ℕ) (words : Words) (place workers : ℕ) (others : Words
   from_value p = option_map (with_front p.1) (number_in 1 16 p.0)
 
   by_number : (behind : Words) (found : Option ℕ) → option_map (with_front behind) found ≡ Some (workers, others) → KeepsFirst name others
-  by_number behind None e = absurd (none_apart (workers, others) e)
+  by_number behind None e = never (workers, others) e
   by_number behind (Some n) e =
       let made : Some (with_front behind n) ≡ Some (workers, others) = e in
-      subst (KeepsFirst name) (ap (λ (q : ℕ × Words). q.1) (pair_same (with_front behind n) (workers, others) made)) (first_taken name words behind place some)
+      subst (KeepsFirst name) (ap (λ (q : ℕ × Words). q.1) (some_same (with_front behind n) (workers, others) made)) (first_taken name words behind place some)
 
   by_value : (found : Option (List ℕ × Words)) → option_and_then from_value found ≡ Some (workers, others) → KeepsFirst name others
-  by_value None e = absurd (none_apart (workers, others) e)
+  by_value None e = never (workers, others) e
   by_value (Some p) e = by_number p.1 (number_in 1 16 p.0) e
 
   by_test : (t : Bool) → cond t None (option_and_then from_value (workers_value (drop place (name ∷ words)))) ≡ Some (workers, others) → KeepsFirst name others
-  by_test true e = absurd (none_apart (workers, others) e)
+  by_test true e = never (workers, others) e
   by_test false e = by_value (workers_value (drop place (name ∷ words))) e
 
 pub first_stays : (name : List ℕ) (words : Words) (place workers : ℕ) (others : Words) → workers_place (name ∷ words) ≡ Some place
@@ -90,10 +85,6 @@ plain_no_option (b ∷ bs) e =
     or_from (same_name (b ∷ bs) workers_word) (same_name (take 10 (b ∷ bs)) (codes "--workers="))
     (head_apart b bs (codes "-workers") apart) (head_apart b (take 9 bs) (codes "-workers=") apart)
 
-plain_no_end : (word : List ℕ) → is_plain word ≡ true → same_name word dashes ≡ false
-plain_no_end [] e = refl
-plain_no_end (b ∷ bs) e = head_apart b bs (45 ∷ []) (not-true (b == 45) e)
-
 abbrev HasNone : Words → Type 0
 HasNone words = (at : ℕ) → workers_from at words ≡ None
 
@@ -102,16 +93,11 @@ none_behind [] more plain none at = none at
 none_behind (word ∷ words) more plain none at =
     let p = both (is_plain word) (list_all is_plain words) plain in
     cond-false (is_workers word) (Some at) (cond (same_name word dashes) None (workers_from (at + 1) (words ++ more))) (plain_no_option word p.0)
-    ∙ cond-false (same_name word dashes) None (workers_from (at + 1) (words ++ more)) (plain_no_end word p.0)
+    ∙ cond-false (same_name word dashes) None (workers_from (at + 1) (words ++ more)) (plain_word_of word p.0).no_end
     ∙ none_behind words more p.1 none (at + 1)
 
 none_plain : (words : Words) → AllPlain words → HasNone words
-none_plain [] plain at = refl
-none_plain (word ∷ words) plain at =
-    let p = both (is_plain word) (list_all is_plain words) plain in
-    cond-false (is_workers word) (Some at) (cond (same_name word dashes) None (workers_from (at + 1) words)) (plain_no_option word p.0)
-    ∙ cond-false (same_name word dashes) None (workers_from (at + 1) words) (plain_no_end word p.0)
-    ∙ none_plain words p.1 (at + 1)
+none_plain words plain at = ap (workers_from at) (sym (append-nil words)) ∙ none_behind words [] plain (λ n. refl) at
 
 none_ended : (ending further : Words) → (ending ≡ []) ⊎ (ending ≡ dashes ∷ []) → AllPlain further → HasNone (ending ++ further)
 none_ended ending further (inl none) plain at = ap (λ (ws : Words). workers_from at (ws ++ further)) none ∙ none_plain further plain at
@@ -153,12 +139,7 @@ module _ (words : List (String Global)) (place : ℕ) (free : is_value (texts_of
   pub cut_nothing : None ≡ workers_value (texts_of standing) → None ≡ workers_cut (texts_of words) place
   cut_nothing is = by_words None is
 
-  pub cut_no_number : (value : List ℕ) (behind : Words) → Some (value, behind) ≡ workers_value (texts_of standing) → None ≡ number_in 1 16 value
-      → None ≡ workers_cut (texts_of words) place
-  cut_no_number value behind is none =
-      ap (option_map (λ n. (n, take place (texts_of words) ++ behind))) none ∙ by_words (Some (value, behind)) is
-
-  pub cut_number : (value : List ℕ) (behind : Words) (n : ℕ) → Some (value, behind) ≡ workers_value (texts_of standing) → Some n ≡ number_in 1 16 value
-      → Some (n, take place (texts_of words) ++ behind) ≡ workers_cut (texts_of words) place
-  cut_number value behind n is some =
-      ap (option_map (λ n. (n, take place (texts_of words) ++ behind))) some ∙ by_words (Some (value, behind)) is
+  pub cut_value : (value : List ℕ) (behind : Words) (number : Option ℕ) → Some (value, behind) ≡ workers_value (texts_of standing) → number ≡ number_in 1 16 value
+      → option_map (λ n. (n, take place (texts_of words) ++ behind)) number ≡ workers_cut (texts_of words) place
+  cut_value value behind number is read =
+      ap (option_map (λ n. (n, take place (texts_of words) ++ behind))) read ∙ by_words (Some (value, behind)) is

@@ -1,9 +1,10 @@
 -- What the option parser makes of prepared words.
-use Rattle.std.proofs.Common.{◌≡◌, ◌∙◌, ℕ, Bool, true, false, refl, sym, ap, subst, List, [], ◌∷◌, Option, Some, None, codes, inl, inr, true≢false}
-use Rattle.std.specs.Prelude.{◌⊎◌, is_some}
+use Rattle.std.proofs.Common.{◌≡◌, ◌∙◌, ℕ, Bool, true, false, refl, sym, ap, subst, List, [], ◌∷◌, Option, Some, None, inl, inr, true≢false}
+use Rattle.std.specs.Prelude.{◌⊎◌, ◌||◌, is_some, map}
 use Rattle.std.specs.Option.{option_and_then}
-use Rattle.std.specs.List.{find, fold}
+use Rattle.std.specs.List.{find, fold, list_any}
 use Rattle.std.specs.Str.{bytes_eq}
+use Rattle.std.proofs.lemmas.Bool.{false_from_ne_true, or_parts}
 use Rattle.std.proofs.lemmas.Slice.Eq.{bytes_eq-Decides}
 use Rattle.clap.specs.declared.error.kind.ErrorKind.{ErrorKind}
 use Rattle.clap.specs.declared.error.kind.ErrorKind.TheVariants as kind
@@ -18,7 +19,8 @@ use Rattle.clap.proofs.WalkLemmas.{both, walk_stopped}
 use Rattle.clap.proofs.FaultLemmas.{stopped_fault}
 use Rattle.clap.proofs.OnLiterals.{clap_on_literals}
 use Rattle.command_words.specs.Parts.{Words, is_plain}
-use Rattle.command_words.specs.Meaning.{asked}
+use Rattle.pb_base.specs.Names.{same_name}
+use Rattle.command_words.specs.Meaning.{Command, asked, command_words, commands}
 use Rattle.command_words.specs.Grammar.{grammar, is_prepared, is_tame, parsed, read, taken}
 use Rattle.command_words.proofs.PlainWalk.{leaf, rules, plain_word_of}
 use Rattle.command_words.proofs.FormReads.{Reads, reads, some_fault}
@@ -81,189 +83,96 @@ named_found name words None n is r =
 named : (name : List ℕ) (words : Words) → IsNamed name → is_tame words ≡ true → Parses (name ∷ words)
 named name words n tame = named_found name words (taken words) n refl (reads name words tame)
 
-is_order : IsNamed (codes "order")
-unfolding clap_on_literals
-is_order = record { stops = refl; passes = refl; form = refl }
+-- ---- a command word
 
-is_check : IsNamed (codes "check")
-unfolding clap_on_literals
-is_check = record { stops = refl; passes = refl; form = refl }
+abbrev is_command : List ℕ → Bool
+is_command name = list_any (λ word. bytes_eq word name) command_words
 
-is_prove : IsNamed (codes "prove")
-unfolding clap_on_literals
-is_prove = record { stops = refl; passes = refl; form = refl }
+-- two functions that agree on each word of a list agree on a word that is among them
+agree_next : {T : Type 0} (f g : List ℕ → T) (word : List ℕ) (words : Words) (name : List ℕ) → f word ≡ g word
+    → (list_any (λ w. bytes_eq w name) words ≡ true → f name ≡ g name) → (t : Bool) → bytes_eq word name ≡ t
+    → (t || list_any (λ w. bytes_eq w name) words) ≡ true → f name ≡ g name
+agree_next f g word words name first rest true here any = subst (λ (x : List ℕ). f x ≡ g x) ((bytes_eq-Decides word name).0 here) first
+agree_next f g word words name first rest false here any = rest any
 
-is_verify : IsNamed (codes "verify")
-unfolding clap_on_literals
-is_verify = record { stops = refl; passes = refl; form = refl }
+agree_on : {T : Type 0} (f g : List ℕ → T) (words : Words) → map f words ≡ map g words → (name : List ℕ)
+    → list_any (λ w. bytes_eq w name) words ≡ true → f name ≡ g name
+agree_on f g [] same name is = let clash : false ≡ true = is in cc
+agree_on f g (word ∷ words) same name is =
+    let first : f word ≡ g word = cc in
+    let rest : map f words ≡ map g words = cc in
+    agree_next f g word words name first (λ any. agree_on f g words rest name any) (bytes_eq word name) refl is
 
-is_desk : IsNamed (codes "desk")
+all_stop : map (λ name. walked [] names (walk_from nothing_held) name) command_words ≡ map (λ name. stopped_at name []) command_words
 unfolding clap_on_literals
-is_desk = record { stops = refl; passes = refl; form = refl }
+all_stop = refl
 
-is_serve : IsNamed (codes "serve")
+all_pass : map (λ name. turn_fault whole.top names (walk_from nothing_held) name) command_words ≡ map (λ name. []) command_words
 unfolding clap_on_literals
-is_serve = record { stops = refl; passes = refl; form = refl }
+all_pass = refl
 
-is_sample : IsNamed (codes "sample")
+all_forms : map (λ name. find (λ s. answers_to name (label_of s)) whole.subs) command_words ≡ map (λ name. Some (leaf name)) command_words
 unfolding clap_on_literals
-is_sample = record { stops = refl; passes = refl; form = refl }
+all_forms = refl
 
-is_supplements : IsNamed (codes "supplements")
-unfolding clap_on_literals
-is_supplements = record { stops = refl; passes = refl; form = refl }
+is_named : (name : List ℕ) → is_command name ≡ true → IsNamed name
+is_named name is = record {
+  stops = agree_on (λ n. walked [] names (walk_from nothing_held) n) (λ n. stopped_at n []) command_words all_stop name is;
+  passes = agree_on (λ n. turn_fault whole.top names (walk_from nothing_held) n) (λ n. []) command_words all_pass name is;
+  form = agree_on (λ n. find (λ s. answers_to n (label_of s)) whole.subs) (λ n. Some (leaf n)) command_words all_forms name is;
+}
 
-is_compare : IsNamed (codes "compare")
-unfolding clap_on_literals
-is_compare = record { stops = refl; passes = refl; form = refl }
-
-is_rejudge : IsNamed (codes "rejudge")
-unfolding clap_on_literals
-is_rejudge = record { stops = refl; passes = refl; form = refl }
-
-is_free : IsNamed (codes "free")
-unfolding clap_on_literals
-is_free = record { stops = refl; passes = refl; form = refl }
-
-is_why : IsNamed (codes "why")
-unfolding clap_on_literals
-is_why = record { stops = refl; passes = refl; form = refl }
-
-is_days : IsNamed (codes "days")
-unfolding clap_on_literals
-is_days = record { stops = refl; passes = refl; form = refl }
-
-is_impact : IsNamed (codes "impact")
-unfolding clap_on_literals
-is_impact = record { stops = refl; passes = refl; form = refl }
-
-is_require : IsNamed (codes "require")
-unfolding clap_on_literals
-is_require = record { stops = refl; passes = refl; form = refl }
-
-is_changes : IsNamed (codes "changes")
-unfolding clap_on_literals
-is_changes = record { stops = refl; passes = refl; form = refl }
-
--- a word that is no command word
-record IsOther (name : List ℕ) : Type 0 where
-  order : bytes_eq (codes "order") name ≡ false
-  check : bytes_eq (codes "check") name ≡ false
-  prove : bytes_eq (codes "prove") name ≡ false
-  verify : bytes_eq (codes "verify") name ≡ false
-  desk : bytes_eq (codes "desk") name ≡ false
-  serve : bytes_eq (codes "serve") name ≡ false
-  sample : bytes_eq (codes "sample") name ≡ false
-  supplements : bytes_eq (codes "supplements") name ≡ false
-  compare : bytes_eq (codes "compare") name ≡ false
-  rejudge : bytes_eq (codes "rejudge") name ≡ false
-  free : bytes_eq (codes "free") name ≡ false
-  why : bytes_eq (codes "why") name ≡ false
-  days : bytes_eq (codes "days") name ≡ false
-  impact : bytes_eq (codes "impact") name ≡ false
-  require : bytes_eq (codes "require") name ≡ false
-  changes : bytes_eq (codes "changes") name ≡ false
+-- ---- a word that is none
 
 turned : (a b : List ℕ) → bytes_eq a b ≡ false → bytes_eq b a ≡ false
-turned a b e = go (bytes_eq b a) refl
-  where
-    go : (t : Bool) → bytes_eq b a ≡ t → t ≡ false
-    go false is = refl
-    go true is =
-        let same : b ≡ a = (bytes_eq-Decides b a).0 is in
-        absurd (true≢false (sym ((bytes_eq-Decides a b).1 (sym same)) ∙ e))
+turned a b e =
+    false_from_ne_true (bytes_eq b a) (λ is. true≢false (sym ((bytes_eq-Decides a b).1 (sym ((bytes_eq-Decides b a).0 is))) ∙ e))
 
-asks_nothing : (name : List ℕ) → IsOther name → (budget : Option (List ℕ)) (operands : Words) → asked name budget operands ≡ None
-asks_nothing name o budget operands =
-    rw (turned (codes "order") name o.order) (rw (turned (codes "check") name o.check) (rw (turned (codes "prove") name o.prove) (rw (turned (codes "verify") name o.verify) (rw (turned (codes "desk") name o.desk) (rw (turned (codes "serve") name o.serve) (rw (turned (codes "sample") name o.sample) (rw (turned (codes "supplements") name o.supplements) (rw (turned (codes "compare") name o.compare) (rw (turned (codes "rejudge") name o.rejudge) (rw (turned (codes "free") name o.free) (rw (turned (codes "why") name o.why) (rw (turned (codes "days") name o.days) (rw (turned (codes "impact") name o.impact) (rw (turned (codes "require") name o.require) (rw (turned (codes "changes") name o.changes) (refl))))))))))))))))
+no_command : (name : List ℕ) (cs : List Command) → list_any (λ word. bytes_eq word name) (map (λ c. c.0) cs) ≡ false
+    → find (λ c. same_name name c.0) cs ≡ None
+no_command name [] e = refl
+no_command name (c ∷ cs) e =
+    let parts = or_parts (bytes_eq c.0 name) (list_any (λ word. bytes_eq word name) (map (λ c. c.0) cs)) e in
+    rw (turned c.0 name parts.0) (no_command name cs parts.1)
 
-parses_none : (name : List ℕ) → IsOther name → (found : Option (Option (List ℕ) × Words)) → option_and_then (λ p. asked name p.0 p.1) found ≡ None
+no_form : (name : List ℕ) (words : Words) → list_any (λ word. bytes_eq word name) words ≡ false
+    → find (answers_to name) (map (λ word. (word, [])) words) ≡ None
+no_form name [] e = refl
+no_form name (word ∷ words) e =
+    let parts = or_parts (bytes_eq word name) (list_any (λ word. bytes_eq word name) words) e in
+    rw parts.0 (no_form name words parts.1)
+
+parses_none : (name : List ℕ) → is_command name ≡ false → (found : Option (Option (List ℕ) × Words)) → option_and_then (λ p. asked name p.0 p.1) found ≡ None
 parses_none name o None = refl
-parses_none name o (Some p) = asks_nothing name o p.0 p.1
+parses_none name o (Some p) = ap (option_and_then (λ (c : Command). c.1 p.0 p.1)) (no_command name commands o)
 
-stray : (name : List ℕ) → IsOther name → is_plain name ≡ true
+stray : (name : List ℕ) → is_command name ≡ false → is_plain name ≡ true
     → turn_fault whole.top names (walk_from nothing_held) name ≡ kind.UnknownArgument ∷ kind.InvalidSubcommand ∷ []
 unfolding clap_on_literals
 stray name o plain =
     let p = plain_word_of name plain in
-    rw o.order (rw o.check (rw o.prove (rw o.verify (rw o.desk (rw o.serve (rw o.sample (rw o.supplements (rw o.compare (rw o.rejudge (rw o.free (rw o.why (rw o.days (rw o.impact (rw o.require (rw o.changes (rw p.no_end (rw p.no_long (rw p.no_short refl))))))))))))))))))
+    let none : find (answers_to name) names ≡ None = no_form name command_words o in
+    rw none (rw p.no_end (rw p.no_long (rw p.no_short refl)))
 
-stray_walk : (name : List ℕ) (words : Words) → IsOther name → is_plain name ≡ true
+stray_walk : (name : List ℕ) (words : Words) → is_command name ≡ false → is_plain name ≡ true
     → walk_fault whole.top names (walk_from nothing_held) (name ∷ words) ≡ kind.UnknownArgument ∷ kind.InvalidSubcommand ∷ []
 unfolding walk_fault
 stray_walk name words o plain =
     ap (λ k. or_else k (walk_fault whole.top names (walked [] names (walk_from nothing_held) name) words)) (stray name o plain)
 
-other : (name : List ℕ) (words : Words) → IsOther name → is_plain name ≡ true → Parses (name ∷ words)
+other : (name : List ℕ) (words : Words) → is_command name ≡ false → is_plain name ≡ true → Parses (name ∷ words)
 other name words o plain = inr (
   λ none. some_fault (walk_fault whole.top names (walk_from nothing_held) (name ∷ words)) (behind_walk (fold (walked [] names) (walk_from nothing_held) (name ∷ words)))
       (λ no_walk. let clash : kind.UnknownArgument ∷ kind.InvalidSubcommand ∷ [] ≡ [] = sym (stray_walk name words o plain) ∙ no_walk in cc) none,
   parses_none name o (taken words),
 )
 
-parses_named : (name literal : List ℕ) (words : Words) → bytes_eq literal name ≡ true → IsNamed literal → is_tame words ≡ true → Parses (name ∷ words)
-parses_named name literal words same n tame =
-    subst (λ (x : List ℕ). Parses (x ∷ words)) ((bytes_eq-Decides literal name).0 same) (named literal words n tame)
-
--- the word is this command word, or it isn't
-is_word : (literal name : List ℕ) → (bytes_eq literal name ≡ true) ⊎ (bytes_eq literal name ≡ false)
-is_word literal name = go (bytes_eq literal name) refl
-  where
-    go : (t : Bool) → bytes_eq literal name ≡ t → (bytes_eq literal name ≡ true) ⊎ (bytes_eq literal name ≡ false)
-    go true is = inl is
-    go false is = inr is
-
 parses : (name : List ℕ) (words : Words) → is_plain name ≡ true → is_tame words ≡ true → Parses (name ∷ words)
-parses name words plain tame =
-    elim (is_word (codes "order") name) [
-      | inl is ↦ parses_named name (codes "order") words is is_order tame
-      | inr order ↦ elim (is_word (codes "check") name) [
-        | inl is ↦ parses_named name (codes "check") words is is_check tame
-        | inr check ↦ elim (is_word (codes "prove") name) [
-          | inl is ↦ parses_named name (codes "prove") words is is_prove tame
-          | inr prove ↦ elim (is_word (codes "verify") name) [
-            | inl is ↦ parses_named name (codes "verify") words is is_verify tame
-            | inr verify ↦ elim (is_word (codes "desk") name) [
-              | inl is ↦ parses_named name (codes "desk") words is is_desk tame
-              | inr desk ↦ elim (is_word (codes "serve") name) [
-                | inl is ↦ parses_named name (codes "serve") words is is_serve tame
-                | inr serve ↦ elim (is_word (codes "sample") name) [
-                  | inl is ↦ parses_named name (codes "sample") words is is_sample tame
-                  | inr sample ↦ elim (is_word (codes "supplements") name) [
-                    | inl is ↦ parses_named name (codes "supplements") words is is_supplements tame
-                    | inr supplements ↦ elim (is_word (codes "compare") name) [
-                      | inl is ↦ parses_named name (codes "compare") words is is_compare tame
-                      | inr compare ↦ elim (is_word (codes "rejudge") name) [
-                        | inl is ↦ parses_named name (codes "rejudge") words is is_rejudge tame
-                        | inr rejudge ↦ elim (is_word (codes "free") name) [
-                          | inl is ↦ parses_named name (codes "free") words is is_free tame
-                          | inr free ↦ elim (is_word (codes "why") name) [
-                            | inl is ↦ parses_named name (codes "why") words is is_why tame
-                            | inr why ↦ elim (is_word (codes "days") name) [
-                              | inl is ↦ parses_named name (codes "days") words is is_days tame
-                              | inr days ↦ elim (is_word (codes "impact") name) [
-                                | inl is ↦ parses_named name (codes "impact") words is is_impact tame
-                                | inr impact ↦ elim (is_word (codes "require") name) [
-                                  | inl is ↦ parses_named name (codes "require") words is is_require tame
-                                  | inr require ↦ elim (is_word (codes "changes") name) [
-                                    | inl is ↦ parses_named name (codes "changes") words is is_changes tame
-                                    | inr changes ↦ other name words (record { order = order; check = check; prove = prove; verify = verify; desk = desk; serve = serve; sample = sample; supplements = supplements; compare = compare; rejudge = rejudge; free = free; why = why; days = days; impact = impact; require = require; changes = changes }) plain
-                                  ]
-                                ]
-                              ]
-                            ]
-                          ]
-                        ]
-                      ]
-                    ]
-                  ]
-                ]
-              ]
-            ]
-          ]
-        ]
-      ]
-    ]
+parses name words plain tame = go (is_command name) refl
+  where
+    go : (t : Bool) → is_command name ≡ t → Parses (name ∷ words)
+    go true is = named name words (is_named name is) tame
+    go false is = other name words is plain
 
 prepared_parses : (words : Words) → is_prepared words ≡ true → Parses words
 prepared_parses [] e = let clash : false ≡ true = e in cc

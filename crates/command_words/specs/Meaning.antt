@@ -18,9 +18,9 @@
 --     ask DAY RULE [--budget N]     whether a car of this day meets the rule, and what is to blame if none does
 -- A budget is the most clauses that may be learnt for one question. `ask` has words of its own (AskWords). The option of several
 -- workers is cut out of the words, and the others are read as if it weren't there (Several).
-use Rattle.std.specs.Prelude.{◌≡◌, ◌++◌, ◌==◌, ◌&&◌, ℕ, ◌%◌, List, [], ◌∷◌, Option, None, Some, codes, drop, length, nat_le, take, if◌then◌else◌}
+use Rattle.std.specs.Prelude.{◌≡◌, ◌++◌, ◌==◌, ◌&&◌, ℕ, ◌%◌, List, [], ◌∷◌, Option, None, Some, codes, drop, length, map, nat_le, take, if◌then◌else◌}
 use Rattle.std.specs.Option.{option_map, option_and_then}
-use Rattle.std.specs.List.{list_all}
+use Rattle.std.specs.List.{find, list_all}
 use Rattle.pb_base.specs.Names.{same_name, is_code_name}
 use Rattle.pb_base.specs.Digits.{number_within, short_number}
 use Rattle.command_words.specs.Parts.{Words, HasParts, dashes}
@@ -147,33 +147,23 @@ abbrev pub changes_of : Option (List ℕ) → Words → Option Task
 changes_of budget (file ∷ []) = option_map (λ n. Book (Changes file n 1)) (budget_of budget)
 changes_of budget operands = None
 
--- the command words but `ask`
+-- each command word but `ask`, and what it asks with a budget and operands
+abbrev pub Command : Type 0
+Command = List ℕ × (Option (List ℕ) → Words → Option Task)
+
+abbrev pub commands : List Command
+commands =
+    (codes "order", order_of) ∷ (codes "check", check_of) ∷ (codes "prove", prove_of) ∷ (codes "verify", verify_of)
+    ∷ (codes "desk", desk_of) ∷ (codes "serve", serve_of) ∷ (codes "sample", sample_of) ∷ (codes "supplements", supplements_of)
+    ∷ (codes "compare", compare_of) ∷ (codes "rejudge", rejudge_of) ∷ (codes "free", free_of) ∷ (codes "why", why_of)
+    ∷ (codes "days", days_of) ∷ (codes "impact", impact_of) ∷ (codes "require", require_of) ∷ (codes "changes", changes_of) ∷ []
+
 abbrev pub command_words : Words
-command_words =
-    codes "order" ∷ codes "check" ∷ codes "prove" ∷ codes "verify" ∷ codes "desk" ∷ codes "serve" ∷ codes "sample" ∷ codes "supplements"
-    ∷ codes "compare" ∷ codes "rejudge" ∷ codes "free" ∷ codes "why" ∷ codes "days" ∷ codes "impact" ∷ codes "require"
-    ∷ codes "changes" ∷ []
+command_words = map (λ c. c.0) commands
 
 -- what a command word asks with a budget and operands
 abbrev pub asked : List ℕ → Option (List ℕ) → Words → Option Task
-asked name budget operands =
-    if same_name name (codes "order") then order_of budget operands
-    else (if same_name name (codes "check") then check_of budget operands
-    else (if same_name name (codes "prove") then prove_of budget operands
-    else (if same_name name (codes "verify") then verify_of budget operands
-    else (if same_name name (codes "desk") then desk_of budget operands
-    else (if same_name name (codes "serve") then serve_of budget operands
-    else (if same_name name (codes "sample") then sample_of budget operands
-    else (if same_name name (codes "supplements") then supplements_of budget operands
-    else (if same_name name (codes "compare") then compare_of budget operands
-    else (if same_name name (codes "rejudge") then rejudge_of budget operands
-    else (if same_name name (codes "free") then free_of budget operands
-    else (if same_name name (codes "why") then why_of budget operands
-    else (if same_name name (codes "days") then days_of budget operands
-    else (if same_name name (codes "impact") then impact_of budget operands
-    else (if same_name name (codes "require") then require_of budget operands
-    else (if same_name name (codes "changes") then changes_of budget operands
-    else None)))))))))))))))
+asked name budget operands = option_and_then (λ c. c.1 budget operands) (find (λ c. same_name name c.0) commands)
 
 -- the words begin with a command word, and have its parts
 pub record AsksByForm (words : Words) (task : Task) : Type 0 where

@@ -1,5 +1,5 @@
 //! What a command word asks with a budget and operands.
-ghost use Rattle.std.specs.Prelude.{◌≡◌, ◌%◌, ◌≤◌, IfOk, IfSome, option_map};
+ghost use Rattle.std.specs.Prelude.{◌≡◌, ◌%◌, ◌≤◌, IfOk, IfSome};
 ghost use Rattle.pb_base.specs.declared.limits.TheConstants.{MOST_BUDGET};
 ghost use Rattle.command_words.specs.Prepared.{lent, lent_option};
 ghost use Rattle.command_words.specs.Meaning.{number_in, codes_of, order_of, budget_of, budget_alone, check_of, prove_of, supplements_of};
@@ -51,59 +51,38 @@ pub fn asked(
 ) -> Result<Option<Task>, Memory>
     ensures { IfOk result (λ task. task ≡ asked name.now (lent_option budget.entry) (lent operands.now)) }
 {
-    if name == "order" {
-        order_of(alloc, budget, operands)
-    } else if name == "check" {
-        Ok(check_of(budget, operands))
-    } else if name == "prove" {
-        Ok(prove_of(budget, operands))
-    } else if name == "verify" {
-        verify_of(alloc, budget, operands)
-    } else if name == "desk" {
-        desk_of(alloc, budget, operands)
-    } else if name == "serve" {
-        serve_of(alloc, budget, operands)
-    } else if name == "sample" {
-        Ok(sample_of(budget, operands))
-    } else if name == "supplements" {
-        Ok(supplements_of(budget, operands))
-    } else if name == "compare" {
-        compare_of(alloc, budget, operands)
-    } else if name == "rejudge" {
-        rejudge_of(alloc, budget, operands)
-    } else if name == "free" {
-        free_of(alloc, budget, operands)
-    } else if name == "why" {
-        why_of(alloc, budget, operands)
-    } else if name == "days" {
-        days_of(alloc, budget, operands)
-    } else if name == "impact" {
-        impact_of(alloc, budget, operands)
-    } else if name == "require" {
-        require_of(alloc, budget, operands)
-    } else if name == "changes" {
-        changes_of(alloc, budget, operands)
-    } else {
-        Ok(None)
+    match name {
+        "order" => order_of(alloc, budget, operands),
+        "check" => Ok(check_of(budget, operands)),
+        "prove" => Ok(prove_of(budget, operands)),
+        "verify" => verify_of(alloc, budget, operands),
+        "desk" => desk_of(alloc, budget, operands),
+        "serve" => serve_of(alloc, budget, operands),
+        "sample" => Ok(sample_of(budget, operands)),
+        "supplements" => Ok(supplements_of(budget, operands)),
+        "compare" => compare_of(alloc, budget, operands),
+        "rejudge" => rejudge_of(alloc, budget, operands),
+        "free" => free_of(alloc, budget, operands),
+        "why" => why_of(alloc, budget, operands),
+        "days" => days_of(alloc, budget, operands),
+        "impact" => impact_of(alloc, budget, operands),
+        "require" => require_of(alloc, budget, operands),
+        "changes" => changes_of(alloc, budget, operands),
+        _ => Ok(None),
     }
 }
 
 fn order_of(alloc: Global, budget: Option<&str>, operands: &[&str]) -> Result<Option<Task>, Memory>
     ensures { IfOk result (λ task. task ≡ order_of (lent_option budget.entry) (lent operands.now)) }
 {
-    if budget.is_some() {
-        return Ok(None);
-    }
-    let Some((day, names)) = operands.split_first() else {
+    let (None, [day, names @ ..]) = (budget, operands) else {
         return Ok(None);
     };
     let Some(day) = short_number(day.as_bytes()) else {
         return Ok(None);
     };
-    match codes_of(alloc, names)? {
-        Some(codes) => Ok(Some(Task::Book(BookCommand::Order { day, codes }))),
-        None => Ok(None),
-    }
+    let codes = codes_of(alloc, names)?;
+    Ok(codes.map(|codes| Task::Book(BookCommand::Order { day, codes })))
 }
 
 fn codes_of(alloc: Global, names: &[&str]) -> Result<Option<CodeList>, Memory>
@@ -167,7 +146,7 @@ fn budget_of(text: Option<&str>) -> Option<Budget>
 pub(crate) fn budget_in(text: &[u8]) -> Option<Budget>
     ensures { result ≡ number_in 1 MOST_BUDGET text.now }
 {
-    let clauses = bytes_in(text, 1, MOST_BUDGET)?;
+    let clauses = number_in(text, 1, MOST_BUDGET)?;
     Some(Budget::of(clauses))
 }
 
@@ -175,56 +154,42 @@ pub(crate) fn budget_in(text: &[u8]) -> Option<Budget>
 pub(crate) fn workers_in(text: &[u8]) -> Option<Workers>
     ensures { result ≡ number_in 1 16 text.now }
 {
-    let count = bytes_in(text, 1, 16)?;
+    let count = number_in(text, 1, 16)?;
     Some(Workers::of(count))
 }
 
 fn verify_of(alloc: Global, budget: Option<&str>, operands: &[&str]) -> Result<Option<Task>, Memory>
     ensures { IfOk result (λ task. task ≡ verify_of (lent_option budget.entry) (lent operands.now)) }
 {
-    match only_one(budget, operands) {
-        Some(name) => {
-            let file = FileName::of(alloc, name)?;
-            Ok(Some(Task::Book(BookCommand::Verify { file })))
-        }
-        None => Ok(None),
-    }
+    let file = only_one(alloc, budget, operands)?;
+    Ok(file.map(|file| Task::Book(BookCommand::Verify { file })))
 }
 
 fn desk_of(alloc: Global, budget: Option<&str>, operands: &[&str]) -> Result<Option<Task>, Memory>
     ensures { IfOk result (λ task. task ≡ desk_of (lent_option budget.entry) (lent operands.now)) }
 {
-    match only_one(budget, operands) {
-        Some(name) => {
-            let store = FileName::of(alloc, name)?;
-            Ok(Some(Task::Desk { store }))
-        }
-        None => Ok(None),
-    }
+    let store = only_one(alloc, budget, operands)?;
+    Ok(store.map(|store| Task::Desk { store }))
 }
 
-// The one operand, where there is no budget.
-fn only_one<'a>(budget: Option<&str>, operands: &[&'a str]) -> Option<&'a str>
-    ensures { option_map (λ word. word.now) result ≡ only_one (lent_option budget.entry) (lent operands.now) }
+// The file that the one operand names, where there is no budget.
+fn only_one(
+    alloc: Global,
+    budget: Option<&str>,
+    operands: &[&str],
+) -> Result<Option<FileName>, Memory>
+    ensures { IfOk result (λ file. file ≡ only_one (lent_option budget.entry) (lent operands.now)) }
 {
-    if budget.is_some() {
-        return None;
-    }
-    let (word, further) = operands.split_first()?;
-    if further.is_empty() {
-        Some(*word)
-    } else {
-        None
+    match (budget, operands) {
+        (None, [name]) => Ok(Some(FileName::of(alloc, name)?)),
+        _ => Ok(None),
     }
 }
 
 fn serve_of(alloc: Global, budget: Option<&str>, operands: &[&str]) -> Result<Option<Task>, Memory>
     ensures { IfOk result (λ task. task ≡ serve_of (lent_option budget.entry) (lent operands.now)) }
 {
-    if budget.is_some() {
-        return Ok(None);
-    }
-    let Some((store, numbers)) = operands.split_first() else {
+    let (None, [store, numbers @ ..]) = (budget, operands) else {
         return Ok(None);
     };
     let Some((port, workers, links)) = door_of(numbers) else {
@@ -235,31 +200,27 @@ fn serve_of(alloc: Global, budget: Option<&str>, operands: &[&str]) -> Result<Op
 }
 
 // The port, the workers and the links.
-fn door_of(operands: &[&str]) -> Option<(u16, u32, u32)>
-    ensures value { result ≡ door_of (lent operands.now) }
-    ensures some { IfSome result (λ door. 1 ≤ door.1) }
+fn door_of(operands: &[&str]) -> Option<(u16, Workers, u32)>
+    ensures { result ≡ door_of (lent operands.now) }
 {
     let [port, workers, links] = operands else {
         return None;
     };
-    let port = number_in(port, 1, 65_535)? as u16;
-    let workers = number_in(workers, 1, 16)?;
-    let links = number_in(links, 1, 1_000_000)?;
+    let port = number_in(port.as_bytes(), 1, 65_535)? as u16;
+    let workers = workers_in(workers.as_bytes())?;
+    let links = number_in(links.as_bytes(), 1, 1_000_000)?;
     Some((port, workers, links))
 }
 
 fn sample_of(budget: Option<&str>, operands: &[&str]) -> Option<Task>
     ensures { result ≡ sample_of (lent_option budget.entry) (lent operands.now) }
 {
-    if budget.is_some() {
-        return None;
-    }
-    let [start, codes, orders] = operands else {
+    let (None, [start, codes, orders]) = (budget, operands) else {
         return None;
     };
-    let start = number_in(start, 0, u32::MAX)?;
+    let start = number_in(start.as_bytes(), 0, u32::MAX)?;
     let codes = codes_number(codes)?;
-    let orders = number_in(orders, 0, 10_000)?;
+    let orders = number_in(orders.as_bytes(), 0, 10_000)?;
     Some(Task::Sample(SampleSize::of(start, codes, orders)))
 }
 
@@ -273,19 +234,17 @@ fn compare_of(
     let [day, file] = operands else {
         return Ok(None);
     };
-    match (short_number(day.as_bytes()), budget_of(budget)) {
-        (Some(day), Some(budget)) => {
-            let file = FileName::of(alloc, file)?;
-            let workers = Workers::of(1);
-            Ok(Some(Task::Book(BookCommand::Compare {
-                day,
-                file,
-                budget,
-                workers,
-            })))
-        }
-        _ => Ok(None),
-    }
+    let (Some(day), Some(budget)) = (short_number(day.as_bytes()), budget_of(budget)) else {
+        return Ok(None);
+    };
+    let file = FileName::of(alloc, file)?;
+    let workers = Workers::of(1);
+    Ok(Some(Task::Book(BookCommand::Compare {
+        day,
+        file,
+        budget,
+        workers,
+    })))
 }
 
 fn require_of(
@@ -339,49 +298,41 @@ fn rejudge_of(
 ) -> Result<Option<Task>, Memory>
     ensures { IfOk result (λ task. task ≡ rejudge_of (lent_option budget.entry) (lent operands.now)) }
 {
-    if budget.is_some() {
-        return Ok(None);
-    }
-    let [store, book, workers] = operands else {
+    let (None, [store, book, workers]) = (budget, operands) else {
         return Ok(None);
     };
-    match (number_in(book, 1, u32::MAX), number_in(workers, 1, 16)) {
-        (Some(book), Some(workers)) => {
-            let store = FileName::of(alloc, store)?;
-            Ok(Some(Task::Rejudge(Rejudging::of(store, book, workers))))
-        }
-        _ => Ok(None),
-    }
+    let workers = workers_in(workers.as_bytes());
+    let (Some(book), Some(workers)) = (number_in(book.as_bytes(), 1, u32::MAX), workers) else {
+        return Ok(None);
+    };
+    let store = FileName::of(alloc, store)?;
+    Ok(Some(Task::Rejudge(Rejudging::of(store, book, workers))))
 }
 
 fn free_of(alloc: Global, budget: Option<&str>, operands: &[&str]) -> Result<Option<Task>, Memory>
     ensures { IfOk result (λ task. task ≡ free_of (lent_option budget.entry) (lent operands.now)) }
 {
-    let Some((day, names)) = operands.split_first() else {
+    let [day, names @ ..] = operands else {
         return Ok(None);
     };
-    match (short_number(day.as_bytes()), budget_of(budget)) {
-        (Some(day), Some(budget)) => match codes_of(alloc, names)? {
-            Some(codes) => Ok(Some(Task::Book(BookCommand::Free { day, codes, budget }))),
-            None => Ok(None),
-        },
-        _ => Ok(None),
-    }
+    let (Some(day), Some(budget)) = (short_number(day.as_bytes()), budget_of(budget)) else {
+        return Ok(None);
+    };
+    let codes = codes_of(alloc, names)?;
+    Ok(codes.map(|codes| Task::Book(BookCommand::Free { day, codes, budget })))
 }
 
 fn why_of(alloc: Global, budget: Option<&str>, operands: &[&str]) -> Result<Option<Task>, Memory>
     ensures { IfOk result (λ task. task ≡ why_of (lent_option budget.entry) (lent operands.now)) }
 {
-    let Some((day, names)) = operands.split_first() else {
+    let [day, names @ ..] = operands else {
         return Ok(None);
     };
-    match (short_number(day.as_bytes()), budget_of(budget)) {
-        (Some(day), Some(budget)) => match codes_of(alloc, names)? {
-            Some(codes) => Ok(Some(Task::Book(BookCommand::Why { day, codes, budget }))),
-            None => Ok(None),
-        },
-        _ => Ok(None),
-    }
+    let (Some(day), Some(budget)) = (short_number(day.as_bytes()), budget_of(budget)) else {
+        return Ok(None);
+    };
+    let codes = codes_of(alloc, names)?;
+    Ok(codes.map(|codes| Task::Book(BookCommand::Why { day, codes, budget })))
 }
 
 fn days_of(alloc: Global, budget: Option<&str>, operands: &[&str]) -> Result<Option<Task>, Memory>
@@ -390,29 +341,22 @@ fn days_of(alloc: Global, budget: Option<&str>, operands: &[&str]) -> Result<Opt
     if budget.is_some() {
         return Ok(None);
     }
-    match codes_of(alloc, operands)? {
-        Some(codes) => Ok(Some(Task::Book(BookCommand::Days { codes }))),
-        None => Ok(None),
-    }
+    let codes = codes_of(alloc, operands)?;
+    Ok(codes.map(|codes| Task::Book(BookCommand::Days { codes })))
 }
 
 fn impact_of(alloc: Global, budget: Option<&str>, operands: &[&str]) -> Result<Option<Task>, Memory>
     ensures { IfOk result (λ task. task ≡ impact_of (lent_option budget.entry) (lent operands.now)) }
 {
-    if budget.is_some() {
-        return Ok(None);
-    }
-    let [store, file, workers] = operands else {
+    let (None, [store, file, workers]) = (budget, operands) else {
         return Ok(None);
     };
-    match number_in(workers, 1, 16) {
-        Some(workers) => {
-            let store = FileName::of(alloc, store)?;
-            let file = FileName::of(alloc, file)?;
-            Ok(Some(Task::Impact(Impact::of(store, file, workers))))
-        }
-        None => Ok(None),
-    }
+    let Some(workers) = workers_in(workers.as_bytes()) else {
+        return Ok(None);
+    };
+    let store = FileName::of(alloc, store)?;
+    let file = FileName::of(alloc, file)?;
+    Ok(Some(Task::Impact(Impact::of(store, file, workers))))
 }
 
 // A multiple of 4.
@@ -422,21 +366,12 @@ fn codes_number(text: &str) -> Option<u32>
     ensures least { IfSome result (λ codes. 8 ≤ codes) }
     ensures most { IfSome result (λ codes. codes ≤ 2000) }
 {
-    let number = number_in(text, 8, 2_000)?;
+    let number = number_in(text.as_bytes(), 8, 2_000)?;
     if number % 4 == 0 { Some(number) } else { None }
 }
 
 // The number of 1 to 10 digits, where it lies in the range.
-fn number_in(text: &str, least: u32, most: u32) -> Option<u32>
-    ensures number { result ≡ number_in least most text.now }
-    ensures least { IfSome result (λ number. least ≤ number) }
-    ensures most { IfSome result (λ number. number ≤ most) }
-{
-    bytes_in(text.as_bytes(), least, most)
-}
-
-// The same of bytes.
-fn bytes_in(text: &[u8], least: u32, most: u32) -> Option<u32>
+fn number_in(text: &[u8], least: u32, most: u32) -> Option<u32>
     ensures number { result ≡ number_in least most text.now }
     ensures least { IfSome result (λ number. least ≤ number) }
     ensures most { IfSome result (λ number. number ≤ most) }

@@ -2,6 +2,7 @@
 ghost use Rattle.std.specs.Prelude.{◌≡◌, ◌≤◌};
 
 use crate::file_name::FileName;
+use crate::workers::Workers;
 use std::marker::Model;
 
 /// The orders of a store, judged by another book: the store, the file that is the book's text, and how many workers judge.
@@ -9,23 +10,19 @@ use std::marker::Model;
 pub struct Impact {
     store: FileName,
     file: FileName,
-    workers: u32,
+    workers: Workers,
 }
 
 impl Model for Impact {
-    ghost use Rattle.std.specs.Prelude.{◌≤◌};
     ghost use Rattle.command_words.specs.Impact.{Impact};
 
     ghost Value = { Impact };
 
     ghost view = { λ i. record { store = i.store; file = i.file; workers = i.workers } };
-
-    ghost invariant = { λ i. 1 ≤ i.workers };
 }
 
 impl Impact {
-    pub fn of(store: FileName, file: FileName, workers: u32) -> Impact
-        requires { 1 ≤ workers }
+    pub fn of(store: FileName, file: FileName, workers: Workers) -> Impact
         ensures { result ≡ record { store = store; file = file; workers = workers } }
     {
         Impact {
@@ -50,6 +47,6 @@ impl Impact {
     pub fn workers(&self) -> u32
         ensures { 1 ≤ result }
     {
-        self.workers
+        self.workers.count()
     }
 }

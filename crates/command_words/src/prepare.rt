@@ -1,7 +1,7 @@
 //! What is done with the words by hand, before the option parser has them.
 ghost use Rattle.std.specs.Prelude.{◌≡◌, ◌++◌, IfOk, OnOk, option_map};
 ghost use Rattle.command_words.specs.Parts.{is_plain};
-ghost use Rattle.command_words.specs.Prepared.{texts_of, lent, if_done, is_dashed, is_long, plain_front, behind_plain};
+ghost use Rattle.command_words.specs.Prepared.{texts_of, lent, if_done, is_long, plain_front, behind_plain};
 ghost use Rattle.command_words.specs.Prepared.{last_words, ended, is_cut_short, with_option, from_option, prepared};
 
 use pb_base::Memory;
@@ -98,26 +98,11 @@ fn take_last<'a>(kept: &mut Vec<&'a str>, words: &'a [String]) -> Result<bool, M
 fn is_plain(text: &[u8]) -> bool
     ensures { result ≡ is_plain text.now }
 {
-    match text.split_first() {
-        Some((first, _)) => *first != b'-',
-        None => true,
-    }
+    !matches!(text, [b'-', ..])
 }
 
 pub(crate) fn is_long(text: &[u8]) -> bool
     ensures { result ≡ is_long text.now }
 {
-    match text.split_first() {
-        Some((first, behind)) => *first == b'-' && is_dashed(behind),
-        None => false,
-    }
-}
-
-fn is_dashed(text: &[u8]) -> bool
-    ensures { result ≡ is_dashed text.now }
-{
-    match text.split_first() {
-        Some((first, _)) => *first == b'-',
-        None => false,
-    }
+    matches!(text, [b'-', b'-', ..])
 }

@@ -2,6 +2,7 @@
 ghost use Rattle.std.specs.Prelude.{◌≡◌, ◌≤◌};
 
 use crate::file_name::FileName;
+use crate::workers::Workers;
 use std::marker::Model;
 
 /// The orders of a store, judged again: the store, the number of the book, counted from 1, and how many workers judge.
@@ -9,23 +10,19 @@ use std::marker::Model;
 pub struct Rejudging {
     store: FileName,
     book: u32,
-    workers: u32,
+    workers: Workers,
 }
 
 impl Model for Rejudging {
-    ghost use Rattle.std.specs.Prelude.{◌≤◌};
     ghost use Rattle.command_words.specs.Rejudging.{Rejudging};
 
     ghost Value = { Rejudging };
 
     ghost view = { λ r. record { store = r.store; book = r.book; workers = r.workers } };
-
-    ghost invariant = { λ r. 1 ≤ r.workers };
 }
 
 impl Rejudging {
-    pub fn of(store: FileName, book: u32, workers: u32) -> Rejudging
-        requires { 1 ≤ workers }
+    pub fn of(store: FileName, book: u32, workers: Workers) -> Rejudging
         ensures { result ≡ record { store = store; book = book; workers = workers } }
     {
         Rejudging {
@@ -50,6 +47,6 @@ impl Rejudging {
     pub fn workers(&self) -> u32
         ensures { 1 ≤ result }
     {
-        self.workers
+        self.workers.count()
     }
 }

@@ -2,6 +2,7 @@
 ghost use Rattle.std.specs.Prelude.{◌≡◌, ◌≤◌};
 
 use crate::file_name::FileName;
+use crate::workers::Workers;
 use std::marker::Model;
 
 /// An order desk at a port: its store, the port of the machine, how many workers serve, and after how many links it ends.
@@ -9,24 +10,20 @@ use std::marker::Model;
 pub struct Service {
     store: FileName,
     port: u16,
-    workers: u32,
+    workers: Workers,
     links: u32,
 }
 
 impl Model for Service {
-    ghost use Rattle.std.specs.Prelude.{◌≤◌};
     ghost use Rattle.command_words.specs.Service.{Service};
 
     ghost Value = { Service };
 
     ghost view = { λ s. record { store = s.store; port = s.port; workers = s.workers; links = s.links } };
-
-    ghost invariant = { λ s. 1 ≤ s.workers };
 }
 
 impl Service {
-    pub fn of(store: FileName, port: u16, workers: u32, links: u32) -> Service
-        requires { 1 ≤ workers }
+    pub fn of(store: FileName, port: u16, workers: Workers, links: u32) -> Service
         ensures { result ≡ record { store = store; port = port; workers = workers; links = links } }
     {
         Service {
@@ -53,7 +50,7 @@ impl Service {
         ensures value { result ≡ self.now.workers }
         ensures some { 1 ≤ result }
     {
-        self.workers
+        self.workers.count()
     }
 
     pub fn links(&self) -> u32

@@ -1,8 +1,9 @@
 use Rattle.std.proofs.Common.{◌≡◌, ◌∙◌, ap, sym, ℕ, List, Option, Some, Bor, Vec, Global}
 use Rattle.std.specs.Option.{option_map}
+use Rattle.std.proofs.lemmas.Result.{IfOk-weaker}
 use Rattle.command_words.specs.Parts.{Words}
 use Rattle.command_words.specs.Prepared.{lent, prepared, texts_of}
-use Rattle.command_words.proofs.Meanings.{made_means, prepared_form, unprepared_means}
+use Rattle.command_words.proofs.Meanings.{list_means, prepared_form, unprepared}
 use Rattle.command_words.proofs.form_task.Goals as goal
 
 abbrev kept_words : Vec (Bor (List ℕ)) Global → Words
@@ -20,8 +21,8 @@ parse-requires c =
 
 pub returns-in-Some : goal.returns-in-Some
 returns-in-Some c =
-    made_means (texts_of c.args.words.now) (lent c.deref.result.now) c.parse.result
-    (list_is (texts_of c.args.words.now) _ c.in-Some.list c.deref.result.now c.in_ok-list.ensures c.in-Some.is c.deref.ensures.value) c.parse.ensures
+    let prepared = list_is (texts_of c.args.words.now) _ c.in-Some.list c.deref.result.now c.in_ok-list.ensures c.in-Some.is c.deref.ensures.value in
+    IfOk-weaker c.parse.result _ _ (λ found is. list_means (texts_of c.args.words.now) (lent c.deref.result.now) found prepared (sym is)) c.parse.ensures
 
 pub returns-in-None : goal.returns-in-None
-returns-in-None c = unprepared_means (texts_of c.args.words.now) (sym c.in_ok-list.ensures ∙ ap (option_map kept_words) c.in-None.is)
+returns-in-None c = unprepared (texts_of c.args.words.now) (sym c.in_ok-list.ensures ∙ ap (option_map kept_words) c.in-None.is)
