@@ -1,8 +1,5 @@
 -- The one route of a kind to which a path leads.
-use Rattle.std.proofs.Common.{◌≡◌, ℕ, List, Option, Some, sym, subst, ap, ◌∙◌}
-use Rattle.http_api.specs.declared.route.DraftPage.{DraftPage}
-use Rattle.http_api.specs.declared.route.BookPage.{BookPage}
-use Rattle.http_api.specs.declared.route.ListPage.{ListPage}
+use Rattle.std.proofs.Common.{◌≡◌, ℕ, List, Option, Some, sym, subst}
 use Rattle.http_api.specs.declared.route.Route.{Route}
 use Rattle.http_api.specs.declared.route.Route.TheVariants.{Draft, Book, Order, Listed as ListAt, OrdersAfter}
 use Rattle.http_api.specs.declared.route.Kind.{Kind}
@@ -13,43 +10,17 @@ use Rattle.http_api.specs.Route.{Leads, kind_of}
 abbrev pub Only : List ℕ → Kind → Option Route → Type 0
 Only path kind result = (route : Route) → Leads path route → kind_of route ≡ kind → result ≡ Some route
 
-pub only_draft : (path : List ℕ) (page : DraftPage) (r : Option Route) → ((name : List ℕ) → Leads path (Draft name page) → r ≡ Some (Draft name page)) → Only path (DraftKind page) r
-only_draft path page r only (Draft name other) h is =
-    let same : other ≡ page = cc in
-    only name (subst (λ p. Leads path (Draft name p)) same h) ∙ ap (λ p. Some (Draft name p)) (sym same)
-only_draft path page r only (Book number other) h is = cc
-only_draft path page r only (Order number) h is = cc
-only_draft path page r only (ListAt other) h is = cc
-only_draft path page r only (OrdersAfter number) h is = cc
+-- the same of each name or number
+abbrev pub OnlyOf : List ℕ → Option Route → Kind → Type 0
+OnlyOf path result (DraftKind page) = (name : List ℕ) → Leads path (Draft name page) → result ≡ Some (Draft name page)
+OnlyOf path result (BookKind page) = (number : ℕ) → Leads path (Book number page) → result ≡ Some (Book number page)
+OnlyOf path result OrderKind = (number : ℕ) → Leads path (Order number) → result ≡ Some (Order number)
+OnlyOf path result (ListKind page) = Leads path (ListAt page) → result ≡ Some (ListAt page)
+OnlyOf path result AfterKind = (number : ℕ) → Leads path (OrdersAfter number) → result ≡ Some (OrdersAfter number)
 
-pub only_book : (path : List ℕ) (page : BookPage) (r : Option Route) → ((number : ℕ) → Leads path (Book number page) → r ≡ Some (Book number page)) → Only path (BookKind page) r
-only_book path page r only (Draft name other) h is = cc
-only_book path page r only (Book number other) h is =
-    let same : other ≡ page = cc in
-    only number (subst (λ p. Leads path (Book number p)) same h) ∙ ap (λ p. Some (Book number p)) (sym same)
-only_book path page r only (Order number) h is = cc
-only_book path page r only (ListAt other) h is = cc
-only_book path page r only (OrdersAfter number) h is = cc
-
-pub only_order : (path : List ℕ) (r : Option Route) → ((number : ℕ) → Leads path (Order number) → r ≡ Some (Order number)) → Only path OrderKind r
-only_order path r only (Draft name other) h is = cc
-only_order path r only (Book number other) h is = cc
-only_order path r only (Order number) h is = only number h
-only_order path r only (ListAt other) h is = cc
-only_order path r only (OrdersAfter number) h is = cc
-
-pub only_list : (path : List ℕ) (page : ListPage) (r : Option Route) → (Leads path (ListAt page) → r ≡ Some (ListAt page)) → Only path (ListKind page) r
-only_list path page r only (Draft name other) h is = cc
-only_list path page r only (Book number other) h is = cc
-only_list path page r only (Order number) h is = cc
-only_list path page r only (ListAt other) h is =
-    let same : other ≡ page = cc in
-    only (subst (λ p. Leads path (ListAt p)) same h) ∙ ap (λ p. Some (ListAt p)) (sym same)
-only_list path page r only (OrdersAfter number) h is = cc
-
-pub only_after : (path : List ℕ) (r : Option Route) → ((number : ℕ) → Leads path (OrdersAfter number) → r ≡ Some (OrdersAfter number)) → Only path AfterKind r
-only_after path r only (Draft name other) h is = cc
-only_after path r only (Book number other) h is = cc
-only_after path r only (Order number) h is = cc
-only_after path r only (ListAt other) h is = cc
-only_after path r only (OrdersAfter number) h is = only number h
+pub only : (path : List ℕ) (kind : Kind) (result : Option Route) → OnlyOf path result kind → Only path kind result
+only path kind result found (Draft name page) leads is = subst (OnlyOf path result) (sym is) found name leads
+only path kind result found (Book number page) leads is = subst (OnlyOf path result) (sym is) found number leads
+only path kind result found (Order number) leads is = subst (OnlyOf path result) (sym is) found number leads
+only path kind result found (ListAt page) leads is = subst (OnlyOf path result) (sym is) found leads
+only path kind result found (OrdersAfter number) leads is = subst (OnlyOf path result) (sym is) found number leads

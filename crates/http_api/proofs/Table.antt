@@ -1,19 +1,38 @@
 -- The routes, and the kind that each path finds.
-use Rattle.std.proofs.Common.{◌≡◌, ◌<◌, ℕ, arith, List, [], ◌∷◌, ◌++◌, Some, refl, ap, ◌∙◌, option_map, codes, append-nil}
+use Rattle.std.proofs.Common.{◌≡◌, ◌<◌, ◌+◌, ℕ, arith, List, [], ◌∷◌, ◌++◌, length, Some, refl, ap, ◌∙◌, option_map, codes, append-nil}
 use Rattle.matchit.specs.Rows.{RowsOf}
-use Rattle.matchit.specs.Seek.{seek}
+use Rattle.matchit.specs.Seek.{seek, with_suffix}
 use Rattle.matchit.specs.Router.{RouteOf}
 use Rattle.http_api.specs.declared.route.Route.TheVariants.{Draft as DraftAt, Book as BookAt, Order as OrderAt, Listed as ListAt, OrdersAfter as AfterAt}
 use Rattle.http_api.specs.declared.route.Kind.{Kind}
 use Rattle.http_api.specs.declared.route.Kind.TheVariants.{Draft, Book, Order, Listed, OrdersAfter}
+use Rattle.http_api.specs.declared.route.DraftPage.{DraftPage}
 use Rattle.http_api.specs.declared.route.DraftPage.TheVariants.{Text as DraftText, Owner, Check, Release}
+use Rattle.http_api.specs.declared.route.BookPage.{BookPage}
 use Rattle.http_api.specs.declared.route.BookPage.TheVariants.{Text as BookText, Certificate, Withdraw, Free, Why}
+use Rattle.http_api.specs.declared.route.ListPage.{ListPage}
 use Rattle.http_api.specs.declared.route.ListPage.TheVariants.{Books, Orders}
-use Rattle.http_api.specs.Route.{path_number}
-use Rattle.http_api.specs.Routes.{Routes, Knows, entry, row, front_drafts}
+use Rattle.http_api.specs.Route.{book_end, draft_end, list_path, path_number}
+use Rattle.http_api.specs.Routes.{Routes, Knows}
 use Rattle.http_api.proofs.Seeking.{IsPlain, behind, next_byte, other_byte}
 use Rattle.http_api.proofs.Items.{IsItem, name_item, number_item, number_digit}
 use Rattle.http_api.proofs.Found.{behind_name, at_name, cuts-slash, cuts-plain}
+
+-- a route with one parameter between two texts
+abbrev entry : List ℕ → List ℕ → Kind → RouteOf Kind
+entry front back kind = record {
+  pattern = front ++ 256 ∷ back;
+  text = front ++ codes "{item}" ++ back;
+  names = (length front + 1, length front + 5) ∷ [];
+  value = kind;
+}
+
+-- the same as a router has it
+abbrev row : List ℕ → List ℕ → Kind → List ℕ × RouteOf Kind
+row front back kind = (front ++ 256 ∷ back, entry front back kind)
+
+abbrev front_drafts : List ℕ
+front_drafts = codes "/drafts/"
 
 abbrev front_books : List ℕ
 front_books = codes "/books/"
@@ -83,39 +102,30 @@ at_after : (path : List ℕ) (k : RouteOf Kind) → seek 0 (behind after_rows) p
 at_after path k found = at_orders (codes "after/" ++ path) k (next_byte 97 _ _ k (next_byte 102 _ _ k (next_byte 116 _ _ k (next_byte 101 _ _ k (next_byte 114 _ _ k (next_byte 47 _ _ k found))))))
 
 -- the routes that go on behind the name or number, and those that end with it
-finds_owner : (b : ℕ) (item : List ℕ) → IsPlain (b ∷ item) → seek 0 table (front_drafts ++ (b ∷ item ++ codes "/owner")) ≡ Some (entry front_drafts (codes "/owner") (Draft Owner))
+on_book : (b : ℕ) (item back : List ℕ) (k : RouteOf Kind) → IsPlain (b ∷ item) → seek 0 (with_suffix (47 ∷ []) book_rows) (47 ∷ back) ≡ Some k
+    → seek 0 table (front_books ++ (b ∷ item ++ 47 ∷ back)) ≡ Some k
+on_book b item back k plain found = at_books (b ∷ item ++ 47 ∷ back) k (behind_name b item back book_rows k plain (rw (cuts-slash b item) refl) found)
+
+on_draft : (b : ℕ) (item back : List ℕ) (k : RouteOf Kind) → IsPlain (b ∷ item) → seek 0 (with_suffix (47 ∷ []) draft_rows) (47 ∷ back) ≡ Some k
+    → seek 0 table (front_drafts ++ (b ∷ item ++ 47 ∷ back)) ≡ Some k
+on_draft b item back k plain found = at_drafts (b ∷ item ++ 47 ∷ back) k (behind_name b item back draft_rows k plain (rw (cuts-slash b item) refl) found)
+
+finds_book : (page : BookPage) (b : ℕ) (item : List ℕ) → IsPlain (b ∷ item)
+    → seek 0 table (front_books ++ (b ∷ item ++ book_end page)) ≡ Some (entry front_books (book_end page) (Book page))
 unfolding seek
-finds_owner b item plain = at_drafts (b ∷ item ++ codes "/owner") _ (behind_name b item (codes "owner") draft_rows _ plain (rw (cuts-slash b item) refl) refl)
+finds_book BookText b item plain = ap (λ rest. seek 0 table (front_books ++ (b ∷ rest))) (append-nil item) ∙ at_books (b ∷ item) _ (at_name b item book_rows _ plain (rw (cuts-plain b item plain) refl) refl)
+finds_book Certificate b item plain = on_book b item (codes "certificate") _ plain refl
+finds_book Free b item plain = on_book b item (codes "free") _ plain refl
+finds_book Why b item plain = on_book b item (codes "why") _ plain refl
+finds_book Withdraw b item plain = on_book b item (codes "withdraw") _ plain refl
 
-finds_check : (b : ℕ) (item : List ℕ) → IsPlain (b ∷ item) → seek 0 table (front_drafts ++ (b ∷ item ++ codes "/check")) ≡ Some (entry front_drafts (codes "/check") (Draft Check))
+finds_draft : (page : DraftPage) (b : ℕ) (item : List ℕ) → IsPlain (b ∷ item)
+    → seek 0 table (front_drafts ++ (b ∷ item ++ draft_end page)) ≡ Some (entry front_drafts (draft_end page) (Draft page))
 unfolding seek
-finds_check b item plain = at_drafts (b ∷ item ++ codes "/check") _ (behind_name b item (codes "check") draft_rows _ plain (rw (cuts-slash b item) refl) refl)
-
-finds_release : (b : ℕ) (item : List ℕ) → IsPlain (b ∷ item) → seek 0 table (front_drafts ++ (b ∷ item ++ codes "/release")) ≡ Some (entry front_drafts (codes "/release") (Draft Release))
-unfolding seek
-finds_release b item plain = at_drafts (b ∷ item ++ codes "/release") _ (behind_name b item (codes "release") draft_rows _ plain (rw (cuts-slash b item) refl) refl)
-
-finds_cert : (b : ℕ) (item : List ℕ) → IsPlain (b ∷ item) → seek 0 table (front_books ++ (b ∷ item ++ codes "/certificate")) ≡ Some (entry front_books (codes "/certificate") (Book Certificate))
-unfolding seek
-finds_cert b item plain = at_books (b ∷ item ++ codes "/certificate") _ (behind_name b item (codes "certificate") book_rows _ plain (rw (cuts-slash b item) refl) refl)
-
-finds_free : (b : ℕ) (item : List ℕ) → IsPlain (b ∷ item) → seek 0 table (front_books ++ (b ∷ item ++ codes "/free")) ≡ Some (entry front_books (codes "/free") (Book Free))
-unfolding seek
-finds_free b item plain = at_books (b ∷ item ++ codes "/free") _ (behind_name b item (codes "free") book_rows _ plain (rw (cuts-slash b item) refl) refl)
-
-finds_why : (b : ℕ) (item : List ℕ) → IsPlain (b ∷ item) → seek 0 table (front_books ++ (b ∷ item ++ codes "/why")) ≡ Some (entry front_books (codes "/why") (Book Why))
-unfolding seek
-finds_why b item plain = at_books (b ∷ item ++ codes "/why") _ (behind_name b item (codes "why") book_rows _ plain (rw (cuts-slash b item) refl) refl)
-
-finds_withdraw : (b : ℕ) (item : List ℕ) → IsPlain (b ∷ item) → seek 0 table (front_books ++ (b ∷ item ++ codes "/withdraw")) ≡ Some (entry front_books (codes "/withdraw") (Book Withdraw))
-unfolding seek
-finds_withdraw b item plain = at_books (b ∷ item ++ codes "/withdraw") _ (behind_name b item (codes "withdraw") book_rows _ plain (rw (cuts-slash b item) refl) refl)
-
-finds_draft : (b : ℕ) (item : List ℕ) → IsPlain (b ∷ item) → seek 0 table (front_drafts ++ (b ∷ item ++ [])) ≡ Some (entry front_drafts [] (Draft DraftText))
-finds_draft b item plain = ap (λ rest. seek 0 table (front_drafts ++ (b ∷ rest))) (append-nil item) ∙ at_drafts (b ∷ item) _ (at_name b item draft_rows _ plain (rw (cuts-plain b item plain) refl) refl)
-
-finds_book : (b : ℕ) (item : List ℕ) → IsPlain (b ∷ item) → seek 0 table (front_books ++ (b ∷ item ++ [])) ≡ Some (entry front_books [] (Book BookText))
-finds_book b item plain = ap (λ rest. seek 0 table (front_books ++ (b ∷ rest))) (append-nil item) ∙ at_books (b ∷ item) _ (at_name b item book_rows _ plain (rw (cuts-plain b item plain) refl) refl)
+finds_draft DraftText b item plain = ap (λ rest. seek 0 table (front_drafts ++ (b ∷ rest))) (append-nil item) ∙ at_drafts (b ∷ item) _ (at_name b item draft_rows _ plain (rw (cuts-plain b item plain) refl) refl)
+finds_draft Owner b item plain = on_draft b item (codes "owner") _ plain refl
+finds_draft Check b item plain = on_draft b item (codes "check") _ plain refl
+finds_draft Release b item plain = on_draft b item (codes "release") _ plain refl
 
 -- a number begins with a digit, and so not as `after` does
 finds_order : (b : ℕ) (item : List ℕ) → b < 97 → IsPlain (b ∷ item) → seek 0 table (front_orders ++ (b ∷ item ++ [])) ≡ Some (entry front_orders [] Order)
@@ -127,13 +137,10 @@ finds_after : (b : ℕ) (item : List ℕ) → IsPlain (b ∷ item) → seek 0 ta
 finds_after b item plain = ap (λ rest. seek 0 table (front_after ++ (b ∷ rest))) (append-nil item) ∙ at_after (b ∷ item) _ (at_name b item after_rows _ plain refl refl)
 
 -- the paths without a name or a number
-finds_books : option_map (λ (r : RouteOf Kind). r.value) (seek 0 table (codes "/books")) ≡ Some (Listed Books)
+finds_list : (page : ListPage) → option_map (λ (r : RouteOf Kind). r.value) (seek 0 table (list_path page)) ≡ Some (Listed page)
 unfolding seek
-finds_books = refl
-
-finds_orders : option_map (λ (r : RouteOf Kind). r.value) (seek 0 table (codes "/orders")) ≡ Some (Listed Orders)
-unfolding seek
-finds_orders = refl
+finds_list Books = refl
+finds_list Orders = refl
 
 -- a path with a name or a number between two texts
 finds_item : (path front item back : List ℕ) (r : RouteOf Kind) → path ≡ front ++ (item ++ back) → IsItem item
@@ -149,16 +156,8 @@ finds_number path (b ∷ rest) n is h =
     ap (option_map (λ (r : RouteOf Kind). r.value)) (ap (seek 0 table) is ∙ finds_order b rest (number_digit b rest n h) (number_item (b ∷ rest) n h))
 
 pub knows : Knows table
-knows path (DraftAt name DraftText) h = finds_item path front_drafts name [] _ h.0 (name_item name h.1) finds_draft
-knows path (DraftAt name Owner) h = finds_item path front_drafts name (codes "/owner") _ h.0 (name_item name h.1) finds_owner
-knows path (DraftAt name Check) h = finds_item path front_drafts name (codes "/check") _ h.0 (name_item name h.1) finds_check
-knows path (DraftAt name Release) h = finds_item path front_drafts name (codes "/release") _ h.0 (name_item name h.1) finds_release
-knows path (BookAt number BookText) h = finds_item path front_books h.0 [] _ h.1 (number_item h.0 number h.2) finds_book
-knows path (BookAt number Certificate) h = finds_item path front_books h.0 (codes "/certificate") _ h.1 (number_item h.0 number h.2) finds_cert
-knows path (BookAt number Free) h = finds_item path front_books h.0 (codes "/free") _ h.1 (number_item h.0 number h.2) finds_free
-knows path (BookAt number Why) h = finds_item path front_books h.0 (codes "/why") _ h.1 (number_item h.0 number h.2) finds_why
-knows path (BookAt number Withdraw) h = finds_item path front_books h.0 (codes "/withdraw") _ h.1 (number_item h.0 number h.2) finds_withdraw
+knows path (DraftAt name page) h = finds_item path front_drafts name (draft_end page) _ h.0 (name_item name h.1) (finds_draft page)
+knows path (BookAt number page) h = finds_item path front_books h.0 (book_end page) _ h.1 (number_item h.0 number h.2) (finds_book page)
 knows path (OrderAt number) h = finds_number path h.0 number h.1 h.2
-knows path (ListAt Books) h = ap (λ p. option_map (λ (r : RouteOf Kind). r.value) (seek 0 table p)) h ∙ finds_books
-knows path (ListAt Orders) h = ap (λ p. option_map (λ (r : RouteOf Kind). r.value) (seek 0 table p)) h ∙ finds_orders
+knows path (ListAt page) h = ap (λ p. option_map (λ (r : RouteOf Kind). r.value) (seek 0 table p)) h ∙ finds_list page
 knows path (AfterAt number) h = finds_item path front_after h.0 [] _ h.1 (number_item h.0 number h.2) finds_after

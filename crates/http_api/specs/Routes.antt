@@ -1,15 +1,15 @@
 -- What the router is asked for.
-use Rattle.std.specs.Prelude.{◌≡◌, ℕ, ◌+◌, List, [], ◌∷◌, ◌++◌, length, codes, Some, None, Result, Ok, Err, option_map}
+use Rattle.std.specs.Prelude.{◌≡◌, ℕ, List, [], ◌∷◌, Option, Some, None, Result, Ok, Err, if◌then◌else◌, is_some, option_map}
+use Rattle.std.specs.Borrow.{Bor}
+use Rattle.std.specs.Option.{option_and_then}
 use Rattle.matchit.specs.Rows.{RowsOf}
 use Rattle.matchit.specs.Seek.{first}
-use Rattle.matchit.specs.Route.{Scan}
+use Rattle.matchit.specs.Route.{Scan, parse_route}
 use Rattle.matchit.specs.declared.error.InsertError.{InsertError}
 use Rattle.matchit.specs.Router.{RouteOf, nearest, route_from}
 use Rattle.matchit.specs.Order.{placed}
 use Rattle.http_api.specs.declared.route.Route.{Route}
-use Rattle.http_api.specs.declared.route.DraftPage.TheVariants.{Text as DraftText, Owner, Check, Release}
 use Rattle.http_api.specs.declared.route.Kind.{Kind}
-use Rattle.http_api.specs.declared.route.Kind.TheVariants.{Draft}
 use Rattle.http_api.specs.Route.{Leads, kind_of}
 
 -- the routes of a router
@@ -30,27 +30,12 @@ abbrev pub TakesRoute : Routes → Result Scan InsertError → Kind → Routes �
 TakesRoute old (Ok s) kind new = new ≡ placed (s.pattern, route_from s kind) old
 TakesRoute old (Err fault) kind new = ⊥
 
--- a route with one parameter between two texts
-abbrev pub entry : List ℕ → List ℕ → Kind → RouteOf Kind
-entry front back kind = record {
-  pattern = front ++ 256 ∷ back;
-  text = front ++ codes "{item}" ++ back;
-  names = (length front + 1, length front + 5) ∷ [];
-  value = kind;
-}
+-- the routes with one more, or None where the router can't take it
+abbrev pub with_route : Routes → Result Scan InsertError → Kind → Option Routes
+with_route old (Ok s) kind = if is_some (nearest s.pattern old) then None else Some (placed (s.pattern, route_from s kind) old)
+with_route old (Err fault) kind = None
 
--- the same as a router has it
-abbrev pub row : List ℕ → List ℕ → Kind → List ℕ × RouteOf Kind
-row front back kind = (front ++ 256 ∷ back, entry front back kind)
-
-abbrev pub front_drafts : List ℕ
-front_drafts = codes "/drafts/"
-
--- the routes of drafts
-abbrev pub draft_routes : Routes
-draft_routes =
-    row front_drafts (codes "/check") (Draft Check)
-    ∷ row front_drafts (codes "/owner") (Draft Owner)
-    ∷ row front_drafts (codes "/release") (Draft Release)
-    ∷ row front_drafts [] (Draft DraftText)
-    ∷ []
+-- the same with each of these texts
+abbrev pub with_routes : List (Bor (List ℕ) × Kind) → Routes → Option Routes
+with_routes [] old = Some old
+with_routes ((text, kind) ∷ more) old = option_and_then (with_routes more) (with_route old (parse_route text.now) kind)

@@ -67,25 +67,19 @@ fn object_of(alloc: Global, body: &[u8]) -> Result<Value, Fail<Denied>>
 fn number_within(value: &Value, least: u32, most: u32) -> Option<u32>
     ensures { result ≡ number_within least most (view value.now) }
 {
-    match value.as_u64() {
-        Some(number) => {
-            if u64::from(least) <= number && number <= u64::from(most) {
-                Some(number as u32)
-            } else {
-                None
-            }
-        }
-        None => None,
+    let number = value.as_u64()?;
+    if u64::from(least) <= number && number <= u64::from(most) {
+        Some(number as u32)
+    } else {
+        None
     }
 }
 
 fn number_at(value: &Value, key: &str, least: u32, most: u32) -> Option<u32>
     ensures { result ≡ number_at key.now least most (view value.now) }
 {
-    match value.get(key) {
-        Some(member) => number_within(member, least, most),
-        None => None,
-    }
+    let member = value.get(key)?;
+    number_within(member, least, most)
 }
 
 // The budget that an object names, or the usual one.
@@ -111,28 +105,22 @@ fn give_draft(alloc: Global, draft: Id, body: &[u8]) -> Result<What, Fail<Denied
 fn name_at(value: &Value, key: &str) -> Option<Id>
     ensures { result ≡ option_and_then name_in (get key.now (view value.now)) }
 {
-    match value.get(key) {
-        Some(member) => name_in(member),
-        None => None,
-    }
+    let member = value.get(key)?;
+    name_in(member)
 }
 
 fn name_in(value: &Value) -> Option<Id>
     ensures { result ≡ name_in (view value.now) }
 {
-    match value.as_str() {
-        Some(text) => Id::of(text.as_bytes()),
-        None => None,
-    }
+    let text = value.as_str()?;
+    Id::of(text.as_bytes())
 }
 
 fn code_in(value: &Value) -> Option<CodeName>
     ensures { result ≡ code_in (view value.now) }
 {
-    match value.as_str() {
-        Some(text) => CodeName::of(text.as_bytes()),
-        None => None,
-    }
+    let text = value.as_str()?;
+    CodeName::of(text.as_bytes())
 }
 
 fn check(alloc: Global, draft: Id, body: &[u8]) -> Result<What, Fail<Denied>>

@@ -9,10 +9,8 @@ pub fn name_in(path: &[u8], front: &[u8], back: &[u8]) -> Option<Id>
     ensures found { IfSome result (λ name. HasName path.now front.now name back.now) }
     ensures only { (name : List ℕ) → HasName path.now front.now name back.now → result ≡ Some name }
 {
-    match item_in(path, front, back) {
-        Some(item) => Id::of(item),
-        None => None,
-    }
+    let item = item_in(path, front, back)?;
+    Id::of(item)
 }
 
 /// The number that stands in a path between these two texts.
@@ -20,10 +18,8 @@ pub fn number_in(path: &[u8], front: &[u8], back: &[u8]) -> Option<u32>
     ensures found { IfSome result (λ number. HasNumber path.now front.now number back.now) }
     ensures only { (number : ℕ) → HasNumber path.now front.now number back.now → result ≡ Some number }
 {
-    match item_in(path, front, back) {
-        Some(item) => path_number(item),
-        None => None,
-    }
+    let item = item_in(path, front, back)?;
+    path_number(item)
 }
 
 fn path_number(digits: &[u8]) -> Option<u32>
@@ -32,10 +28,8 @@ fn path_number(digits: &[u8]) -> Option<u32>
     if digits.starts_with(b"0") {
         return None;
     }
-    match number_within(digits, 9) {
-        Some(number) => Some(number as u32),
-        None => None,
-    }
+    let number = number_within(digits, 9)?;
+    Some(number as u32)
 }
 
 // What stands between these two texts.
@@ -44,8 +38,6 @@ fn item_in<'a>(path: &'a [u8], front: &[u8], back: &[u8]) -> Option<&'a [u8]>
     ensures only { (item : List ℕ) → path.now ≡ front.now ++ (item ++ back.now)
         → option_map (λ i. i.now) result ≡ Some item }
 {
-    match path.strip_prefix(front) {
-        Some(rest) => rest.strip_suffix(back),
-        None => None,
-    }
+    let rest = path.strip_prefix(front)?;
+    rest.strip_suffix(back)
 }

@@ -49,14 +49,11 @@ impl Verb {
     fn named(method: &[u8]) -> Verb
         ensures { result ≡ method_of method.now }
     {
-        if method == b"GET".as_slice() {
-            Verb::Get
-        } else if method == b"PUT".as_slice() {
-            Verb::Put
-        } else if method == b"POST".as_slice() {
-            Verb::Post
-        } else {
-            Verb::Other
+        match method {
+            b"GET" => Verb::Get,
+            b"PUT" => Verb::Put,
+            b"POST" => Verb::Post,
+            _ => Verb::Other,
         }
     }
 }

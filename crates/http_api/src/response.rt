@@ -161,30 +161,19 @@ fn bad_line(refusal: Refusal) -> &'static [u8]
 pub fn memory_response(close: bool, bare: bool) -> &'static [u8]
     ensures { result.now ≡ response_of WantOfMemory close bare }
 {
-    if close {
-        closing_memory_response(bare)
-    } else {
-        lasting_memory_response(bare)
-    }
-}
-
-fn closing_memory_response(bare: bool) -> &'static [u8]
-    ensures { result.now ≡ response_of WantOfMemory true bare }
-{
-    if bare {
-        "HTTP/1.1 500 Internal Server Error\r\nContent-Type: text/plain\r\nContent-Length: 15\r\nConnection: close\r\n\r\n".as_bytes()
-    } else {
-        "HTTP/1.1 500 Internal Server Error\r\nContent-Type: text/plain\r\nContent-Length: 15\r\nConnection: close\r\n\r\nwant of memory\n".as_bytes()
-    }
-}
-
-fn lasting_memory_response(bare: bool) -> &'static [u8]
-    ensures { result.now ≡ response_of WantOfMemory false bare }
-{
-    if bare {
-        "HTTP/1.1 500 Internal Server Error\r\nContent-Type: text/plain\r\nContent-Length: 15\r\n\r\n".as_bytes()
-    } else {
-        "HTTP/1.1 500 Internal Server Error\r\nContent-Type: text/plain\r\nContent-Length: 15\r\n\r\nwant of memory\n".as_bytes()
+    match (close, bare) {
+        (true, true) => {
+            "HTTP/1.1 500 Internal Server Error\r\nContent-Type: text/plain\r\nContent-Length: 15\r\nConnection: close\r\n\r\n".as_bytes()
+        }
+        (true, false) => {
+            "HTTP/1.1 500 Internal Server Error\r\nContent-Type: text/plain\r\nContent-Length: 15\r\nConnection: close\r\n\r\nwant of memory\n".as_bytes()
+        }
+        (false, true) => {
+            "HTTP/1.1 500 Internal Server Error\r\nContent-Type: text/plain\r\nContent-Length: 15\r\n\r\n".as_bytes()
+        }
+        (false, false) => {
+            "HTTP/1.1 500 Internal Server Error\r\nContent-Type: text/plain\r\nContent-Length: 15\r\n\r\nwant of memory\n".as_bytes()
+        }
     }
 }
 

@@ -1,7 +1,7 @@
 //! The router that finds a path's route.
-ghost use Rattle.std.specs.Prelude.{◌≡◌, ℕ, List, [], Some, IfOk, IfSome, OnOk};
+ghost use Rattle.std.specs.Prelude.{◌≡◌, ℕ, List, [], Some, IfOk, IfSome, OnOk, is_some, true};
 ghost use Rattle.http_api.specs.Route.{Leads, kind_of};
-ghost use Rattle.http_api.specs.Routes.{CanTake, Knows, TakesRoute, draft_routes};
+ghost use Rattle.http_api.specs.Routes.{CanTake, Knows, TakesRoute, with_routes};
 ghost use Rattle.http_api.specs.declared.route.Route.{Route};
 ghost use Rattle.matchit.specs.Route.{parse_route};
 
@@ -69,10 +69,8 @@ fn draft_at(path: &[u8], page: DraftPage) -> Option<Route>
     ensures only { (name : List ℕ) → Leads path.now (Route.Draft name page)
         → result ≡ Some (Route.Draft name page) }
 {
-    match name_in(path, b"/drafts/", page.end()) {
-        Some(name) => Some(Route::Draft(name, page)),
-        None => None,
-    }
+    let name = name_in(path, b"/drafts/", page.end())?;
+    Some(Route::Draft(name, page))
 }
 
 fn book_at(path: &[u8], page: BookPage) -> Option<Route>
@@ -80,20 +78,16 @@ fn book_at(path: &[u8], page: BookPage) -> Option<Route>
     ensures only { (number : ℕ) → Leads path.now (Route.Book number page)
         → result ≡ Some (Route.Book number page) }
 {
-    match number_in(path, b"/books/", page.end()) {
-        Some(number) => Some(Route::Book(number, page)),
-        None => None,
-    }
+    let number = number_in(path, b"/books/", page.end())?;
+    Some(Route::Book(number, page))
 }
 
 fn order_at(path: &[u8]) -> Option<Route>
     ensures found { IfSome result (λ route. Leads path.now route) }
     ensures only { (number : ℕ) → Leads path.now (Route.Order number) → result ≡ Some (Route.Order number) }
 {
-    match number_in(path, b"/orders/", b"") {
-        Some(number) => Some(Route::Order(number)),
-        None => None,
-    }
+    let number = number_in(path, b"/orders/", b"")?;
+    Some(Route::Order(number))
 }
 
 fn list_at(path: &[u8], page: ListPage) -> Option<Route>
@@ -112,10 +106,8 @@ fn orders_after(path: &[u8]) -> Option<Route>
     ensures only { (number : ℕ) → Leads path.now (Route.OrdersAfter number)
         → result ≡ Some (Route.OrdersAfter number) }
 {
-    match number_in(path, b"/orders/after/", b"") {
-        Some(number) => Some(Route::OrdersAfter(number)),
-        None => None,
-    }
+    let number = number_in(path, b"/orders/after/", b"")?;
+    Some(Route::OrdersAfter(number))
 }
 
 // A router with each route.
@@ -134,55 +126,35 @@ fn add_all(router: &mut Router<Kind>) -> Result<(), Memory>
     requires { router.old ≡ [] }
     ensures { OnOk result (Knows router.new) }
 {
-    add_drafts(router)?;
-    add_further(router)
+    let routes = [
+        ("/drafts/{item}", Kind::Draft(DraftPage::Text)),
+        ("/drafts/{item}/owner", Kind::Draft(DraftPage::Owner)),
+        ("/drafts/{item}/check", Kind::Draft(DraftPage::Check)),
+        ("/drafts/{item}/release", Kind::Draft(DraftPage::Release)),
+        ("/books/{item}", Kind::Book(BookPage::Text)),
+        (
+            "/books/{item}/certificate",
+            Kind::Book(BookPage::Certificate),
+        ),
+        ("/books/{item}/withdraw", Kind::Book(BookPage::Withdraw)),
+        ("/books/{item}/free", Kind::Book(BookPage::Free)),
+        ("/books/{item}/why", Kind::Book(BookPage::Why)),
+        ("/orders/{item}", Kind::Order),
+        ("/books", Kind::Listed(ListPage::Books)),
+        ("/orders", Kind::Listed(ListPage::Orders)),
+        ("/orders/after/{item}", Kind::OrdersAfter),
+    ];
+    add_each(router, &routes)
 }
 
-fn add_drafts(router: &mut Router<Kind>) -> Result<(), Memory>
-    requires { router.old ≡ [] }
-    ensures { OnOk result (router.new ≡ draft_routes) }
+// Adds these routes one after the other.
+fn add_each(router: &mut Router<Kind>, routes: &[(&str, Kind)]) -> Result<(), Memory>
+    requires { is_some (with_routes routes.now router.old) ≡ true }
+    ensures { OnOk result (with_routes routes.now router.old ≡ Some router.new) }
 {
-    add(router, "/drafts/{item}", Kind::Draft(DraftPage::Text))?;
-    add(
-        router,
-        "/drafts/{item}/owner",
-        Kind::Draft(DraftPage::Owner),
-    )?;
-    add(
-        router,
-        "/drafts/{item}/check",
-        Kind::Draft(DraftPage::Check),
-    )?;
-    add(
-        router,
-        "/drafts/{item}/release",
-        Kind::Draft(DraftPage::Release),
-    )?;
-    Ok(())
-}
-
-// Adds the routes of books and orders to those of drafts.
-fn add_further(router: &mut Router<Kind>) -> Result<(), Memory>
-    requires { router.old ≡ draft_routes }
-    ensures { OnOk result (Knows router.new) }
-{
-    add(router, "/books/{item}", Kind::Book(BookPage::Text))?;
-    add(
-        router,
-        "/books/{item}/certificate",
-        Kind::Book(BookPage::Certificate),
-    )?;
-    add(
-        router,
-        "/books/{item}/withdraw",
-        Kind::Book(BookPage::Withdraw),
-    )?;
-    add(router, "/books/{item}/free", Kind::Book(BookPage::Free))?;
-    add(router, "/books/{item}/why", Kind::Book(BookPage::Why))?;
-    add(router, "/orders/{item}", Kind::Order)?;
-    add(router, "/books", Kind::Listed(ListPage::Books))?;
-    add(router, "/orders", Kind::Listed(ListPage::Orders))?;
-    add(router, "/orders/after/{item}", Kind::OrdersAfter)?;
+    for route in routes {
+        add(router, route.0, route.1)?;
+    }
     Ok(())
 }
 

@@ -1,7 +1,7 @@
 use Rattle.std.proofs.Common.{◌≡◌, Some, None}
 use Rattle.http_api.proofs.routes.orders_after.Goals as goal
 
-pub returns-in-None-clause-only : goal.returns-in-None-clause-only
-returns-in-None-clause-only c number h =
-    let same : None ≡ Some number = c.in-None.ensures.only number h in
+pub returns-in_err-number-clause-only : goal.returns-in_err-number-clause-only
+returns-in_err-number-clause-only c number h =
+    let same : None ≡ Some number = c.in_err-number.ensures.only number h in
     cc
