@@ -123,21 +123,6 @@ module _ (b : Contents) (day : ℕ) (codes : List ℕ) (qs : List SupplementQues
   pub one_goals : length qs ≡ 1 → goals_of (asked_start b day codes qs) qs ≡ question_goal b day (question_at qs 0) ∷ []
   one_goals one = ap (λ (ls : List SupplementQuestion). goals_of (asked_start b day codes ls) ls) (one_of qs one)
 
-pub more_clauses : (b : Contents) (day : ℕ) (codes : List ℕ) (qs : List SupplementQuestion) → (length qs ≡ 1 → ⊥) → questions_clauses b day codes qs ≡ together_clauses b day codes qs
-more_clauses b day codes [] more = refl
-more_clauses b day codes (q ∷ []) more = absurd (more refl)
-more_clauses b day codes (p ∷ q ∷ qs) more = refl
-
-pub more_variables : (b : Contents) (day : ℕ) (codes : List ℕ) (qs : List SupplementQuestion) → (length qs ≡ 1 → ⊥) → questions_variables b day codes qs ≡ together_variables b day codes qs
-more_variables b day codes [] more = refl
-more_variables b day codes (q ∷ []) more = absurd (more refl)
-more_variables b day codes (p ∷ q ∷ qs) more = refl
-
-pub more_start : (b : Contents) (day : ℕ) (codes : List ℕ) (qs : List SupplementQuestion) → (length qs ≡ 1 → ⊥) → asked_start b day codes qs ≡ together_start b day codes qs
-more_start b day codes [] more = refl
-more_start b day codes (q ∷ []) more = absurd (more refl)
-more_start b day codes (p ∷ q ∷ qs) more = refl
-
 -- the encoder of several questions begun, with the constructibility rules, with the formulas of the codes, and with the others
 pub record AreWide (b : Contents) (day : ℕ) (codes : List ℕ) (qs : List SupplementQuestion) (m0 m1 m2 m3 : WideEncoder) : Type 0 where
   pub first : m0.pool.clauses ≡ clause_of (literal (length b.codes) true ∷ []) ∷ []

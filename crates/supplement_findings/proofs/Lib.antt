@@ -1,5 +1,6 @@
 mod EndLaws
 mod QuestionLaws
+mod CountLaws
 mod TouchLaws
 mod TouchedLaws
 mod NotedLaws

@@ -1,5 +1,5 @@
 -- What the questions on supplementing rules leave out shows nothing, and where none of them is shown by a set, a day is calm.
-use Rattle.std.proofs.Common.{inl, inr, ◌≡◌, ℕ, zero, suc, ◌+◌, ◌≤◌, ◌<◌, Bool, true, false, not, ◌&&◌, ◌||◌, ◌⊎◌, eqb, List, [], ◌∷◌, length, get_or, refl, sym, ap, subst, ◌∙◌, arith}
+use Rattle.std.proofs.Common.{inl, inr, ◌≡◌, ℕ, zero, suc, ◌+◌, ◌≤◌, ◌<◌, Bool, true, false, not, ◌&&◌, ◌||◌, ◌⊎◌, eqb, List, [], ◌∷◌, length, drop, get_or, get_or-drop, length-drop, refl, sym, ap, subst, ◌∙◌, arith}
 use Rattle.std.specs.Prelude.{All, Contains}
 use Rattle.std.specs.List.{filter, AllByRecursion}
 use Rattle.std.proofs.lemmas.Bool.{and_parts, and_from, or_parts, cases_Bool, cases_order, cond-true, cond-false, false_from_ne_true, not_from_false, not-true, eqb-true, ne_eqb, eqb-false, true≢false, false≢true}
@@ -14,6 +14,7 @@ use Rattle.book_model.proofs.DaysAlike.{constructible_alike, fires_alike}
 use Rattle.clausify.proofs.ListLaws.{all-append, all_first, all_last, all_filtered}
 use Rattle.supplement.specs.Occurrences.{occurs}
 use Rattle.supplement.proofs.OccurrenceLemmas.{holds-set}
+use Rattle.supplement_findings.specs.Counting.{pairs_at}
 use Rattle.supplement_findings.specs.Ends.{with_code, breaks_with, swaps_with, IsCalm}
 use Rattle.supplement_findings.specs.Questions.{no_rule, rule_at, is_active, is_asked, breaks_from, swaps_with_later, swaps_from, all_questions, is_put, questions, meets, QuestionFits}
 use Rattle.supplement_findings.specs.declared.question.SupplementQuestion.{SupplementQuestion}
@@ -31,9 +32,6 @@ breaks_over b day s x h =
     let outer = and_parts (is_constructible b day x && fires day x s) (not (is_constructible b day (with_code s.code x))) h in
     let inner = and_parts (is_constructible b day x) (fires day x s) outer.0 in
     record { built = inner.0; on = inner.1; broken = not-true _ outer.1 }
-
-pub over_breaks : (b : Contents) (day : ℕ) (s : Supplement) (x : List Bool) → BreaksOver b day s x → breaks_with b day s x ≡ true
-over_breaks b day s x h = and_from _ _ (and_from _ _ h.built h.on) (not_from_false _ h.broken)
 
 pub record SwapsOver (b : Contents) (day : ℕ) (s t : Supplement) (x : List Bool) : Type 0 where
   pub built : is_constructible b day x ≡ true
@@ -224,7 +222,7 @@ calm_alike b d e alike calm = record {
 }
 
 -- What the questions name is in the book.
-breaks_fit : (b : Contents) (i : ℕ) (ss : List Supplement) → i + length ss ≤ length b.supplements → AllByRecursion (QuestionFits b) (breaks_from i ss)
+pub breaks_fit : (b : Contents) (i : ℕ) (ss : List Supplement) → i + length ss ≤ length b.supplements → AllByRecursion (QuestionFits b) (breaks_from i ss)
 breaks_fit b i [] few = tt
 breaks_fit b i (s ∷ ss) few = (omega arith, breaks_fit b (suc i) ss (omega arith))
 
@@ -264,19 +262,20 @@ whole_rules : (b : Contents) → AreRulesFrom b 0 b.supplements
 unfolding AreRulesFrom
 whole_rules b k within = ap (rule_at b) (let e : k ≡ 0 + k = omega arith in e)
 
+rules_behind : (b : Contents) (i : ℕ) → AreRulesFrom b i (drop i b.supplements)
+unfolding AreRulesFrom
+rules_behind b i k within = get_or-drop i b.supplements k no_rule
+
+pub pairs_fit : (b : Contents) (place : ℕ) → place < length b.supplements → AllByRecursion (QuestionFits b) (pairs_at b place)
+pairs_fit b place within =
+    let left = length-drop (suc place) b.supplements in
+    swaps_later_fit b place (rule_at b place) (suc place) (drop (suc place) b.supplements) within refl (omega (arith, left)) (rules_behind b (suc place))
+
 pub all_fit : (b : Contents) → AllByRecursion (QuestionFits b) (all_questions b)
 all_fit b = all-append (QuestionFits b) (breaks_from 0 b.supplements) (swaps_from 0 b.supplements) (breaks_fit b 0 b.supplements (omega arith)) (swaps_fit b 0 b.supplements (omega arith) (whole_rules b))
 
 pub questions_fit : (b : Contents) (day : ℕ) → AllByRecursion (QuestionFits b) (questions b day)
 questions_fit b day = all_filtered (QuestionFits b) (is_put b day) (all_questions b) (all_fit b)
-
-pub all_pass : {X : Type 0} (w : X → Bool) (xs : List X) → AllByRecursion (λ x. w x ≡ true) (filter w xs)
-all_pass w [] = tt
-all_pass {X} w (x ∷ xs) =
-    elim (cases_Bool (w x)) [
-      | inl yes_ ↦ subst (λ (ys : List X). AllByRecursion (λ y. w y ≡ true) ys) (sym (cond-true (w x) (x ∷ filter w xs) (filter w xs) yes_)) (yes_, all_pass w xs)
-      | inr no_ ↦ subst (λ (ys : List X). AllByRecursion (λ y. w y ≡ true) ys) (sym (cond-false (w x) (x ∷ filter w xs) (filter w xs) no_)) (all_pass w xs)
-    ]
 
 pub fits_at : (b : Contents) (all : List SupplementQuestion) (i : ℕ) → all ≡ all_questions b → i < length all → QuestionFits b (get_or all i (Breaks 0))
 fits_at b all i is within = All-get_or (QuestionFits b) all i (Breaks 0) within (subst (All (QuestionFits b)) (sym is) (All-from_recursion (QuestionFits b) (all_questions b) (all_fit b)))

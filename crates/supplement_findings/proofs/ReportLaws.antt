@@ -3,7 +3,7 @@ use Rattle.std.proofs.Common.{◌≡◌, ℕ, ◌≤◌, Bool, true, false, cond
 use Rattle.std.specs.List.{AllByRecursion}
 use Rattle.std.proofs.lemmas.Bool.{and_from, le-leb, leb-true, false≢true}
 use Rattle.std.proofs.lemmas.List.{map-append}
-use Rattle.std.proofs.lemmas.List.Elements.{All-from_recursion}
+use Rattle.std.proofs.lemmas.List.Elements.{All-from_recursion, filter_passes}
 use Rattle.std.specs.Result.{IsErr, IsErrAnd}
 use Rattle.pb_base.specs.Answers.{Answers, IfRefused}
 use Rattle.pb_base.specs.declared.answer.Fail.{Fail}
@@ -31,7 +31,7 @@ use Rattle.supplement_findings.specs.declared.question.SupplementQuestion.{Suppl
 use Rattle.supplement_findings.specs.declared.report.SupplementNote.{SupplementNote}
 use Rattle.supplement_findings.specs.declared.report.SupplementNote.TheVariants.{Days}
 use Rattle.supplement_findings.proofs.EndLaws.{one_end_law}
-use Rattle.supplement_findings.proofs.QuestionLaws.{calm_law, calm_alike, meets_alike, questions_fit, all_pass}
+use Rattle.supplement_findings.proofs.QuestionLaws.{calm_law, calm_alike, meets_alike, questions_fit}
 
 -- a set that shows something on the first day of a slice shows it on each
 pub shown_through : (b : Contents) (s : Slice) (q : SupplementQuestion) (x : List Bool) → IsSteady b s → QuestionFits b q → length x ≡ length b.codes → meets b s.first q x ≡ true
@@ -68,7 +68,7 @@ slice_notes b budget s own notes book order steady parts is = record {
 }
 
 pub questions_put : (b : Contents) (day : ℕ) → All (λ q. is_put b day q ≡ true) (questions b day)
-questions_put b day = All-from_recursion (λ q. is_put b day q ≡ true) (questions b day) (all_pass (is_put b day) (all_questions b))
+questions_put b day = filter_passes (is_put b day) (all_questions b)
 
 pub questions_fitting : (b : Contents) (day : ℕ) → All (QuestionFits b) (questions b day)
 questions_fitting b day = All-from_recursion (QuestionFits b) (questions b day) (questions_fit b day)
@@ -91,9 +91,6 @@ all_noted b budget s codes (q ∷ qs) told steady posed parts = (
   noted b budget s codes q parts.0 steady posed.0 parts.3,
   all_noted b budget s codes qs parts.1 steady posed.1 parts.4,
 )
-
-pub counted_of_built : (b : Contents) (day : ℕ) (xs : List (List Bool)) → All (IsBuilt b day) xs → All (IsCounted b) xs
-counted_of_built b day xs h k d inside = (h k d inside).0
 
 pub built_of_kept : (b : Contents) (day : ℕ) (codes : List ℕ) (xs : List (List Bool)) → All (IsKept (form b day codes) (λ x. is_constructible b day x ≡ true)) xs → All (IsBuilt b day) xs
 built_of_kept b day codes xs h k d inside = let kept = h k d inside in (kept.0, kept.1)

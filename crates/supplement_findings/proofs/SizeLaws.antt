@@ -2,7 +2,8 @@
 use Rattle.std.proofs.Common.{inl, inr, ◌≡◌, ℕ, suc, ◌+◌, ◌*◌, ◌≤◌, ◌<◌, Bool, true, false, not, ◌&&◌, ◌||◌, eqb, List, [], ◌∷◌, ◌++◌, None, Some, length, map, refl, sym, ap, subst, ◌∙◌, arith}
 use Rattle.std.specs.List.{filter, list_any, sum_by, AllByRecursion}
 use Rattle.std.proofs.lemmas.Bool.{cases_Bool, cond-true, cond-false, eqb-true, false≢true}
-use Rattle.std.proofs.lemmas.List.{map-append}
+use Rattle.std.proofs.lemmas.List.{length-map, map-append}
+use Rattle.std.proofs.lemmas.List.Filters.{length-filter_both}
 use Rattle.std.proofs.lemmas.List.Sums.{sum_by-cons}
 use Rattle.pb_base.specs.Leaves.{with_present}
 use Rattle.pb_base.specs.Node.{nodes_of, size, size_with}
@@ -27,7 +28,7 @@ use Rattle.clausify.specs.Items.{construct_item, construct_items, free_item, Ite
 use Rattle.clausify.specs.Questions.{and_none, none_rule}
 use Rattle.clausify.proofs.Bounds.{connectives_below, variables_below, demand_item_below}
 use Rattle.clausify.proofs.ItemLaws.{AllBelow, variables_of-append}
-use Rattle.clausify.proofs.ListLaws.{all-append, all_weaker}
+use Rattle.clausify.proofs.ListLaws.{all-append, all_filtered, all_weaker}
 use Rattle.clausify.proofs.RangeLaws.{positive_below, negative_below, complement_below, literal_below, items_below}
 use Rattle.wide_clauses.specs.WideItems.{taken_by, wide_items, wide_literals}
 use Rattle.wide_clauses.proofs.WideItemLaws.{taken_by-append, taken_by_most}
@@ -46,9 +47,6 @@ use Rattle.supplement_findings.proofs.GoalLaws.{asked_fit}
 present_below : (n c : ℕ) (f : Rule) → RuleFits n f → connectives (with_present c f) ≤ 512
 present_below n c f h = omega (arith, connectives_below (with_present c f), nodes-with_leaves (present c) f, h.size)
 
-fitting_rule : (n : ℕ) (f : Rule) → RuleFits n f → connectives f ≤ 512
-fitting_rule n f h = omega (arith, connectives_below f, h.size)
-
 and_none_size : (f : Rule) (ks : List ℕ) → connectives (and_none f (map code ks)) ≡ connectives f + length ks
 and_none_size f [] = omega arith
 and_none_size f (k ∷ ks) = and_none_size (both f (negation (code k))) ks ∙ omega arith
@@ -57,16 +55,8 @@ none_size : (ks : List ℕ) → connectives (none_rule (map code ks)) ≤ length
 none_size [] = omega arith
 none_size (k ∷ ks) = omega (arith, and_none_size (negation (code k)) ks)
 
-length-filter_below : (w : ℕ → Bool) (ks : List ℕ) → length (filter w ks) ≤ length ks
-length-filter_below w [] = omega arith
-length-filter_below w (k ∷ ks) =
-    elim (cases_Bool (w k)) [
-      | inl e ↦ omega (arith, ap length (cond-true (w k) (k ∷ filter w ks) (filter w ks) e), length-filter_below w ks)
-      | inr e ↦ omega (arith, ap length (cond-false (w k) (k ∷ filter w ks) (filter w ks) e), length-filter_below w ks)
-    ]
-
 other_size : (c : ℕ) (group : List ℕ) → length group ≤ 64 → connectives (no_other c group) ≤ 512
-other_size c group few = omega (arith, none_size (filter (λ k. not (eqb k c)) group), length-filter_below (λ k. not (eqb k c)) group)
+other_size c group few = omega (arith, none_size (filter (λ k. not (eqb k c)) group), length-filter_both (λ k. not (eqb k c)) (λ k. not (not (eqb k c))) (λ _. refl) group)
 
 after_size : (n c : ℕ) (d : Demand) → DemandFits n d → connectives (after c d) ≤ 513
 after_size n c (demand.Rule None f) h = omega (arith, present_below n c f h.rule)
@@ -80,31 +70,6 @@ after_size n c (demand.Rule (Some on) f) h =
 after_size n c (demand.One group) h = omega (arith, other_size c group h.most)
 after_size n c (demand.Most group) h = omega (arith, other_size c group h.most)
 
--- what the touched rules ask takes few variables for each of them, active or not
-afters_size : (n c day i : ℕ) (rs : List Construct) → AllByRecursion (ConstructFits n) rs
-    → variables_of (map free_item (map (λ (r : Construct). after c r.demand) (filter (is_touched day c) rs))) ≤ 513 * length (touched_from i c rs)
-afters_size n c day i [] h = omega arith
-afters_size n c day i (r ∷ rs) h =
-    let w : Construct → Bool = is_touched day c in
-    let made : List Construct → ℕ = λ ks. variables_of (map free_item (map (λ (k : Construct). after c k.demand) ks)) in
-    let ps : List ℕ = touched_from (suc i) c rs in
-    let later = afters_size n c day (suc i) rs h.1 in
-    elim (cases_Bool (touches c r.demand)) [
-      | inl on_ ↦
-          let counted = ap length (cond-true (touches c r.demand) (i ∷ ps) ps on_) in
-          elim (cases_Bool (w r)) [
-            | inl e ↦ omega (arith, ap made (cond-true (w r) (r ∷ filter w rs) (filter w rs) e), after_size n c r.demand h.0.demand, counted, later)
-            | inr e ↦ omega (arith, ap made (cond-false (w r) (r ∷ filter w rs) (filter w rs) e), counted, later)
-          ]
-      | inr off ↦
-          let counted = ap length (cond-false (touches c r.demand) (i ∷ ps) ps off) in
-          omega (arith, ap made (cond-false (w r) (r ∷ filter w rs) (filter w rs) (and_off (is_within r.from r.until day) (touches c r.demand) off)), counted, later)
-    ]
-  where
-    and_off : (p q : Bool) → q ≡ false → (p && q) ≡ false
-    and_off true q e = e
-    and_off false q e = refl
-
 pub touched_few : (c i : ℕ) (rs : List Construct) → length (touched_from i c rs) ≤ length rs
 touched_few c i [] = omega arith
 touched_few c i (r ∷ rs) =
@@ -115,29 +80,33 @@ touched_few c i (r ∷ rs) =
       | inr off ↦ omega (arith, ap length (cond-false (touches c r.demand) (i ∷ ps) ps off), later)
     ]
 
--- so are those of the active rules among them
-afters_few : (c day i : ℕ) (rs : List Construct) → length (map (λ (r : Construct). after c r.demand) (filter (is_touched day c) rs)) ≤ length (touched_from i c rs)
-afters_few c day i [] = omega arith
-afters_few c day i (r ∷ rs) =
+-- so are the active rules among them
+rules_few : (c day i : ℕ) (rs : List Construct) → length (filter (is_touched day c) rs) ≤ length (touched_from i c rs)
+rules_few c day i [] = omega arith
+rules_few c day i (r ∷ rs) =
     let w : Construct → Bool = is_touched day c in
-    let made : List Construct → ℕ = λ ks. length (map (λ (k : Construct). after c k.demand) ks) in
     let ps : List ℕ = touched_from (suc i) c rs in
-    let later = afters_few c day (suc i) rs in
+    let later = rules_few c day (suc i) rs in
     elim (cases_Bool (touches c r.demand)) [
       | inl on_ ↦
           let counted = ap length (cond-true (touches c r.demand) (i ∷ ps) ps on_) in
           elim (cases_Bool (w r)) [
-            | inl e ↦ omega (arith, ap made (cond-true (w r) (r ∷ filter w rs) (filter w rs) e), counted, later)
-            | inr e ↦ omega (arith, ap made (cond-false (w r) (r ∷ filter w rs) (filter w rs) e), counted, later)
+            | inl e ↦ omega (arith, ap length (cond-true (w r) (r ∷ filter w rs) (filter w rs) e), counted, later)
+            | inr e ↦ omega (arith, ap length (cond-false (w r) (r ∷ filter w rs) (filter w rs) e), counted, later)
           ]
       | inr off ↦
           let counted = ap length (cond-false (touches c r.demand) (i ∷ ps) ps off) in
-          omega (arith, ap made (cond-false (w r) (r ∷ filter w rs) (filter w rs) (none_off (is_within r.from r.until day) (touches c r.demand) off)), counted, later)
+          omega (arith, ap length (cond-false (w r) (r ∷ filter w rs) (filter w rs) (none_off (is_within r.from r.until day) (touches c r.demand) off)), counted, later)
     ]
   where
     none_off : (p q : Bool) → q ≡ false → (p && q) ≡ false
     none_off true q e = e
     none_off false q e = refl
+
+-- what rules ask takes few variables for each of them
+asked_few : (n c : ℕ) (rs : List Construct) → AllByRecursion (ConstructFits n) rs → variables_of (map free_item (map (λ (r : Construct). after c r.demand) rs)) ≤ 513 * length rs
+asked_few n c [] h = omega arith
+asked_few n c (r ∷ rs) h = omega (arith, after_size n c r.demand h.0.demand, asked_few n c rs h.1)
 
 -- a formula has no more nodes than it is kept in, and is kept in at most twice as many
 nodes_kept : (f : Rule) (more : ℕ) → nodes f + more ≤ size_with f more
@@ -265,8 +234,9 @@ unbroken_few b day (c ∷ codes) book =
     omega (
       arith,
       all_rule_most (afters b day c),
-      afters_size (length b.codes) c day 0 b.constructs (constructs_fit b book),
-      afters_few c day 0 b.constructs,
+      asked_few (length b.codes) c (filter (is_touched day c) b.constructs) (all_filtered (ConstructFits (length b.codes)) (is_touched day c) b.constructs (constructs_fit b book)),
+      length-map (filter (is_touched day c) b.constructs) (λ (r : Construct). after c r.demand),
+      rules_few c day 0 b.constructs,
       unbroken_few b day codes book,
       sum_by-cons (touch_count b) c codes,
     )

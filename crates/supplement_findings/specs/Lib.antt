@@ -3,6 +3,7 @@ pub mod Questions
 pub mod Touching
 pub mod Clauses
 pub mod Limits
+pub mod Counting
 pub mod Notes
 pub mod Answering
 pub mod NoteOf

@@ -11,9 +11,10 @@ ghost use Rattle.supplement_findings.specs.Limits.{slices_within};
 ghost use Rattle.supplement_findings.specs.Notes.{IsReport, SliceNotes};
 ghost use Rattle.supplement_findings.specs.Questions.{all_questions, is_asked};
 
+use crate::counting::slices_within;
 use crate::laws::unasked_never_swap;
 use crate::question::SupplementQuestion;
-use crate::questions::{all_questions, slices_within};
+use crate::questions::all_questions;
 use crate::report::{SupplementNote, SupplementReport};
 use crate::slices::{SliceWork, joined};
 use crate::touched::all_touched;
@@ -42,8 +43,8 @@ pub fn check_supplements<R: Threads + Sync>(
         → swaps_with book.now day s t x ≡ false }
 {
     unasked_never_swap();
+    let slices = slices_within(alloc, book)?;
     let all = all_questions(alloc, book)?;
-    let slices = slices_within(alloc, book, &all)?;
     let touched = all_touched(alloc, book)?;
     let notes = check_slices(
         rt,

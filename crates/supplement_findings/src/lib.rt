@@ -6,6 +6,7 @@ mod after;
 mod alone;
 mod check;
 mod coding;
+mod counting;
 mod goals;
 mod group;
 mod laws;

@@ -1,15 +1,11 @@
 //! The questions of a book and of its slices.
-ghost use Rattle.std.specs.Prelude.{◌≡◌, ◌+◌, ◌++◌, ◌<◌, ◌^◌, All, IfOk, OnOk, length, suc};
-ghost use Rattle.book_model.specs.Slices.{IsOrdered, IsSteady};
-ghost use Rattle.pb_base.specs.Answers.{Answers};
-ghost use Rattle.supplement_findings.specs.Limits.{first_over, slices_within};
+ghost use Rattle.std.specs.Prelude.{◌≡◌, ◌+◌, ◌++◌, ◌<◌, ◌^◌, IfOk, OnOk, length, suc};
 ghost use Rattle.supplement_findings.specs.Questions.{all_questions, breaks_from, swaps_from, swaps_with_later, is_put, questions, QuestionFits};
 
 use crate::occurs::is_asked;
 use crate::question::SupplementQuestion;
-use book_model::{Book, LimitFault, Slice, SliceList, Supplement, active, slices};
-use pb_base::limits::MOST_QUESTIONS;
-use pb_base::{Day, Fail, Memory};
+use book_model::{Book, Supplement, active};
+use pb_base::{Day, Memory};
 use std::alloc::Global;
 
 /// The questions of all supplementing rules and pairs, whatever their days.
@@ -23,7 +19,11 @@ pub(crate) fn all_questions(alloc: Global, book: &Book) -> Result<Vec<Supplement
     Ok(questions)
 }
 
-fn push_breaks(questions: &mut Vec<SupplementQuestion>, rules: &[Supplement]) -> Result<(), Memory>
+/// Those of one rule each.
+pub(crate) fn push_breaks(
+    questions: &mut Vec<SupplementQuestion>,
+    rules: &[Supplement],
+) -> Result<(), Memory>
     requires { length rules.now < 2 ^ 32 }
     ensures { OnOk result (questions.new.items ≡ questions.old.items ++ breaks_from 0 rules.now) }
 {
@@ -43,8 +43,8 @@ fn push_swaps(questions: &mut Vec<SupplementQuestion>, rules: &[Supplement]) -> 
     Ok(())
 }
 
-// The questions of a rule with the later ones, of which the first has the next place.
-fn push_swaps_with(
+/// Those of a rule with the later ones, of which the first has the next place.
+pub(crate) fn push_swaps_with(
     questions: &mut Vec<SupplementQuestion>,
     place: u32,
     rule: &Supplement,
@@ -65,8 +65,8 @@ fn push_swaps_with(
     Ok(())
 }
 
-// Whether the rules of a question are active on a day.
-fn is_put(book: &Book, day: Day, question: SupplementQuestion) -> bool
+/// Whether the rules of a question are active on a day.
+pub(crate) fn is_put(book: &Book, day: Day, question: SupplementQuestion) -> bool
     requires { QuestionFits book.now question }
     ensures { result ≡ is_put book.now day question }
 {
@@ -104,56 +104,4 @@ pub(crate) fn questions_on(
         }
     }
     Ok(put)
-}
-
-// How many questions a day has.
-#[tactic(auto, using(crate::proofs::QuestionLaws::fits_at))]
-fn question_count(book: &Book, day: Day, all: &[SupplementQuestion]) -> u64
-    requires all { all.now ≡ all_questions book.now }
-    ensures { result ≡ length (questions book.now day) }
-{
-    let mut count = 0;
-    for question in all {
-        if is_put(book, day, *question) {
-            count += 1;
-        }
-    }
-    count
-}
-
-/// The slices of a book, in order of days, where it keeps the limits: at most 64 slices, each with at most 200,000 questions on
-/// supplementing rules. It refuses with the first limit that the book exceeds, the number of slices before their questions.
-pub(crate) fn slices_within(
-    alloc: Global,
-    book: &Book,
-    all: &[SupplementQuestion],
-) -> Result<SliceList, Fail<LimitFault>>
-    requires all { all.now ≡ all_questions book.now }
-    ensures answer { Answers result (slices_within book.now) }
-    ensures order { IfOk result (λ slices. All IsOrdered slices) }
-    ensures steady { IfOk result (λ slices. All (IsSteady book.now) slices) }
-{
-    let slices = slices(alloc, book)?;
-    if let Some(fault) = first_over(book, slices.as_slice(), all) {
-        return Err(Fail::Refused(fault));
-    }
-    Ok(slices)
-}
-
-// The first slice with too many questions.
-fn first_over(book: &Book, slices: &[Slice], all: &[SupplementQuestion]) -> Option<LimitFault>
-    requires few { length slices.now < 2 ^ 32 }
-    requires all { all.now ≡ all_questions book.now }
-    ensures { result ≡ first_over 0 book.now slices.now }
-{
-    for (place, slice) in slices.iter().enumerate() {
-        let count = question_count(book, slice.first, all);
-        if count > MOST_QUESTIONS as u64 {
-            return Some(LimitFault::Questions {
-                slice: place as u32,
-                count,
-            });
-        }
-    }
-    None
 }

@@ -9,7 +9,7 @@ use Rattle.supplement_findings.proofs.check.check_supplements.Goals as goal
 
 pub returns-in_err-slices-clause-limits : goal.returns-in_err-slices-clause-limits
 returns-in_err-slices-clause-limits g c =
-    refusal_passed c.from_residual-in_err-slices.result c.in_err-slices.field-0.0 (slices_within c.args.book.now) c.from_residual-in_err-slices.ensures c.in_err-slices.ensures.answer
+    refusal_passed c.from_residual.result c.in_err-slices.field-0.0 (slices_within c.args.book.now) c.from_residual.ensures c.in_err-slices.ensures.answer
 
 pub returns-clause-report : goal.returns-clause-report
 returns-clause-report g c =
