@@ -1,9 +1,8 @@
 -- A position with the same variants in both books is the same in each car that both allow.
-use Rattle.std.proofs.Common.{◌≡◌, ℕ, suc, ◌+◌, ◌<◌, Bool, true, false, ◌&&◌, ◌||◌, List, [], ◌∷◌, ◌++◌, Option, Some, None, length, get_or, take, refl, sym, ap, subst, ◌∙◌, inl, inr, arith, All}
+use Rattle.std.proofs.Common.{◌≡◌, ℕ, suc, ◌+◌, ◌<◌, Bool, true, false, ◌&&◌, ◌||◌, List, [], ◌∷◌, ◌++◌, Option, Some, None, length, get_or, refl, sym, ap, subst, ◌∙◌, inl, inr, arith, All}
 use Rattle.std.specs.List.{list_any, slice_get}
 use Rattle.std.specs.Option.{option_map_or}
 use Rattle.std.proofs.lemmas.Bool.{cases_lt, cond-true, cond-false, false≢true}
-use Rattle.std.proofs.lemmas.List.{take_more}
 use Rattle.std.proofs.lemmas.List.Elements.{All-from_recursion}
 use Rattle.std.proofs.lemmas.Option.{slice_get_within, slice_get-get_or}
 use Rattle.pb_base.specs.NamedSet.{named}
@@ -51,12 +50,6 @@ same_step numbers first us second ws i u w within inside one other before here =
     same_more numbers first us second ws i before (λ v t there found.
     subst (λ (s : ℕ). IsSameUsage numbers first second s t) (read_is us i u v within one there)
     (subst (λ (s : ℕ). IsSameUsage numbers first second u s) (read_is ws i w t inside other found) here))
-
--- two lists that are the same so far
-pub same_taken : {X : Type 0} (xs ys : List X) (i : ℕ) (d e : X) → i < length xs → i < length ys → take i xs ≡ take i ys → get_or xs i d ≡ get_or ys i e → take (i + 1) xs ≡ take (i + 1) ys
-same_taken {X} xs ys i d e within inside before same =
-    take_more xs i d within ∙ ap (λ (z : X). take i xs ++ z ∷ []) same
-    ∙ ap (λ (zs : List X). zs ++ get_or ys i e ∷ []) before ∙ sym (take_more ys i e inside)
 
 -- what is chosen by key, over variants one by one the same
 same_any : (numbers : List ℕ) (first second : Contents) (x y : List Bool) (key : PartUse)

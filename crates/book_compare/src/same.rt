@@ -11,7 +11,7 @@ use crate::comparing::Comparing;
 use crate::renaming::push_active;
 use book_model::{Book, Variant, active};
 use chosen_parts::{place_of_position, same_use};
-use pb_base::{Day, Formula, Id, Memory, Node, Renamed};
+use pb_base::{Day, Id, Memory, Renamed};
 use std::alloc::Global;
 
 /// Whether the active variants at the position of an id are the same in both books. The guess is where the position stands in one
@@ -148,41 +148,5 @@ fn same_variant(
         return Ok(false);
     }
     let renamed = other.rule.with_leaves(alloc, &Renamed(numbers))?;
-    Ok(same_formula(&own.rule, &renamed))
-}
-
-fn same_formula(own: &Formula, other: &Formula) -> bool
-    ensures { result ≡ true → own.now ≡ other.now }
-{
-    same_nodes(own.nodes(), other.nodes())
-}
-
-fn same_nodes(own: &[Node], other: &[Node]) -> bool
-    ensures { result ≡ true → own.now ≡ other.now }
-{
-    if own.len() != other.len() {
-        return false;
-    }
-    for place in 0..own.len() {
-        if !same_node(own[place], other[place]) {
-            return false;
-        }
-    }
-    true
-}
-
-fn same_node(own: Node, other: Node) -> bool
-    ensures { result ≡ true → own ≡ other }
-{
-    match (own, other) {
-        (Node::Code(place), Node::Code(other)) => place == other,
-        (Node::WhenTrue(size), Node::WhenTrue(other)) => size == other,
-        (Node::WhenFalse(size), Node::WhenFalse(other)) => size == other,
-        (Node::And(size), Node::And(other)) => size == other,
-        (Node::Or(size), Node::Or(other)) => size == other,
-        (Node::Not, Node::Not) => true,
-        (Node::Yes, Node::Yes) => true,
-        (Node::No, Node::No) => true,
-        _ => false,
-    }
+    Ok(own.rule.nodes() == renamed.nodes())
 }
