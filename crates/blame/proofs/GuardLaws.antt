@@ -1,6 +1,6 @@
 -- A solver over entries, each behind its guard: which sets pass its test, and what it says that no set passes.
 use Rattle.std.proofs.Common.{◌≡◌, ℕ, ◌+◌, ◌*◌, ◌<◌, ◌≤◌, Bool, true, false, not, ◌&&◌, ◌||◌, List, [], ◌∷◌, ◌++◌, Some, None, length, map, get_or, slice_get, refl, sym, ap, subst, ◌∙◌, inl, inr, arith, All, length-append, eqb, filter, slice_index_or, replicate}
-use Rattle.std.proofs.lemmas.Bool.{and_from, cases_Bool, cond-true, cond-false, or_cases, or_left, or_right, false_from_ne_true, false≢true}
+use Rattle.std.proofs.lemmas.Bool.{and_from, cases_Bool, cond-true, cond-false, or_cases, or_left, or_right, eqb-true, false_from_ne_true, false≢true}
 use Rattle.std.proofs.lemmas.List.{append-nil, length-replicate}
 use Rattle.std.proofs.lemmas.List.Elements.{recursion_from_All}
 use Rattle.std.proofs.lemmas.Option.{slice_get-get_or, get_or_from_slice_get, slice_get_within}
@@ -12,6 +12,7 @@ use Rattle.chains.specs.Growth.{given_of}
 use Rattle.clause_pool.specs.Literal.{literal, complement, is_true}
 use Rattle.clause_pool.specs.Clause.{clause_of, has as has_literal, AreBelow}
 use Rattle.clause_pool.specs.Derivation.{Derivation}
+use Rattle.clause_pool.proofs.LiteralLaws.{complement-positive}
 use Rattle.clausify.specs.Formulas.{connectives}
 use Rattle.clausify.specs.Items.{rule_item}
 use Rattle.clausify.specs.Lifting.{CodesJust}
@@ -25,7 +26,7 @@ use Rattle.clausify.proofs.AgreeLaws.{Agree, appended_agree, meets_agree, fits_m
 use Rattle.guarded_rules.proofs.FitLaws.{guard_appended, fits_guarded}
 use Rattle.guarded_rules.proofs.GuardedLaws.{AllMeetGuarded, all_from_met}
 use Rattle.guarded_rules.proofs.MadeLaws.{guarded_variables-append, guarded_item, guarded_plain, made_below, made_just}
-use Rattle.item_search.specs.Search.{IsMadeOf, IsRefused, denied_literals}
+use Rattle.item_search.specs.Search.{IsMadeOf, IsRefused}
 use Rattle.item_search.proofs.SearchLaws.{refused_denied}
 use Rattle.solver.specs.Solver.{Solving}
 use Rattle.blame.specs.Absent.{absent_clause, are_absent, IsUnused, IsDenied}
@@ -220,10 +221,27 @@ in_filter w (x ∷ ls) l h =
           or_right (eqb x l) (has_literal ls l) (in_filter w ls l (sym (ap (λ (ks : List ℕ). has_literal ks l) (cond-false (w x) (x ∷ filter w ls) (filter w ls) goes)) ∙ h))
     ]
 
+filtered : (w : ℕ → Bool) (ls : List ℕ) (l : ℕ) → has_literal (filter w ls) l ≡ true → w l ≡ true
+filtered w [] l h = absurd (false≢true h)
+filtered w (x ∷ ls) l h =
+    elim (cases_Bool (w x)) [
+      | inl stays ↦
+          elim (or_cases (eqb x l) (has_literal (filter w ls) l) (sym (ap (λ (ks : List ℕ). has_literal ks l) (cond-true (w x) (x ∷ filter w ls) (filter w ls) stays)) ∙ h)) [
+            | inl same ↦ subst (λ (j : ℕ). w j ≡ true) (eqb-true x l same) stays
+            | inr later ↦ filtered w ls l later
+          ]
+      | inr goes ↦ filtered w ls l (sym (ap (λ (ks : List ℕ). has_literal ks l) (cond-false (w x) (x ∷ filter w ls) (filter w ls) goes)) ∙ h)
+    ]
+
+complement_guard : (v : ℕ) → complement (literal v true) ≡ literal v false
+complement_guard v =
+    ap complement (let e : literal v true ≡ 2 * v = omega arith in e) ∙ complement-positive v ∙ (let e : 2 * v + 1 ≡ literal v false = omega arith in e)
+
 -- the entries that a search made use of are enough
-module _ (b : Contents) (day : ℕ) (f : Rule) (m : List Entry) (s : Solving) (guarding : IsGuarding b day f m s) (k : Derivation) (lits used : List ℕ) (at but n : ℕ) (old new : Marks)
-    (first : n ≡ length b.codes) (refused : IsRefused (length b.codes + length m) guarding.test k lits at) (is : used ≡ denied_literals k at lits)
-    (guards : AreGuards n old.kept.items but lits) (fewer : AreFewer old.kept.items new.kept.items) (still : AreStill n used old.kept.items new.kept.items) where
+module _ (b : Contents) (day : ℕ) (f : Rule) (m : List Entry) (s : Solving) (guarding : IsGuarding b day f m s) (k : Derivation) (lits : List ℕ) (at but n : ℕ) (old new : Marks)
+    (first : n ≡ length b.codes) (refused : IsRefused (length b.codes + length m) guarding.test k lits at)
+    (guards : AreGuards n old.kept.items but lits) (fewer : AreFewer old.kept.items new.kept.items)
+    (still : AreStill n (slice_index_or k.clauses at []) old.kept.items new.kept.items) where
   none_used : length old.kept.items ≡ length m → (x : List Bool) → length x ≡ length b.codes → MeetsKept b day x m new.kept.items → holds f x ≡ false
   none_used counted_old x counted met =
       false_from_ne_true (holds f x) (λ yes_.
@@ -234,8 +252,9 @@ module _ (b : Contents) (day : ℕ) (f : Rule) (m : List Entry) (s : Solving) (g
         passes = p.1.1;
         lits_true = λ l is_in.
             let g : IsGuardOf n old.kept.items but l = guards l (in_filter (λ (j : ℕ). has_literal (slice_index_or k.clauses at []) (complement j)) lits l is_in) in
-            let named : has_literal used (literal (n + g.place) true) ≡ true =
-            subst (λ (j : ℕ). has_literal used j ≡ true) g.is (ap (λ (ls : List ℕ). has_literal ls l) is ∙ is_in) in
+            let named : has_literal (slice_index_or k.clauses at []) (literal (n + g.place) false) ≡ true =
+            subst (λ (j : ℕ). has_literal (slice_index_or k.clauses at []) j ≡ true) (ap complement g.is ∙ complement_guard (n + g.place))
+            (filtered (λ (j : ℕ). has_literal (slice_index_or k.clauses at []) (complement j)) lits l is_in) in
             let inside : g.place < length m = subst (λ (j : ℕ). g.place < j) counted_old g.inside in
             ap (is_true (has p.0)) g.is
             ∙ true_positive (has p.0) (n + g.place)

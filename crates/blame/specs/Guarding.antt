@@ -104,10 +104,10 @@ pub record AreFewer (old new : List Bool) : Type 0 where
   pub counted : length new ≡ length old
   pub fewer : (k : ℕ) → has new k ≡ true → has old k ≡ true
 
--- those stay marked of which the guard is among the literals
+-- those stay marked of which a clause denies the guard
 abbrev pub AreStill : ℕ → List ℕ → List Bool → List Bool → Type 0
-AreStill n lits old new = (k : ℕ) → k < length old → has old k ≡ true → has_literal lits (literal (n + k) true) ≡ true → has new k ≡ true
+AreStill n clause old new = (k : ℕ) → k < length old → has old k ≡ true → has_literal clause (literal (n + k) false) ≡ true → has new k ≡ true
 
-pub record AreNamed (n count : ℕ) (lits : List ℕ) (named : List Bool) : Type 0 where
+pub record AreNamed (n count : ℕ) (clause : List ℕ) (named : List Bool) : Type 0 where
   pub counted : length named ≡ count
-  pub each : (k : ℕ) → k < count → has_literal lits (literal (n + k) true) ≡ true → has named k ≡ true
+  pub each : (k : ℕ) → k < count → has_literal clause (literal (n + k) false) ≡ true → has named k ≡ true

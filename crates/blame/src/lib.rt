@@ -10,6 +10,7 @@ mod kept;
 mod looking;
 mod marks;
 mod meeting;
+mod missed;
 mod near;
 mod noting;
 mod places;
@@ -21,6 +22,7 @@ mod telling;
 mod trying;
 mod unused;
 mod used;
+mod values;
 
 pub use blamed::{Blamed, Told};
 pub use entries::Entry;

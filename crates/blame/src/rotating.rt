@@ -1,27 +1,42 @@
 //! Further entries that are needed, found without a search.
 //!
 //! A set that meets all kept entries but one shows that this one is needed. With one of its codes put in or taken out, the set may meet
-//! it and miss another one alone: then that is needed too. This is called model rotation.
-ghost use Rattle.std.specs.Prelude.{◌≡◌, length, IfOk};
+//! it and miss another one alone: then that is needed too. This is called model rotation. Where the changed set misses two entries, a
+//! code of one of them is changed too, and where that one misses two, a third code.
+ghost use Rattle.std.specs.Prelude.{◌≡◌, length};
 ghost use Rattle.book_model.specs.Book.{RuleFits};
 ghost use Rattle.blame.specs.Guarding.{AreMarked};
 
-use crate::codes::push_codes;
 use crate::entries::Entry;
 use crate::marks::Marks;
-use crate::meeting::meets;
+use crate::missed::Missed;
 use crate::noting::note_by;
 use crate::places::Places;
-use crate::sets::{codes_in, set_of};
+use crate::sets::set_by;
+use crate::values::{flip, values_of};
 use book_model::Book;
 use pb_base::{CodeSet, Day, Formula, Memory};
 use std::alloc::Global;
 
-// The codes of a set that meets all kept entries but the one at a place.
+// How often two entries are missed that are gone on with, for each set that misses one.
+const MOST_STEPS: usize = 64;
+
+// More codes of an entry are many: they are changed only where it is missed alone.
+const MOST_CHANGED: usize = 8;
+
+// A set that meets all kept entries but the one at a place.
 #[derive(Drop)]
 struct Lacking {
-    codes: Vec<u32>,
+    values: Vec<bool>,
     at: usize,
+}
+
+// Codes that were changed in such a set, and what it misses then.
+#[derive(Clone, Copy)]
+struct Step {
+    codes: [u32; 2],
+    count: usize,
+    missed: Missed,
 }
 
 /// Notes what else is needed by a set that meets all kept entries but that at a place, and by what comes of it.
@@ -43,32 +58,34 @@ pub(crate) fn rotate(
     let mut seen = vec![in alloc; false; entries.len()]?;
     is_first(&mut seen, at);
     let mut lacking = Vec::new(alloc);
-    let codes = codes_in(alloc, set)?;
-    lacking.push(Lacking { codes, at })?;
+    let values = values_of(alloc, set)?;
+    lacking.push(Lacking { values, at })?;
     // Each entry comes once, so there are no more sets than entries.
     let mut left = entries.len();
     while left > 0 {
         left -= 1;
         match lacking.pop() {
-            Some(one) => rotate_once(
-                alloc,
-                book,
-                day,
-                rule,
-                entries,
-                places,
-                marks,
-                &one,
-                &mut seen,
-                &mut lacking,
-            )?,
+            Some(one) => {
+                rotate_once(
+                    alloc,
+                    book,
+                    day,
+                    rule,
+                    entries,
+                    places,
+                    marks,
+                    one,
+                    &mut seen,
+                    &mut lacking,
+                )?;
+            }
             None => return Ok(()),
         }
     }
     Ok(())
 }
 
-// The same by one change of the set. The changed sets that show a need come behind the others.
+// The same by changes of one set. The changed sets that show a need come behind the others.
 fn rotate_once(
     alloc: Global,
     book: &Book,
@@ -77,7 +94,7 @@ fn rotate_once(
     entries: &[Entry],
     places: &Places,
     marks: &mut Marks,
-    one: &Lacking,
+    one: Lacking,
     seen: &mut [bool],
     lacking: &mut Vec<Lacking>,
 ) -> Result<(), Memory>
@@ -85,48 +102,278 @@ fn rotate_once(
     requires marked { AreMarked book.now day rule.now entries.now marks.old }
     ensures marked { AreMarked book.now day rule.now entries.now marks.new }
 {
-    let mut own = Vec::new(alloc);
-    if let Some(entry) = entries.get(one.at) {
-        push_codes(&mut own, book, *entry)?;
-    }
-    for code in &own {
-        let codes = changed(alloc, &one.codes, *code)?;
-        let set = set_of(alloc, book, &codes)?;
-        if let Some(at) = notes_need(book, day, rule, entries, places, marks, &set, *code) {
-            if is_first(seen, at) {
-                lacking.push(Lacking { codes, at })?;
+    let Lacking { mut values, at } = one;
+    let mut steps = Vec::new(alloc);
+    steps.push(Step {
+        codes: [0; 2],
+        count: 0,
+        missed: Missed::one(at),
+    })?;
+    let mut left = MOST_STEPS;
+    while left > 0 {
+        left -= 1;
+        match steps.pop() {
+            Some(step) => {
+                go_on(
+                    alloc,
+                    book,
+                    day,
+                    rule,
+                    entries,
+                    places,
+                    marks,
+                    &mut values,
+                    &step,
+                    &mut steps,
+                    seen,
+                    lacking,
+                )?;
             }
+            None => return Ok(()),
         }
     }
     Ok(())
 }
 
-// Where a set meets all kept entries but one, notes that this one is needed, and gives its place. Only entries with the code that was
-// changed last are looked at.
-fn notes_need(
+// The same by one more change of a set that was changed.
+fn go_on(
+    alloc: Global,
     book: &Book,
     day: Day,
     rule: &Formula,
     entries: &[Entry],
     places: &Places,
     marks: &mut Marks,
-    set: &CodeSet,
-    code: u32,
-) -> Option<usize>
-    requires counted { length set.now ≡ length book.now.codes }
+    values: &mut [bool],
+    step: &Step,
+    steps: &mut Vec<Step>,
+    seen: &mut [bool],
+    lacking: &mut Vec<Lacking>,
+) -> Result<(), Memory>
     requires rule { RuleFits (length book.now.codes) rule.now }
     requires marked { AreMarked book.now day rule.now entries.now marks.old }
     ensures marked { AreMarked book.now day rule.now entries.now marks.new }
 {
-    let at = only_unmet(book, day, set, entries, places, &marks.kept, code)?;
-    if marks.needed.get(at) == Some(&false) {
-        note_by(book, day, rule, entries, marks, at, set);
+    flip_all(values, step);
+    let first = step.missed.first;
+    change_each(
+        alloc, book, day, rule, entries, places, marks, values, step, first, steps, seen, lacking,
+    )?;
+    change_second(
+        alloc, book, day, rule, entries, places, marks, values, step, steps, seen, lacking,
+    )?;
+    flip_all(values, step);
+    Ok(())
+}
+
+fn flip_all(values: &mut [bool], step: &Step) {
+    for place in 0..step.count.min(2) {
+        flip(values, step.codes[place]);
     }
-    if marks.needed.get(at) == Some(&true) {
-        Some(at)
-    } else {
-        None
+}
+
+// The same of the second entry that is missed, if there is one.
+fn change_second(
+    alloc: Global,
+    book: &Book,
+    day: Day,
+    rule: &Formula,
+    entries: &[Entry],
+    places: &Places,
+    marks: &mut Marks,
+    values: &mut [bool],
+    step: &Step,
+    steps: &mut Vec<Step>,
+    seen: &mut [bool],
+    lacking: &mut Vec<Lacking>,
+) -> Result<(), Memory>
+    requires rule { RuleFits (length book.now.codes) rule.now }
+    requires marked { AreMarked book.now day rule.now entries.now marks.old }
+    ensures marked { AreMarked book.now day rule.now entries.now marks.new }
+{
+    let second = step.missed.second;
+    if second == step.missed.first {
+        return Ok(());
     }
+    change_each(
+        alloc, book, day, rule, entries, places, marks, values, step, second, steps, seen, lacking,
+    )
+}
+
+// Changes each code of the entry at a place that wasn't changed.
+fn change_each(
+    alloc: Global,
+    book: &Book,
+    day: Day,
+    rule: &Formula,
+    entries: &[Entry],
+    places: &Places,
+    marks: &mut Marks,
+    values: &mut [bool],
+    step: &Step,
+    at: usize,
+    steps: &mut Vec<Step>,
+    seen: &mut [bool],
+    lacking: &mut Vec<Lacking>,
+) -> Result<(), Memory>
+    requires rule { RuleFits (length book.now.codes) rule.now }
+    requires marked { AreMarked book.now day rule.now entries.now marks.old }
+    ensures marked { AreMarked book.now day rule.now entries.now marks.new }
+{
+    let codes = places.codes(at);
+    if step.count > 0 && codes.len() > MOST_CHANGED {
+        return Ok(());
+    }
+    for code in codes {
+        change_one(
+            alloc, book, day, rule, entries, places, marks, values, step, *code, steps, seen,
+            lacking,
+        )?;
+    }
+    Ok(())
+}
+
+fn change_one(
+    alloc: Global,
+    book: &Book,
+    day: Day,
+    rule: &Formula,
+    entries: &[Entry],
+    places: &Places,
+    marks: &mut Marks,
+    values: &mut [bool],
+    step: &Step,
+    code: u32,
+    steps: &mut Vec<Step>,
+    seen: &mut [bool],
+    lacking: &mut Vec<Lacking>,
+) -> Result<(), Memory>
+    requires rule { RuleFits (length book.now.codes) rule.now }
+    requires marked { AreMarked book.now day rule.now entries.now marks.old }
+    ensures marked { AreMarked book.now day rule.now entries.now marks.new }
+{
+    if is_changed(step, code) {
+        return Ok(());
+    }
+    flip(values, code);
+    let missed = step
+        .missed
+        .after(book, values, entries, places, &marks.kept, code);
+    go_with(
+        alloc, book, day, rule, entries, marks, values, step, code, missed, steps, seen, lacking,
+    )?;
+    flip(values, code);
+    Ok(())
+}
+
+// Goes on with a set that misses one entry or two.
+fn go_with(
+    alloc: Global,
+    book: &Book,
+    day: Day,
+    rule: &Formula,
+    entries: &[Entry],
+    marks: &mut Marks,
+    values: &[bool],
+    step: &Step,
+    code: u32,
+    missed: Missed,
+    steps: &mut Vec<Step>,
+    seen: &mut [bool],
+    lacking: &mut Vec<Lacking>,
+) -> Result<(), Memory>
+    requires rule { RuleFits (length book.now.codes) rule.now }
+    requires marked { AreMarked book.now day rule.now entries.now marks.old }
+    ensures marked { AreMarked book.now day rule.now entries.now marks.new }
+{
+    if missed.count == 1 {
+        let at = missed.first;
+        return note_alone(
+            alloc, book, day, rule, entries, marks, values, at, seen, lacking,
+        );
+    }
+    if missed.count == 2 {
+        return push_step(steps, step, code, missed);
+    }
+    Ok(())
+}
+
+fn is_changed(step: &Step, code: u32) -> bool {
+    (step.count > 0 && step.codes[0] == code) || (step.count > 1 && step.codes[1] == code)
+}
+
+// Where no more than one code was changed before, to go on with this one.
+fn push_step(steps: &mut Vec<Step>, step: &Step, code: u32, missed: Missed) -> Result<(), Memory> {
+    if step.count < 2 {
+        let mut codes = step.codes;
+        codes[step.count] = code;
+        steps.push(Step {
+            codes,
+            count: step.count + 1,
+            missed,
+        })?;
+    }
+    Ok(())
+}
+
+// Notes that the entry at a place is needed, if the set shows it, and goes on with the set where that is the first one.
+fn note_alone(
+    alloc: Global,
+    book: &Book,
+    day: Day,
+    rule: &Formula,
+    entries: &[Entry],
+    marks: &mut Marks,
+    values: &[bool],
+    at: usize,
+    seen: &mut [bool],
+    lacking: &mut Vec<Lacking>,
+) -> Result<(), Memory>
+    requires rule { RuleFits (length book.now.codes) rule.now }
+    requires marked { AreMarked book.now day rule.now entries.now marks.old }
+    ensures marked { AreMarked book.now day rule.now entries.now marks.new }
+{
+    note_open(alloc, book, day, rule, entries, marks, values, at)?;
+    push_needed(alloc, marks, values, at, seen, lacking)
+}
+
+// Notes that the entry at a place is needed, if the set shows it, where that isn't known.
+fn note_open(
+    alloc: Global,
+    book: &Book,
+    day: Day,
+    rule: &Formula,
+    entries: &[Entry],
+    marks: &mut Marks,
+    values: &[bool],
+    at: usize,
+) -> Result<(), Memory>
+    requires rule { RuleFits (length book.now.codes) rule.now }
+    requires marked { AreMarked book.now day rule.now entries.now marks.old }
+    ensures marked { AreMarked book.now day rule.now entries.now marks.new }
+{
+    if marks.needed.get(at) != Some(&false) {
+        return Ok(());
+    }
+    let set = set_by(alloc, book, values)?;
+    note_by(book, day, rule, entries, marks, at, &set);
+    Ok(())
+}
+
+// Puts a set behind the others, where the entry that it misses is needed and comes the first time.
+fn push_needed(
+    alloc: Global,
+    marks: &Marks,
+    values: &[bool],
+    at: usize,
+    seen: &mut [bool],
+    lacking: &mut Vec<Lacking>,
+) -> Result<(), Memory> {
+    if marks.needed.get(at) == Some(&true) && is_first(seen, at) {
+        let values = Vec::from_slice(alloc, values)?;
+        lacking.push(Lacking { values, at })?;
+    }
+    Ok(())
 }
 
 // Whether a place comes the first time.
@@ -138,61 +385,4 @@ fn is_first(seen: &mut [bool], at: usize) -> bool {
         }
         _ => false,
     }
-}
-
-// The kept entry with a code that a set doesn't meet, if there is just one.
-fn only_unmet(
-    book: &Book,
-    day: Day,
-    set: &CodeSet,
-    entries: &[Entry],
-    places: &Places,
-    kept: &[bool],
-    code: u32,
-) -> Option<usize>
-    requires { length set.now ≡ length book.now.codes }
-{
-    let mut only = None;
-    let mut left = places.count(code);
-    while left > 0 {
-        let (place, before) = places.link(left)?;
-        if only != Some(place) && is_unmet(book, day, set, entries, kept, place) {
-            if only.is_some() {
-                return None;
-            }
-            only = Some(place);
-        }
-        left = before.min(left - 1);
-    }
-    only
-}
-
-fn is_unmet(
-    book: &Book,
-    day: Day,
-    set: &CodeSet,
-    entries: &[Entry],
-    kept: &[bool],
-    place: usize,
-) -> bool
-    requires { length set.now ≡ length book.now.codes }
-{
-    match entries.get(place) {
-        Some(entry) => kept.get(place) == Some(&true) && !meets(book, day, set, *entry),
-        None => false,
-    }
-}
-
-// These codes without one of them, or with it where it isn't among them.
-fn changed(alloc: Global, codes: &[u32], one: u32) -> Result<Vec<u32>, Memory> {
-    let mut others = Vec::new(alloc);
-    for code in codes {
-        if *code != one {
-            others.push(*code)?;
-        }
-    }
-    if others.len() == codes.len() {
-        others.push(one)?;
-    }
-    Ok(others)
 }

@@ -1,4 +1,4 @@
-//! Sets of a book's codes, and their codes one by one.
+//! Sets of a book's codes.
 ghost use Rattle.std.specs.Prelude.{◌≡◌, length, IfOk};
 
 use book_model::Book;
@@ -18,13 +18,15 @@ pub(crate) fn set_of(alloc: Global, book: &Book, codes: &[u32]) -> Result<CodeSe
     Ok(set)
 }
 
-/// The codes of a set.
-pub(crate) fn codes_in(alloc: Global, set: &CodeSet) -> Result<Vec<u32>, Memory> {
-    let mut codes = Vec::new(alloc);
+/// The set of the codes of the book that have the value true.
+pub(crate) fn set_by(alloc: Global, book: &Book, values: &[bool]) -> Result<CodeSet, Memory>
+    ensures { IfOk result (λ set. length set ≡ length book.now.codes) }
+{
+    let mut set = CodeSet::none(alloc, book.codes().len())?;
     for code in 0..set.len() {
-        if set.has(code) {
-            codes.push(code)?;
+        if values.get(code as usize) == Some(&true) {
+            set.with(code);
         }
     }
-    Ok(codes)
+    Ok(set)
 }

@@ -246,7 +246,8 @@ fn find_among_all(
     }
 }
 
-// Of entries that no set meets together with the rule, those that are to blame. The marked ones are tried first.
+// Of entries that no set meets together with the rule, those that are to blame. The marked ones are tried first, after a search over
+// them. Where the first search used most of them a second one gives little.
 fn blamed_of(
     alloc: Global,
     book: &Book,
@@ -265,39 +266,69 @@ fn blamed_of(
     ensures blame { IfOk result (λ m. IsBlame book.now day rule.now m.entries.items m.needed.items) }
     ensures among { IfOk result (λ m. Among entries.items m.entries.items) }
 {
-    let first = core_of(alloc, book, day, rule, budget, entries, marks)?;
-    let blamed = shrink(alloc, book, day, rule, budget, first)?;
+    let used = marked(alloc, &entries, marks)?;
+    if used.len() > entries.len() - entries.len() / 4 {
+        return shrink_marked(alloc, book, day, rule, budget, entries, marks);
+    }
+    let blamed = blamed_again(alloc, book, day, rule, budget, entries, used)?;
     Ok(blamed)
 }
 
-// Of all entries those that a search used, if a second search, over them alone, finds that no set meets them together with the
-// rule; else all. Where the search used most of them a second one gives little.
-fn core_of(
+// The same by a search over some of them.
+fn blamed_again(
     alloc: Global,
     book: &Book,
     day: Day,
     rule: &Formula,
     budget: u32,
-    all: Vec<Entry>,
-    marks: &[bool],
-) -> Result<Vec<Entry>, Memory>
-    requires fit { All (EntryFits book.now day) all.items }
-    requires few { AreFew all.items }
+    entries: Vec<Entry>,
+    used: Vec<Entry>,
+) -> Result<Blamed, Memory>
+    requires fit { All (EntryFits book.now day) entries.items }
+    requires few { AreFew entries.items }
+    requires used { Among entries.items used.items }
     requires rule { RuleFits (length book.now.codes) rule.now }
-    requires none { IsNone book.now day rule.now all.items }
+    requires none { IsNone book.now day rule.now entries.items }
     requires some { 0 < budget }
     requires most { budget ≤ MOST_BUDGET }
-    ensures among { IfOk result (λ m. Among all.items m.items) }
-    ensures none { IfOk result (λ m. IsNone book.now day rule.now m.items) }
+    ensures blame { IfOk result (λ m. IsBlame book.now day rule.now m.entries.items m.needed.items) }
+    ensures among { IfOk result (λ m. Among entries.items m.entries.items) }
 {
-    let used = marked(alloc, &all, marks)?;
-    if used.len() > all.len() - all.len() / 4 {
-        return Ok(all);
-    }
     let looked = look(alloc, book, day, rule, &used, budget)?;
     match looked.outcome {
-        Outcome::NotShown(_) => Ok(used),
-        Outcome::Shown(_) => Ok(all),
-        Outcome::Left(_) => Ok(all),
+        Outcome::NotShown(_) => {
+            let marks = &looked.marks;
+            let blamed = shrink_marked(alloc, book, day, rule, budget, used, marks)?;
+            Ok(blamed)
+        }
+        Outcome::Shown(_) => shrink(alloc, book, day, rule, budget, entries),
+        Outcome::Left(_) => shrink(alloc, book, day, rule, budget, entries),
+    }
+}
+
+// The same, where only the marked ones are tried if no set meets them all.
+fn shrink_marked(
+    alloc: Global,
+    book: &Book,
+    day: Day,
+    rule: &Formula,
+    budget: u32,
+    entries: Vec<Entry>,
+    marks: &[bool],
+) -> Result<Blamed, Memory>
+    requires fit { All (EntryFits book.now day) entries.items }
+    requires few { AreFew entries.items }
+    requires rule { RuleFits (length book.now.codes) rule.now }
+    requires none { IsNone book.now day rule.now entries.items }
+    requires some { 0 < budget }
+    requires most { budget ≤ MOST_BUDGET }
+    ensures blame { IfOk result (λ m. IsBlame book.now day rule.now m.entries.items m.needed.items) }
+    ensures among { IfOk result (λ m. Among entries.items m.entries.items) }
+{
+    let some = marked(alloc, &entries, marks)?;
+    let found = shrink_hinted(alloc, book, day, rule, budget, some)?;
+    match found {
+        Some(blamed) => Ok(blamed),
+        None => shrink(alloc, book, day, rule, budget, entries),
     }
 }

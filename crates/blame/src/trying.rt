@@ -1,5 +1,5 @@
 //! Tries to leave entries out, by one solver in which each of them has a guard.
-ghost use Rattle.std.specs.Prelude.{◌≡◌, ◌+◌, ◌^◌, ◌<◌, ◌≤◌, ◌&&◌, ℕ, All, IfOk, OnOk, length, true, false};
+ghost use Rattle.std.specs.Prelude.{◌≡◌, ◌+◌, ◌^◌, ◌<◌, ◌≤◌, ◌&&◌, ℕ, [], All, IfOk, OnOk, length, slice_index_or, true, false};
 ghost use Rattle.pb_base.specs.Sets.{has};
 ghost use Rattle.pb_base.specs.declared.limits.TheConstants.{MOST_BUDGET};
 ghost use Rattle.book_model.specs.Book.{RuleFits};
@@ -14,8 +14,8 @@ use crate::marks::Marks;
 use crate::noting::note_need;
 use crate::places::Places;
 use book_model::Book;
-use clause_pool::Lit;
-use item_search::{Outcome, denied, search};
+use clause_pool::{Lit, Ref};
+use item_search::{Outcome, search};
 use pb_base::{Day, Formula, Memory};
 use solver::Solver;
 use std::alloc::Global;
@@ -53,8 +53,7 @@ pub(crate) fn try_without(
     match outcome {
         Outcome::Shown(set) => note_need(alloc, book, day, rule, entries, places, marks, at, &set),
         Outcome::NotShown(place) => {
-            let used = denied(alloc, solver, place, &lits)?;
-            keep_used(alloc, codes, marks, &used)?;
+            keep_used(alloc, codes, marks, solver, place)?;
             Ok(())
         }
         Outcome::Left(_) => Ok(()),
@@ -86,8 +85,7 @@ pub(crate) fn try_all(
     let outcome = search(solver, &lits, budget)?;
     match outcome {
         Outcome::NotShown(place) => {
-            let used = denied(alloc, solver, place, &lits)?;
-            keep_used(alloc, codes, marks, &used)?;
+            keep_used(alloc, codes, marks, solver, place)?;
             Ok(true)
         }
         Outcome::Shown(_) => Ok(false),
@@ -114,23 +112,33 @@ fn guards_but(alloc: Global, first: u32, kept: &[bool], but: usize) -> Result<Ve
     Ok(lits)
 }
 
-// No set meets the entries that these guards name, together with the rule: only these are kept.
-fn keep_used(alloc: Global, first: u32, marks: &mut Marks, used: &[Lit]) -> Result<(), Memory>
+// No set meets the entries of which the clause at a place of the solver's kernel denies the guards, together with the rule: only these
+// are kept.
+fn keep_used(
+    alloc: Global,
+    first: u32,
+    marks: &mut Marks,
+    solver: &Solver,
+    at: Ref,
+) -> Result<(), Memory>
+    requires { at < length solver.now.kernel.clauses }
     ensures needed { marks.new.needed.items ≡ marks.old.needed.items }
     ensures kept { AreFewer marks.old.kept.items marks.new.kept.items }
-    ensures used { OnOk result (AreStill first used.now marks.old.kept.items marks.new.kept.items) }
+    ensures used { let clause = slice_index_or solver.now.kernel.clauses at [] in
+        OnOk result (AreStill first clause marks.old.kept.items marks.new.kept.items) }
 {
-    let named = named_by(alloc, first, marks.kept.len(), used)?;
+    let pool = solver.kernel().pool();
+    let named = denied_by(alloc, first, marks.kept.len(), pool.lits(at))?;
     keep_named(&mut marks.kept, &named);
     Ok(())
 }
 
-// For each of so many entries, whether its guard is named.
-fn named_by(alloc: Global, first: u32, count: usize, used: &[Lit]) -> Result<Vec<bool>, Memory>
-    ensures { IfOk result (λ named. AreNamed first count used.now named.items) }
+// For each of so many entries, whether a clause denies its guard.
+fn denied_by(alloc: Global, first: u32, count: usize, clause: &[Lit]) -> Result<Vec<bool>, Memory>
+    ensures { IfOk result (λ named. AreNamed first count clause.now named.items) }
 {
     let mut named = vec![in alloc; false; count]?;
-    for lit in used {
+    for lit in clause {
         let place = lit.var().wrapping_sub(first) as usize;
         if place < named.len() {
             named[place] = true;

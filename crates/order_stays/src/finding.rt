@@ -28,29 +28,41 @@ pub(crate) enum Found {
 }
 
 /// A solver over the rules of a day. Its first search is to show a car with as many of these codes as it can, the first ones first:
-/// what the car has needs no search of its own.
+/// what the car has needs no search of its own. No car has all of the codes of a clash.
 pub(crate) fn solver_for(
     alloc: Global,
     book: &Book,
     day: Day,
     chosen: &[u32],
+    clash: &[u32],
 ) -> Result<Solver, Memory>
     ensures { IfOk result (IsOver (length book.now.codes) (rule_items book.now day)) }
 {
     let mut starts = Vec::new(alloc);
     let mut solver = solver_of(alloc, book, day, &mut starts)?;
-    hint_codes(alloc, &mut solver, chosen)?;
+    hint_codes(alloc, &mut solver, chosen, clash)?;
     Ok(solver)
 }
 
-/// Hints that the next search should show these codes, the first ones first.
-pub(crate) fn hint_codes(alloc: Global, solver: &mut Solver, chosen: &[u32]) -> Result<(), Memory>
+/// Hints that the next search should show these codes, the first ones first, but for the last one of a clash.
+pub(crate) fn hint_codes(
+    alloc: Global,
+    solver: &mut Solver,
+    chosen: &[u32],
+    clash: &[u32],
+) -> Result<(), Memory>
     ensures { solver.new ≡ solver.old }
 {
     let mut hints = Vec::new(alloc);
+    let mut clashes = true;
     // The last hint is taken first.
     for place in (0..chosen.len()).rev() {
-        hints.push(Lit::new(chosen[place], true))?;
+        let code = chosen[place];
+        if clashes && clash.iter().any(|one| *one == code) {
+            clashes = false;
+        } else {
+            hints.push(Lit::new(code, true))?;
+        }
     }
     solver.prefer(&hints);
     Ok(())

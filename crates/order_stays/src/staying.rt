@@ -32,7 +32,7 @@ pub fn codes_that_stay(
     requires most { budget ≤ MOST_BUDGET }
     ensures { IfOk result (IsStaying book.now day chosen.now budget) }
 {
-    let mut solver = solver_for(alloc, book, day, chosen)?;
+    let mut solver = solver_for(alloc, book, day, chosen, &[])?;
     staying_with(alloc, book, day, chosen, budget, &mut solver, None)
 }
 
@@ -52,7 +52,7 @@ pub(crate) fn staying_known(
     requires most { budget ≤ MOST_BUDGET }
     ensures { IfOk result (IsStaying book.now day chosen.now budget) }
 {
-    let mut solver = solver_for(alloc, book, day, chosen)?;
+    let mut solver = solver_for(alloc, book, day, chosen, clash)?;
     staying_by(alloc, book, day, chosen, budget, &mut solver, clash)
 }
 

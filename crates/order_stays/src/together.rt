@@ -163,7 +163,7 @@ fn apart_with(
     ensures { IfOk result (IsTogether book.now day chosen.now budget) }
 {
     let codes = codes_of(alloc, &clash.entries)?;
-    hint_codes(alloc, solver, chosen)?;
+    hint_codes(alloc, solver, chosen, &codes)?;
     let staying = staying_by(alloc, book, day, chosen, budget, solver, &codes)?;
     Ok(Together::Apart(clash, staying))
 }

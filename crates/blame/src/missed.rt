@@ -1,0 +1,80 @@
+//! What a set misses of the kept entries. They are hints: nothing is claimed of them.
+
+use crate::entries::Entry;
+use crate::places::Places;
+use crate::values::is_met;
+use book_model::Book;
+
+/// The kept entries that a set misses, counted no further than three. Of two both places are told, of one the first.
+#[derive(Clone, Copy)]
+pub(crate) struct Missed {
+    pub(crate) count: usize,
+    pub(crate) first: usize,
+    pub(crate) second: usize,
+}
+
+impl Missed {
+    /// The entry at a place alone.
+    pub(crate) fn one(at: usize) -> Missed {
+        Missed {
+            count: 1,
+            first: at,
+            second: at,
+        }
+    }
+
+    /// What is missed where a code was changed in a set that missed these.
+    pub(crate) fn after(
+        &self,
+        book: &Book,
+        values: &[bool],
+        entries: &[Entry],
+        places: &Places,
+        kept: &[bool],
+        code: u32,
+    ) -> Missed {
+        let mut missed = Missed {
+            count: 0,
+            first: entries.len(),
+            second: entries.len(),
+        };
+        missed.look_at(book, values, entries, kept, self.first);
+        missed.look_at(book, values, entries, kept, self.second);
+        let mut left = places.count(code);
+        while left > 0 && missed.count < 3 {
+            let Some((place, before)) = places.link(left) else {
+                return missed;
+            };
+            missed.look_at(book, values, entries, kept, place);
+            left = before.min(left - 1);
+        }
+        missed
+    }
+
+    fn look_at(
+        &mut self,
+        book: &Book,
+        values: &[bool],
+        entries: &[Entry],
+        kept: &[bool],
+        place: usize,
+    ) {
+        if place == self.first || place == self.second || kept.get(place) != Some(&true) {
+            return;
+        }
+        let Some(entry) = entries.get(place) else {
+            return;
+        };
+        if is_met(book, values, *entry) {
+            return;
+        }
+        if self.count == 0 {
+            self.first = place;
+        } else {
+            self.second = place;
+        }
+        if self.count < 3 {
+            self.count += 1;
+        }
+    }
+}
