@@ -1,4 +1,4 @@
-mod DayLaws
+pub mod DayLaws
 mod RunLaws
 mod PartsAlike
 mod DifferLaws

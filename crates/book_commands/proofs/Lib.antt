@@ -11,6 +11,7 @@ pub mod ReportLaws
 pub mod TextLaws
 pub mod Nothing
 pub mod Required
+pub mod Changed
 pub mod CompareLaws
 pub mod FreeLaws
 pub mod AskLaws

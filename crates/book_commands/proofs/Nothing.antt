@@ -9,7 +9,7 @@ use Rattle.blame.specs.declared.blamed.Told.{Told as AskTold}
 use Rattle.blame.specs.declared.blamed.Told.TheVariants as told
 use Rattle.book_compare.specs.Asked.{asked_variables, asked_clauses, asked_goal}
 use Rattle.book_compare.specs.CompareText.{is_finding as is_difference, is_undecided as is_left_open}
-use Rattle.book_compare.specs.Comparison.{IsNoted, outside}
+use Rattle.book_compare.specs.Comparison.{IsLeft as IsLeftAt, IsNoted, outside}
 use Rattle.book_compare.specs.declared.note.CompareNote.{CompareNote}
 use Rattle.book_compare.specs.declared.note.CompareNote.TheVariants as compared
 use Rattle.book_compare.specs.declared.note.Outside.{Outside}
@@ -67,7 +67,7 @@ use Rattle.supplement_findings.specs.declared.report.SupplementNote.TheVariants 
 use Rattle.book_commands.specs.Ample.{AreRulesDecided, ArePositionsDecided, IsAmpleFor, IsAmpleForBoth, IsAmpleForFile, met_variables}
 use Rattle.book_commands.specs.Ask.{RepliesByRule, RepliesOnDay, RepliesToAsk, told_reply}
 use Rattle.book_commands.specs.Checks.{IsReported, IsProvedBy, IsProved, RepliesWithin, inquiry, RepliesToCheck, RepliesToProof}
-use Rattle.book_commands.specs.CompareReply.{IsComparisonReply, IsKeptBack, RepliesByDay, RepliesToCompare, RepliesToTexts, comparison_reply}
+use Rattle.book_commands.specs.CompareReply.{IsComparisonReply, IsKeptBack, RepliesByDay, RepliesOver, RepliesToCompare, RepliesToTexts, comparison_reply}
 use Rattle.book_commands.specs.Ends.{IsDecided, LeavesNothing}
 use Rattle.book_commands.specs.Free.{IsFreeReply, RepliesToFree, RepliesUnless, free_reply, free_status, freedom_notes, is_left_open as is_undecided_state, state_notes}
 use Rattle.book_commands.specs.Logged.{logged_behind, was_left}
@@ -78,6 +78,7 @@ use Rattle.command_words.specs.Size.{Size}
 use Rattle.pb_base.specs.declared.limits.TheConstants.{DEFAULT_BUDGET}
 use Rattle.book_commands.specs.Supplements.{IsSupplementReply, RepliesToSupplements, supplement_reply}
 use Rattle.book_commands.specs.Why.{IsWhyReply, RepliesToWhy, repair_notes, why_reply}
+use Rattle.book_commands.specs.declared.comparing.Span.{Span}
 use Rattle.book_commands.specs.declared.comparing.Span.TheVariants.{OnDay}
 use Rattle.book_commands.specs.declared.log.Note.TheVariants.{Supplement, Compare as CompareLogged}
 use Rattle.book_commands.specs.declared.run_status.RunStatus.{RunStatus}
@@ -222,14 +223,19 @@ supplements_nothing text (Err fault) budget reply e ample h = at_fault _ reply h
 
 -- ---- two books
 
+pub never_left_at : (one other : Contents) (day budget : ℕ) (id : List ℕ) (learnt : List (List ℕ)) → 3 ^ asked_variables one other day id < budget
+    → IsLeftAt one other day budget id learnt → ⊥
+never_left_at one other day budget id learnt ample h =
+    let most : budget ≤ 3 ^ asked_variables one other day id =
+    spent_within (asked_variables one other day id) (asked_clauses one other day id) (asked_goal one other day id ∷ []) budget learnt h in
+    absurd (omega (arith, ample, most))
+
 position_nothing : (one other : Contents) (day budget : ℕ) (id : List ℕ) (own : List CompareNote) → 3 ^ asked_variables one other day id < budget
     → IsNoted one other day budget id own → list_any is_left_open own ≡ false
 position_nothing one other day budget id [] ample h = refl
 position_nothing one other day budget id (compared.Finding position names ∷ []) ample h = refl
 position_nothing one other day budget id (compared.Undecided position learnt ∷ []) ample h =
-    let most : budget ≤ 3 ^ asked_variables one other day id =
-    spent_within (asked_variables one other day id) (asked_clauses one other day id) (asked_goal one other day id ∷ []) budget learnt.clauses h.1 in
-    absurd (omega (arith, ample, most))
+    absurd (never_left_at one other day budget id learnt.clauses ample h.1)
 position_nothing one other day budget id (note ∷ second ∷ own) ample h = absurd h
 
 compare_logged : (notes : List CompareNote) → list_any was_left (map CompareLogged notes) ≡ list_any is_left_open notes
@@ -259,45 +265,54 @@ kept_nothing text budget reply ample kept = proof_nothing text (book_of text) bu
 of_book : (P : Contents → Type 0) (text : List ℕ) (b : Contents) → book_of text ≡ Ok b → IfOk (book_of text) P → P b
 of_book P text b reads h = subst (λ (book : Result Contents BookFault). IfOk book P) reads h
 
-both_nothing : (first text : List ℕ) (day budget : ℕ) (reply : RunReply) → IsAmpleForBoth budget day first text → RepliesToTexts first (Some text) (OnDay day) budget reply
-    → LeavesNothing reply
-both_nothing first text day budget reply ample (inl kept) = kept_nothing first budget reply ample.first_check kept
-both_nothing first text day budget reply ample (inr from) = elim from.answer [
-  | inl kept ↦ kept_nothing text budget reply ample.second_check kept
-  | inr compares ↦
-      outside_nothing (outside from.book compares.book day) from.book compares.book day budget reply
-      (of_book (ArePositionsDecided budget day from.book) text compares.book compares.released.reads
-      (of_book (λ (one : Contents). IfOk (book_of text) (ArePositionsDecided budget day one)) first from.book from.released.reads ample.positions)) compares.answer
-]
+-- what the comparison leaves is left by the command
+module _ (AreDecided : Contents → Contents → Type 0) (span : Span) (budget : ℕ)
+    (over : (one other : Contents) (reply : RunReply) → one.first ≤ one.last → other.first ≤ other.last → AreDecided one other → RepliesOver span one other budget reply
+    → LeavesNothing reply) where
+  both_nothing : (first text : List ℕ) (reply : RunReply) → IsAmpleForBoth budget AreDecided first text → RepliesToTexts first (Some text) span budget reply → LeavesNothing reply
+  both_nothing first text reply ample (inl kept) = kept_nothing first budget reply ample.first_check kept
+  both_nothing first text reply ample (inr from) = elim from.answer [
+    | inl kept ↦ kept_nothing text budget reply ample.second_check kept
+    | inr compares ↦
+        over from.book compares.book reply (book_of-book first from.book from.released.reads).term (book_of-book text compares.book compares.released.reads).term
+        (of_book (AreDecided from.book) text compares.book compares.released.reads
+        (of_book (λ (one : Contents). IfOk (book_of text) (AreDecided one)) first from.book from.released.reads ample.between)) compares.answer
+  ]
 
--- of a file that is too long there is nothing to compare
-long_nothing : (first text : List ℕ) (day budget : ℕ) (reply : RunReply) → IsAmpleForBoth budget day first text → RepliesToTexts first None (OnDay day) budget reply
-    → LeavesNothing reply
-long_nothing first text day budget reply ample (inl kept) = kept_nothing first budget reply ample.first_check kept
-long_nothing first text day budget reply ample (inr from) = at_fault _ reply from.answer refl refl
+  -- of a file that is too long there is nothing to compare
+  long_nothing : (first text : List ℕ) (reply : RunReply) → IsAmpleForBoth budget AreDecided first text → RepliesToTexts first None span budget reply → LeavesNothing reply
+  long_nothing first text reply ample (inl kept) = kept_nothing first budget reply ample.first_check kept
+  long_nothing first text reply ample (inr from) = at_fault _ reply from.answer refl refl
 
-content_nothing : (first text : List ℕ) (day budget : ℕ) (fits : Bool) (content : Option (List ℕ)) (reply : RunReply) → IsAmpleForBoth budget day first text
-    → content ≡ (if fits then Some text else None) → RepliesToTexts first content (OnDay day) budget reply → LeavesNothing reply
-content_nothing first text day budget true content reply ample read h =
-    both_nothing first text day budget reply ample (subst (λ (c : Option (List ℕ)). RepliesToTexts first c (OnDay day) budget reply) read h)
-content_nothing first text day budget false content reply ample read h =
-    long_nothing first text day budget reply ample (subst (λ (c : Option (List ℕ)). RepliesToTexts first c (OnDay day) budget reply) read h)
+  content_nothing : (first text : List ℕ) (fits : Bool) (content : Option (List ℕ)) (reply : RunReply) → IsAmpleForBoth budget AreDecided first text
+      → content ≡ (if fits then Some text else None) → RepliesToTexts first content span budget reply → LeavesNothing reply
+  content_nothing first text true content reply ample read h =
+      both_nothing first text reply ample (subst (λ (c : Option (List ℕ)). RepliesToTexts first c span budget reply) read h)
+  content_nothing first text false content reply ample read h =
+      long_nothing first text reply ample (subst (λ (c : Option (List ℕ)). RepliesToTexts first c span budget reply) read h)
 
-found_nothing : (input : List ℕ) (found : Option (List ℕ)) (day budget : ℕ) (content : Option (List ℕ)) (reply : RunReply)
-    → IsSomeAnd found (IsAmpleForBoth budget day input) → IsSomeAnd found (λ text. content ≡ within_room MOST_TEXT_BYTES text)
-    → RepliesToTexts input content (OnDay day) budget reply → LeavesNothing reply
-found_nothing input None day budget content reply ample read h = absurd ample
-found_nothing input (Some text) day budget content reply ample read h = content_nothing input text day budget _ content reply ample read h
+  found_nothing : (input : List ℕ) (found content : Option (List ℕ)) (reply : RunReply)
+      → IsSomeAnd found (IsAmpleForBoth budget AreDecided input) → IsSomeAnd found (λ text. content ≡ within_room MOST_TEXT_BYTES text)
+      → RepliesToTexts input content span budget reply → LeavesNothing reply
+  found_nothing input None content reply ample read h = absurd ample
+  found_nothing input (Some text) content reply ample read h = content_nothing input text _ content reply ample read h
 
-files_nothing : (input file : List ℕ) (files : Option (List NamedBytes)) (day budget : ℕ) (content : Option (List ℕ)) (reply : RunReply)
-    → IsAmpleForFile (IsAmpleForBoth budget day) file input files → ReadsFile file MOST_TEXT_BYTES files content
-    → RepliesToTexts input content (OnDay day) budget reply → LeavesNothing reply
-files_nothing input file None day budget content reply ample read h = absurd ample
-files_nothing input file (Some all) day budget content reply ample read h = found_nothing input (content_of all file) day budget content reply ample read h
+  files_nothing : (input file : List ℕ) (files : Option (List NamedBytes)) (content : Option (List ℕ)) (reply : RunReply)
+      → IsAmpleForFile (IsAmpleForBoth budget AreDecided) file input files → ReadsFile file MOST_TEXT_BYTES files content
+      → RepliesToTexts input content span budget reply → LeavesNothing reply
+  files_nothing input file None content reply ample read h = absurd ample
+  files_nothing input file (Some all) content reply ample read h = found_nothing input (content_of all file) content reply ample read h
+
+  pub texts_nothing : (input file : List ℕ) (files files' : FilesTold) (reply : RunReply)
+      → IsAmpleForFile (IsAmpleForBoth budget AreDecided) file input files.files → RepliesToCompare input span file budget files files' reply → LeavesNothing reply
+  texts_nothing input file files files' reply ample h = files_nothing input file files.files h.content reply ample h.read h.answer
 
 pub compare_nothing : (input file : List ℕ) (day budget : ℕ) (files files' : FilesTold) (reply : RunReply)
-    → IsAmpleForFile (IsAmpleForBoth budget day) file input files.files → RepliesToCompare input (OnDay day) file budget files files' reply → LeavesNothing reply
-compare_nothing input file day budget files files' reply ample h = files_nothing input file files.files day budget h.content reply ample h.read h.answer
+    → IsAmpleForFile (IsAmpleForBoth budget (ArePositionsDecided budget day)) file input files.files → RepliesToCompare input (OnDay day) file budget files files' reply
+    → LeavesNothing reply
+compare_nothing input file day budget files files' reply ample h =
+    texts_nothing (ArePositionsDecided budget day) (OnDay day) budget
+    (λ one other told term terms decided is. outside_nothing (outside one other day) one other day budget told decided is) input file files files' reply ample h
 
 -- ---- searches for a car
 

@@ -21,6 +21,7 @@ use Rattle.book_commands.specs.Why.{why_promise}
 use Rattle.book_commands.specs.declared.comparing.Span.TheVariants.{OnDay, AllDays}
 use Rattle.book_commands.proofs.AskLaws.{ask-kind, ask-answered}
 use Rattle.book_commands.proofs.Blocked.{check-blocked, proof-blocked}
+use Rattle.book_commands.proofs.Changed.{changes_nothing}
 use Rattle.book_commands.proofs.DaysLaws.{days-kind, days-answered}
 use Rattle.book_commands.proofs.FreeLaws.{free-kind, free-answered}
 use Rattle.book_commands.proofs.Lawful.{IsLawful}
@@ -121,7 +122,7 @@ changes_lawful file budget = record {
   answered = λ input files files' reply v h. changes-told input file budget files files' reply v h;
   releasable = λ input files files' reply asks h done. not_asked asks;
   unreleasable = λ input files files' reply asks h refused. not_asked asks;
-  leaves_nothing = λ input files files' reply ample h. absurd ample;
+  leaves_nothing = λ input files files' reply ample h. changes_nothing input file budget files files' reply ample h;
 }
 
 require_lawful : (file : List ℕ) (budget : ℕ) → IsLawful (require_promise file budget)

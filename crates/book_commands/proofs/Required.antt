@@ -25,7 +25,7 @@ use Rattle.requirements.specs.declared.fault.RequirementFault.{RequirementFault}
 use Rattle.requirements.specs.declared.requirement.Claim.{Claim}
 use Rattle.requirements.specs.declared.requirement.Claim.TheVariants.{Meets, Uses}
 use Rattle.requirements.specs.declared.requirement.Requirement.{Requirement}
-use Rattle.rules_met.specs.Met.{IsAnswer, asked_clauses, asked_variables as rule_variables}
+use Rattle.rules_met.specs.Met.{IsAnswer, IsLeftOn, asked_clauses, asked_variables as rule_variables}
 use Rattle.rules_met.specs.declared.answer.RuleAnswer.{RuleAnswer}
 use Rattle.rules_met.specs.declared.answer.RuleAnswer.TheVariants.{Met, NotMet, Left}
 use Rattle.solver.proofs.CountLaws.{spent_within}
@@ -39,14 +39,17 @@ use Rattle.book_commands.proofs.Nothing.{at_fault, found_status, none_parted, sa
 
 -- ---- what is answered
 
+pub never_left_on : (b : Contents) (day budget : ℕ) (f : Rule) → 3 ^ rule_variables b day (f ∷ []) < budget → IsLeftOn b day budget f → ⊥
+never_left_on b day budget f ample h =
+    let most : budget ≤ 3 ^ rule_variables b day (f ∷ []) =
+    spent_within (rule_variables b day (f ∷ [])) (asked_clauses b day (f ∷ [])) (formula_literal (length b.codes) (usages_start b day) f ∷ []) budget h.learnt h.spent in
+    absurd (omega (arith, ample, most))
+
 decided_answer : (b : Contents) (day budget : ℕ) (f : Rule) (answer : RuleAnswer) → 3 ^ rule_variables b day (f ∷ []) < budget → IsAnswer b day budget f answer
     → is_left answer ≡ false
 decided_answer b day budget f (Met x) ample h = refl
 decided_answer b day budget f NotMet ample h = refl
-decided_answer b day budget f Left ample h =
-    let most : budget ≤ 3 ^ rule_variables b day (f ∷ []) =
-    spent_within (rule_variables b day (f ∷ [])) (asked_clauses b day (f ∷ [])) (formula_literal (length b.codes) (usages_start b day) f ∷ []) budget h.learnt h.spent in
-    absurd (omega (arith, ample, most))
+decided_answer b day budget f Left ample h = absurd (never_left_on b day budget f ample h)
 
 and_off : (t : Bool) → (t && false) ≡ false
 and_off true = refl

@@ -2,7 +2,9 @@
 -- can be new. Of a text that is no book's there is nothing to leave.
 --     IsAmpleFor budget text                     the questions of a check, on each day of the book's term
 --     IsAmpleForRules budget text                those on its supplementing rules, on each day of the term
---     IsAmpleForBoth budget day first second     those of the checks of both books, and each position of either on the day
+--     ArePositionsDecided budget day one other   those on each position of either book on the day
+--     AreChangesDecided budget one other         those on what changes, on each day of both terms
+--     IsAmpleForBoth budget AreDecided first second    those of the checks of both books, and then those between the two
 --     IsAmpleBeside budget day names text        a search for a car of the day that has the codes of an order
 --     IsAmpleForSome budget day text             one for a car of the day that has some codes, whichever they are
 --     IsAmpleToMeet budget day rule text         one for a car of the day that meets the rule
@@ -21,6 +23,8 @@ use Rattle.free_answers.specs.Answer.{chosen_of}
 use Rattle.item_search.specs.Search.{items_variables}
 use Rattle.kept_requirements.specs.Kept.{asked_rules}
 use Rattle.left_cars.specs.Left.{left_items}
+use Rattle.lost_cars.specs.CommonCar.{IsCommonRule}
+use Rattle.lost_cars.specs.Losses.{lost_rule, questions as loss_questions}
 use Rattle.pb_base.specs.Rule.{Rule, always}
 use Rattle.pb_outside.specs.Files.{NamedBytes, content_of}
 use Rattle.requirements.specs.Requirements.{requirements_of}
@@ -44,10 +48,26 @@ abbrev pub ArePositionsDecided : ℕ → ℕ → Contents → Contents → Type 
 ArePositionsDecided budget day one other =
     AllByRecursion (λ id. 3 ^ asked_variables one other day id < budget) (ids_of_either one other)
 
-pub record IsAmpleForBoth (budget day : ℕ) (first second : List ℕ) : Type 0 where
+-- each search on the day for a car of the own book that the other loses
+abbrev pub AreLossesDecided : ℕ → ℕ → Contents → Contents → Type 0
+AreLossesDecided budget day own other =
+    AllByRecursion (λ q. 3 ^ rule_variables own day (lost_rule own other q ∷ []) < budget) (loss_questions own other)
+
+-- for cars that are lost, cars that are won, a car of both, and one that gets other parts
+pub record IsChangeDecided (budget day : ℕ) (one other : Contents) : Type 0 where
+  pub lost : AreLossesDecided budget day one other
+  pub won : AreLossesDecided budget day other one
+  pub common : (f : Rule) → IsCommonRule one other day f → 3 ^ rule_variables one day (f ∷ []) < budget
+  pub positions : ArePositionsDecided budget day one other
+
+abbrev pub AreChangesDecided : ℕ → Contents → Contents → Type 0
+AreChangesDecided budget one other =
+    (day : ℕ) → one.first ≤ day → day ≤ one.last → other.first ≤ day → day ≤ other.last → IsChangeDecided budget day one other
+
+pub record IsAmpleForBoth (budget : ℕ) (AreDecided : Contents → Contents → Type 0) (first second : List ℕ) : Type 0 where
   pub first_check : IsAmpleFor budget first
   pub second_check : IsAmpleFor budget second
-  pub positions : IfOk (book_of first) (λ one. IfOk (book_of second) (ArePositionsDecided budget day one))
+  pub between : IfOk (book_of first) (λ one. IfOk (book_of second) (AreDecided one))
 
 abbrev pub IsAmpleBeside : ℕ → ℕ → List (List ℕ) → List ℕ → Type 0
 IsAmpleBeside budget day names text =

@@ -20,11 +20,11 @@ use Rattle.book_text.specs.declared.fault.BookFault.{BookFault}
 use Rattle.book_text.specs.declared.fault.BookKind.TheVariants.{TooLarge}
 use Rattle.desk_words.specs.Lines.{line}
 use Rattle.pb_outside.specs.Files.{NamedBytes, FilesTold, content_of, ReadsFile, FailsToRead}
-use Rattle.book_commands.specs.Ample.{IsAmpleForBoth, IsAmpleForFile}
+use Rattle.book_commands.specs.Ample.{AreChangesDecided, ArePositionsDecided, IsAmpleForBoth, IsAmpleForFile}
 use Rattle.book_commands.specs.ChangesReply.{RepliesToChanges}
 use Rattle.book_commands.specs.Checks.{RepliesToProof, IsCheckable}
 use Rattle.book_commands.specs.Ends.{EndsCheck, IsCheckStatus}
-use Rattle.book_commands.specs.Promise.{Promise, ReadsFiles, never_ample}
+use Rattle.book_commands.specs.Promise.{Promise, ReadsFiles}
 use Rattle.book_commands.specs.Require.{EndsRequire}
 use Rattle.book_commands.specs.RunReply.{RunReply, book_fault_reply}
 use Rattle.book_commands.specs.declared.comparing.Span.{Span}
@@ -131,7 +131,7 @@ compare_promise day file budget = record {
   is_answer = EndsCheck;
   tells_release = false;
   tells_refusal = false;
-  is_ample = IsAmpleForFile (IsAmpleForBoth budget day) file;
+  is_ample = IsAmpleForFile (IsAmpleForBoth budget (ArePositionsDecided budget day)) file;
 }
 
 abbrev pub changes_promise : List ℕ → ℕ → Promise
@@ -144,5 +144,5 @@ changes_promise file budget = record {
   is_answer = EndsRequire;
   tells_release = false;
   tells_refusal = false;
-  is_ample = never_ample;
+  is_ample = IsAmpleForFile (IsAmpleForBoth budget (AreChangesDecided budget)) file;
 }

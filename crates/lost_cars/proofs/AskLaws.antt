@@ -24,8 +24,8 @@ use Rattle.book_model.proofs.BookLimits.{constructs_below}
 use Rattle.book_compare.specs.Common.{AreNamed}
 use Rattle.lost_cars.specs.ByName.{by_name}
 use Rattle.lost_cars.specs.Violation.{firing, unmet}
-use Rattle.lost_cars.specs.Losses.{IsCar, is_missed, is_lost, read_by_own, lost_rule, LosesNone, QuestionFits, questions}
-use Rattle.lost_cars.specs.Asks.{HasSupplement, HasConstruct, Says, IsAsk, IsRuled, IsPut, ask_with}
+use Rattle.lost_cars.specs.Losses.{Says, IsCar, is_missed, is_lost, read_by_own, lost_rule, LosesNone, QuestionFits, questions}
+use Rattle.lost_cars.specs.Asks.{HasSupplement, HasConstruct, IsAsk, IsRuled, IsPut, ask_with}
 use Rattle.lost_cars.specs.declared.asks.Ask.{Ask}
 use Rattle.lost_cars.specs.declared.question.Question.{Question}
 use Rattle.lost_cars.specs.declared.question.Question.TheVariants.{Fires, Breaks, Lacks}

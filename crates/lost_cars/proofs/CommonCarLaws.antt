@@ -5,6 +5,7 @@ use Rattle.std.specs.List.{slice_get, slice_index_or, list_any, AllByRecursion, 
 use Rattle.std.specs.Option.{option_map_or, is_none}
 use Rattle.std.proofs.lemmas.Bool.{and_parts, and_from, not-true, true≢false}
 use Rattle.std.proofs.lemmas.List.{length-append, length-map}
+use Rattle.pb_base.specs.InParts.{InParts}
 use Rattle.pb_base.specs.NamedSet.{named}
 use Rattle.pb_base.specs.Names.{same_name, place_in}
 use Rattle.pb_base.specs.Node.{size}
@@ -17,8 +18,8 @@ use Rattle.rules_met.specs.declared.answer.RuleAnswer.TheVariants.{Met, NotMet, 
 use Rattle.book_compare.specs.Picked.{picked}
 use Rattle.book_compare.proofs.NumberLaws.{not_there, not_named}
 use Rattle.lost_cars.specs.Asks.{IsPut, ArePut}
-use Rattle.lost_cars.specs.CommonCar.{any_rule_from, none_rule, TellsCommon, IsCommonAnswer}
-use Rattle.lost_cars.specs.Losses.{IsCar, is_missed, is_lost, questions}
+use Rattle.lost_cars.specs.CommonCar.{any_rule_from, none_rule, IsAsked, IsCommonAnswer, IsCommonRule}
+use Rattle.lost_cars.specs.Losses.{IsCar, Says, is_missed, is_lost, lost_rule, questions}
 use Rattle.lost_cars.specs.declared.asks.Ask.{Ask}
 use Rattle.lost_cars.specs.declared.question.Question.{Question}
 use Rattle.lost_cars.specs.declared.question.Question.TheVariants.{Fires, Breaks, Lacks}
@@ -65,29 +66,32 @@ module _ (own other : Contents) (day : ℕ) (names : List (List ℕ)) (car : IsC
   abbrev x : List Bool
   x = named own.codes names
 
-  abbrev any_true : List Ask → Bool
-  any_true asks = list_any (λ (r : Rule). holds r x) (map (λ (a : Ask). a.rule) asks)
+  abbrev any_true : List Question → Bool
+  any_true qs = list_any (λ (r : Rule). holds r x) (map (lost_rule own other) qs)
 
-  none_lost : (all : List Question) (asks : List Ask) → ArePut own other day all asks → any_true asks ≡ false → AllByRecursion (KeepsIt own other day names) all
-  none_lost [] asks put none = tt
-  none_lost (q ∷ all) asks put none = by put.0 put.1 put.2 put.3 (λ h. none_lost all put.1 put.4 h)
+  abbrev own_true : Question → Bool
+  own_true q = holds (lost_rule own other q) x
+
+  none_lost : (all asked : List Question) → InParts (IsAsked own other day) all asked → any_true asked ≡ false → AllByRecursion (KeepsIt own other day names) all
+  none_lost [] asked are none = tt
+  none_lost (q ∷ all) asked are none = by are.0 are.1 are.2 are.3 (λ h. none_lost all are.1 are.4 h)
     where
-      by : (first rest : List Ask) → asks ≡ first ++ rest → IsPut own other day q first → (any_true rest ≡ false → AllByRecursion (KeepsIt own other day names) all)
+      by : (first rest : List Question) → asked ≡ first ++ rest → IsAsked own other day q first → (any_true rest ≡ false → AllByRecursion (KeepsIt own other day names) all)
           → AllByRecursion (KeepsIt own other day names) (q ∷ all)
       by [] rest is here later = (here names car, later (sym (ap any_true is) ∙ none))
       by (a ∷ []) rest is here later =
-          let parts = or_parts (holds a.rule x) (any_true rest) (sym (ap any_true is) ∙ none) in
-          (sym (here.1.says names car.named_there) ∙ parts.0, later parts.1)
+          let parts = or_parts (own_true a) (any_true rest) (sym (ap any_true is) ∙ none) in
+          (sym (here.1 names car.named_there) ∙ ap own_true (sym here.0) ∙ parts.0, later parts.1)
       by (a ∷ b ∷ more) rest is here later = absurd here
 
-  none_true : (all : List Question) (asks : List Ask) → ArePut own other day all asks → ((q : Question) → is_lost own other day q names ≡ false) → any_true asks ≡ false
-  none_true [] asks put kept = ap any_true put
-  none_true (q ∷ all) asks put kept = by put.0 put.1 put.2 put.3 (none_true all put.1 put.4 kept)
+  none_true : (all asked : List Question) → InParts (IsAsked own other day) all asked → ((q : Question) → is_lost own other day q names ≡ false) → any_true asked ≡ false
+  none_true [] asked are kept = ap any_true are
+  none_true (q ∷ all) asked are kept = by are.0 are.1 are.2 are.3 (none_true all are.1 are.4 kept)
     where
-      by : (first rest : List Ask) → asks ≡ first ++ rest → IsPut own other day q first → any_true rest ≡ false → any_true asks ≡ false
+      by : (first rest : List Question) → asked ≡ first ++ rest → IsAsked own other day q first → any_true rest ≡ false → any_true asked ≡ false
       by [] rest is here later = ap any_true is ∙ later
       by (a ∷ []) rest is here later =
-          ap any_true is ∙ ap (λ t. t || any_true rest) (here.1.says names car.named_there ∙ kept q) ∙ later
+          ap any_true is ∙ ap (λ t. t || any_true rest) (ap own_true here.0 ∙ here.1 names car.named_there ∙ kept q) ∙ later
       by (a ∷ b ∷ more) rest is here later = absurd here
 
 -- a car of the other book isn't lost
@@ -129,40 +133,83 @@ module _ (own other : Contents) (day : ℕ) (names : List (List ℕ)) (kept : Is
       by None is = ap (λ o. option_map_or (is_missed other names) o false) is
       by (Some name) is = ap (λ o. option_map_or (is_missed other names) o false) is ∙ has_code name
 
-pub tells_common : (own other : Contents) (day : ℕ) (asks : List Ask) (f : Rule) → ArePut own other day (questions own other) asks → f ≡ none_rule (map (λ (a : Ask). a.rule) asks)
-    → TellsCommon own other day f
-tells_common own other day asks f put is = λ names car.
-    let rules : List Rule = map (λ (a : Ask). a.rule) asks in
-    let says : holds f (named own.codes names) ≡ not (list_any (λ (r : Rule). holds r (named own.codes names)) rules) =
-    ap (λ g. holds g (named own.codes names)) is ∙ none_holds rules (named own.codes names) in (
+-- over cars of the own book, the formula is true just of those that are cars of the other
+abbrev TellsCommon : Contents → Contents → ℕ → Rule → Type 0
+TellsCommon own other day f =
+    (names : List (List ℕ)) → IsCar own day names
+    → (holds f (named own.codes names) ≡ true → IsCar other day names) × (IsCar other day names → holds f (named own.codes names) ≡ true)
+
+tells_common : (own other : Contents) (day : ℕ) (f : Rule) → IsCommonRule own other day f → TellsCommon own other day f
+tells_common own other day f common = λ names car.
+    let x : List Bool = named own.codes names in
+    let rules : List Rule = map (lost_rule own other) common.asked in
+    let says : holds f x ≡ not (list_any (λ (r : Rule). holds r x) rules) = ap (λ g. holds g x) common.is ∙ none_holds rules x in (
       λ h. kept_car own other day names car
-          (none_lost own other day names car (questions own other) asks put (not-true (list_any (λ (r : Rule). holds r (named own.codes names)) rules) (sym says ∙ h))),
-      λ kept. says ∙ ap not (none_true own other day names car (questions own other) asks put (not_lost own other day names kept)),
+          (none_lost own other day names car (questions own other) common.asked common.are (not-true (list_any (λ (r : Rule). holds r x) rules) (sym says ∙ h))),
+      λ kept. says ∙ ap not (none_true own other day names car (questions own other) common.asked common.are (not_lost own other day names kept)),
     )
 
--- the same of what is given back
-pub rule_tells : {E : Type 0} (own other : Contents) (day : ℕ) (asks : List Ask) (f : Rule) (made : Result Rule E) → ArePut own other day (questions own other) asks
-    → f ≡ none_rule (map (λ (a : Ask). a.rule) asks) → IfOk made (λ g. g ≡ f) → IfOk made (TellsCommon own other day)
-rule_tells own other day asks f (Ok g) put is same = tells_common own other day asks g put (same ∙ is)
-rule_tells own other day asks f (Err why) put is same = tt
+-- ---- the questions that were put are those that are asked
+
+abbrev asked_of : List Ask → List Question
+asked_of asks = map (λ (a : Ask). a.question) asks
+
+abbrev rules_of : List Ask → List Rule
+rules_of asks = map (λ (a : Ask). a.rule) asks
+
+module _ (own other : Contents) (day : ℕ) where
+  abbrev lost_rules : List Ask → List Rule
+  lost_rules asks = map (lost_rule own other) (asked_of asks)
+
+  are_asked : (all : List Question) (asks : List Ask) → ArePut own other day all asks → InParts (IsAsked own other day) all (asked_of asks)
+  are_asked [] asks put = ap asked_of put
+  are_asked (q ∷ all) asks put = by put.0 put.1 put.2 put.3 (are_asked all put.1 put.4)
+    where
+      by : (first rest : List Ask) → asks ≡ first ++ rest → IsPut own other day q first → InParts (IsAsked own other day) all (asked_of rest)
+          → InParts (IsAsked own other day) (q ∷ all) (asked_of asks)
+      by [] rest is none later = ([], asked_of rest, ap asked_of is, none, later)
+      by (a ∷ []) rest is here later =
+          (a.question ∷ [], asked_of rest, ap asked_of is, (here.0, subst (Says own other day q) here.1.is here.1.says), later)
+      by (a ∷ b ∷ more) rest is here later = absurd here
+
+  are_rules : (all : List Question) (asks : List Ask) → ArePut own other day all asks → rules_of asks ≡ lost_rules asks
+  are_rules [] asks put = ap rules_of put ∙ sym (ap lost_rules put)
+  are_rules (q ∷ all) asks put = by put.0 put.1 put.2 put.3 (are_rules all put.1 put.4)
+    where
+      by : (first rest : List Ask) → asks ≡ first ++ rest → IsPut own other day q first → rules_of rest ≡ lost_rules rest → rules_of asks ≡ lost_rules asks
+      by [] rest is none later = ap rules_of is ∙ later ∙ sym (ap lost_rules is)
+      by (a ∷ []) rest is here later =
+          ap rules_of is ∙ ap (λ (f : Rule). f ∷ rules_of rest) (here.1.is ∙ ap (lost_rule own other) (sym here.0))
+          ∙ ap (λ (fs : List Rule). lost_rule own other a.question ∷ fs) later ∙ sym (ap lost_rules is)
+      by (a ∷ b ∷ more) rest is here later = absurd here
+
+-- the formula that is given back
+pub rule_common : {E : Type 0} (own other : Contents) (day : ℕ) (asks : List Ask) (f : Rule) (made : Result Rule E) → ArePut own other day (questions own other) asks
+    → f ≡ none_rule (map (λ (a : Ask). a.rule) asks) → IfOk made (λ g. g ≡ f) → IfOk made (IsCommonRule own other day)
+rule_common own other day asks f (Ok g) put is same = record {
+  asked = asked_of asks;
+  are = are_asked own other day (questions own other) asks put;
+  is = same ∙ is ∙ ap none_rule (are_rules own other day (questions own other) asks put);
+}
+rule_common own other day asks f (Err why) put is same = tt
 
 pub rule_fits : {E : Type 0} (n : ℕ) (f : Rule) (rs : List Rule) (made : Result Rule E) → f ≡ none_rule rs → AllByRecursion (RuleIsSmall n) rs → IfOk made (λ g. g ≡ f)
     → IfOk made (λ g. size g ≤ 2 ^ 30) → IfOk made (RuleIsSmall n)
 rule_fits n f rs (Ok g) is small same few = record { in_range = none_fits n g rs (same ∙ is) small; small = few }
 rule_fits n f rs (Err why) is small same few = tt
 
-pub common_answered : (own other : Contents) (day budget : ℕ) (f : Rule) (answer : RuleAnswer) → IsDistinct same_name own.codes → TellsCommon own other day f → IsAnswer own day budget f answer
-    → IsCommonAnswer own other day budget answer
-common_answered own other day budget f (Met x) apart tells met =
+pub common_answered : (own other : Contents) (day budget : ℕ) (f : Rule) (answer : RuleAnswer) → IsDistinct same_name own.codes → IsCommonRule own other day f
+    → IsAnswer own day budget f answer → IsCommonAnswer own other day budget answer
+common_answered own other day budget f (Met x) apart common met =
     let parts = and_parts (is_good own day x) (holds f x) met.1 in
     let names : List (List ℕ) = picked own.codes x in
     let car : IsCar own day names = car_of_set own day x apart parts.0 in
-    (names, record { own_car = car; other_car = (tells names car).0 (ap (holds f) (named_own own x met.0 apart) ∙ parts.1) })
-common_answered own other day budget f NotMet apart tells none = λ names common.
+    (names, record { own_car = car; other_car = (tells_common own other day f common names car).0 (ap (holds f) (named_own own x met.0 apart) ∙ parts.1) })
+common_answered own other day budget f NotMet apart common none = λ names car.
     let x : List Bool = named own.codes names in
-    true≢false (sym (and_from (is_good own day x) (holds f x) common.own_car.good ((tells names common.own_car).1 common.other_car))
+    true≢false (sym (and_from (is_good own day x) (holds f x) car.own_car.good ((tells_common own other day f common names car.own_car).1 car.other_car))
     ∙ none x (length-map own.codes (λ c. list_any (same_name c) names)))
-common_answered own other day budget f Left apart tells left = record { rule = f; tells = tells; left = left }
+common_answered own other day budget f Left apart common left = record { rule = f; common = common; left = left }
 
 -- the answer to one rule
 pub one_count : (b : Contents) (day budget : ℕ) (f : Rule) (answers : List RuleAnswer) → AllZip (IsAnswer b day budget) (f ∷ []) answers → length answers ≡ 1

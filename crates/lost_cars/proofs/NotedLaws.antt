@@ -17,7 +17,7 @@ use Rattle.rules_met.specs.declared.answer.RuleAnswer.TheVariants.{Met, NotMet, 
 use Rattle.book_compare.specs.Common.{AreNamed}
 use Rattle.book_compare.specs.Picked.{picked}
 use Rattle.book_compare.proofs.PickLaws.{picked_distinct, picked_named, named-picked}
-use Rattle.lost_cars.specs.Losses.{IsCar, is_lost, IsLostBy, LosesNone, IsLossNoted, QuestionFits, cause_of}
+use Rattle.lost_cars.specs.Losses.{IsCar, is_lost, IsLostBy, LosesNone, IsLossNoted, QuestionFits, Says, cause_of}
 use Rattle.lost_cars.specs.Asks.{IsAsk, IsPut, ArePut}
 use Rattle.lost_cars.specs.Noting.{notes_for, notes_by, AreAnswered}
 use Rattle.lost_cars.specs.declared.asks.Ask.{Ask}
@@ -60,7 +60,8 @@ module _ (own other : Contents) (day budget : ℕ) (apart : IsDistinct same_name
   noted : (q : Question) (f : Rule) (answer : RuleAnswer) → IsAsk own other day q f → IsAnswer own day budget f answer → IsLossNoted own other day budget q (notes_for own other q answer)
   noted q f (Met x) ask met = (refl, met.0, lost_by_set q f x ask met.0 met.1)
   noted q f NotMet ask none = none_lost q f ask none
-  noted q f Left ask left = (refl, subst (IsLeftOn own day budget) ask.is left)
+  noted q f Left ask left =
+      (refl, record { says = subst (Says own other day q) ask.is ask.says; left = subst (IsLeftOn own day budget) ask.is left })
 
   abbrev AreRight : List Ask → List RuleAnswer → Type 0
   AreRight asks answers = AllZip (IsAnswer own day budget) (map (λ (a : Ask). a.rule) asks) answers

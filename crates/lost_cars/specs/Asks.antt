@@ -2,21 +2,15 @@
 --     HasSupplement own day f, HasConstruct ..    the own book has such an active rule, which isn't kept just where f is true
 --     IsAsk own other day q f           the formula of a question, true over just the cars that are lost by it
 --     IsPut own other day q asks        no car is lost by the question, or it is put among those that have to be asked
-use Rattle.std.specs.Prelude.{◌≡◌, ℕ, Bool, true, List, [], ◌∷◌, ◌++◌, Option, None, Some, length, slice_get}
+use Rattle.std.specs.Prelude.{◌≡◌, ℕ, true, List, [], ◌∷◌, Option, None, Some, length, slice_get}
 use Rattle.pb_base.specs.InParts.{InParts}
-use Rattle.pb_base.specs.Leaves.{with_leaves}
-use Rattle.pb_base.specs.NamedSet.{named}
-use Rattle.pb_base.specs.Rule.{Rule, holds}
-use Rattle.pb_base.specs.declared.node.Leaf.{Leaf}
-use Rattle.pb_base.specs.declared.node.Leaf.TheVariants.{Code as LeafCode}
+use Rattle.pb_base.specs.Rule.{Rule}
 use Rattle.book_model.specs.Activity.{is_within}
 use Rattle.book_model.specs.Contents.{Contents}
 use Rattle.book_model.specs.declared.record.Construct.{Construct}
 use Rattle.book_model.specs.declared.record.Supplement.{Supplement}
-use Rattle.book_compare.specs.Common.{AreNamed}
 use Rattle.rules_met.specs.Met.{RuleIsSmall}
-use Rattle.lost_cars.specs.ByName.{by_name}
-use Rattle.lost_cars.specs.Losses.{is_lost, LosesNone, lost_rule}
+use Rattle.lost_cars.specs.Losses.{LosesNone, Says, lost_rule}
 use Rattle.lost_cars.specs.Violation.{firing, unmet}
 use Rattle.lost_cars.specs.declared.asks.Ask.{Ask}
 use Rattle.lost_cars.specs.declared.question.Question.{Question}
@@ -35,10 +29,6 @@ pub record HasConstruct (own : Contents) (day : ℕ) (f : Rule) : Type 0 where
   pub there : slice_get own.constructs place ≡ Some rule
   pub active : is_within rule.from rule.until day ≡ true
   pub same : f ≡ unmet rule.demand
-
-abbrev pub Says : Contents → Contents → ℕ → Question → Rule → Type 0
-Says own other day q f =
-    (names : List (List ℕ)) → AreNamed own.codes names → holds f (named own.codes names) ≡ is_lost own other day q names
 
 pub record IsAsk (own other : Contents) (day : ℕ) (q : Question) (f : Rule) : Type 0 where
   pub is : f ≡ lost_rule own other q

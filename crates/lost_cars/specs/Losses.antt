@@ -5,6 +5,7 @@
 --                                    constructibility rule is broken, or it lacks a code that the car has
 --     questions own other            all of them: supplementing rules, constructibility rules, the own book's codes, in record order
 --     lost_rule own other q          over the own book's codes, the formula that a car is lost by the question, if its rule is active
+--     Says own other day q f         over the own book's codes, the formula is true just of the sets that are lost by the question
 --     AreLosses own other day budget notes    what is told of each question: a car that is lost by it, or nothing where none is, or
 --                                    that the search was left
 --     KeepsCars own other day        no car is lost: each is a car of the other book
@@ -15,7 +16,7 @@ use Rattle.pb_base.specs.InParts.{InParts}
 use Rattle.pb_base.specs.Leaves.{with_leaves}
 use Rattle.pb_base.specs.NamedSet.{named}
 use Rattle.pb_base.specs.Names.{same_name, place_in}
-use Rattle.pb_base.specs.Rule.{Rule, code, never}
+use Rattle.pb_base.specs.Rule.{Rule, code, holds, never}
 use Rattle.book_model.specs.Contents.{Contents}
 use Rattle.book_model.specs.Good.{is_good, fires, breaks}
 use Rattle.rules_met.specs.Met.{IsLeftOn}
@@ -73,12 +74,21 @@ pub record IsLostBy (own other : Contents) (day : ℕ) (q : Question) (names : L
   pub car : IsCar own day names
   pub lost : is_lost own other day q names ≡ true
 
+abbrev pub Says : Contents → Contents → ℕ → Question → Rule → Type 0
+Says own other day q f =
+    (names : List (List ℕ)) → AreNamed own.codes names → holds f (named own.codes names) ≡ is_lost own other day q names
+
+-- the search for a car that is lost by the question was left
+pub record IsLossLeft (own other : Contents) (day budget : ℕ) (q : Question) : Type 0 where
+  pub says : Says own other day q (lost_rule own other q)
+  pub left : IsLeftOn own day budget (lost_rule own other q)
+
 abbrev pub LosesNone : Contents → Contents → ℕ → Question → Type 0
 LosesNone own other day q = (names : List (List ℕ)) → IsCar own day names → is_lost own other day q names ≡ false
 
 abbrev pub IsLossNote : Contents → Contents → ℕ → ℕ → Question → LossNote → Type 0
 IsLossNote own other day budget q (Lost cause x) = (cause ≡ cause_of own other q) × (length x ≡ length own.codes) × IsLostBy own other day q (picked own.codes x)
-IsLossNote own other day budget q (Undecided cause) = (cause ≡ cause_of own other q) × IsLeftOn own day budget (lost_rule own other q)
+IsLossNote own other day budget q (Undecided cause) = (cause ≡ cause_of own other q) × IsLossLeft own other day budget q
 
 abbrev pub IsLossNoted : Contents → Contents → ℕ → ℕ → Question → List LossNote → Type 0
 IsLossNoted own other day budget q [] = LosesNone own other day q

@@ -2,7 +2,7 @@
 ghost use Rattle.std.specs.Prelude.{◌≡◌, ◌<◌, ◌≤◌, ◌^◌, All, IfOk, length, map, slice_index_or};
 ghost use Rattle.pb_base.specs.Node.{size};
 ghost use Rattle.pb_base.specs.declared.limits.TheConstants.{MOST_BUDGET};
-ghost use Rattle.lost_cars.specs.CommonCar.{IsCommonAnswer, TellsCommon, none_rule};
+ghost use Rattle.lost_cars.specs.CommonCar.{IsCommonAnswer, IsCommonRule, none_rule};
 ghost use Rattle.rules_met.specs.Met.{IsAnswer, IsCounted, RuleIsSmall};
 ghost use Rattle.rules_met.specs.declared.answer.RuleAnswer.TheVariants.{NotMet};
 
@@ -41,7 +41,7 @@ pub fn common_car(
 
 // A formula that is true of just the cars of the own book that are cars of the other.
 fn common_rule(alloc: Global, own: &Book, other: &Book, day: Day) -> Result<Formula, Memory>
-    ensures tells { IfOk result (TellsCommon own.now other.now day) }
+    ensures common { IfOk result (IsCommonRule own.now other.now day) }
     ensures fits { IfOk result (RuleIsSmall (length own.now.codes)) }
 {
     let _codes = own.codes();

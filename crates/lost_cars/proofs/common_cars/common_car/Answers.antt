@@ -7,4 +7,4 @@ use Rattle.lost_cars.proofs.common_cars.common_car.Goals as goal
 pub returns-clause-answer : goal.returns-clause-answer
 returns-clause-answer c =
     common_answered c.args.own.now c.args.other.now c.args.day c.args.budget c.in_ok-rule.rule c.in_ok-answer.answer
-    (subst (IsDistinct same_name) c.codes.ensures.value c.names_law.ensures.distinct) c.in_ok-rule.ensures.tells c.in_ok-answer.ensures.answer
+    (subst (IsDistinct same_name) c.codes.ensures.value c.names_law.ensures.distinct) c.in_ok-rule.ensures.common c.in_ok-answer.ensures.answer
