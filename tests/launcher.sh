@@ -254,6 +254,14 @@ wait "$launcher" 2> /dev/null
 sleep 0.5
 readlink -q "/proc/$served/exe" > /dev/null && wrong 'the program goes on behind a killed launcher'
 
+# A closed standard stream: a store doesn't stand in its place, so nothing that is told is written into it.
+printf 'GET /orders/1 HTTP/1.1\r\nhost: desk\r\nx-caller: ANNA\r\n\r\n' > "$work/asked"
+"$top/partsbook" --quiet desk "$work/closed.journal" < "$work/asked" >&-
+[ $? = 5 ] || wrong 'a closed output has another status than 5'
+grep -q HTTP "$work/closed.journal" && wrong 'what was told is in the store'
+"$top/partsbook" --quiet desk "$work/closed.journal" <&- > "$work/found"
+[ $? = 4 ] || wrong 'a closed input has another status than 4'
+
 # Through a link, in another folder, and help.
 ln -s "$top/partsbook" "$work/linked"
 [ "$(cd "$work" && ./linked --quiet order 40 E60 TOW < "$books/compact.csv")" = 'refused ETOW' ] || wrong 'through a symbolic link it finds no program'
