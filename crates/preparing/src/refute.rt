@@ -1,6 +1,6 @@
 //! Goals that the propagation of what they imply refutes, closed without a search.
 ghost use Rattle.std.specs.Prelude.{◌<◌, length, IfOk, IfSome};
-ghost use Rattle.chains.specs.Growth.{ClosedBy, Grows};
+ghost use Rattle.chains.specs.Growth.{ClosedAt, Grows};
 
 use crate::shortcut::{Shortcuts, next_ahead, put_others, way_back};
 use chains::{derive, refuting_unit};
@@ -82,7 +82,7 @@ pub(crate) fn close_false(
     implied: &[Implied],
 ) -> Result<Option<Ref>, Memory>
     ensures grows { Grows kernel.old kernel.new }
-    ensures closed { IfOk result (λ found. IfSome found (ClosedBy kernel.new goal)) }
+    ensures closed { IfOk result (λ found. IfSome found (ClosedAt kernel.new.clauses goal)) }
 {
     let Some(start) = reason_against(engine, goal) else {
         return Ok(None);
@@ -112,27 +112,28 @@ pub(crate) fn close_conflict(
     at: Ref,
 ) -> Result<Option<Ref>, Memory>
     ensures grows { Grows kernel.old kernel.new }
-    ensures closed { IfOk result (λ found. IfSome found (ClosedBy kernel.new goal)) }
+    ensures closed { IfOk result (λ found. IfSome found (ClosedAt kernel.new.clauses goal)) }
 {
-    let start = derive_shared(kernel, engine, shortcuts, walk, goal, at)?;
+    let start = derive_back(kernel, engine, shortcuts, walk, goal, at, End::Shared)?;
     close_from(kernel, engine, shortcuts, walk, goal, implied, start)
 }
 
-// The clause that is left of one that is false where all is resolved away that shared disjunctions lead to.
+// The place of the clause that is left of one that is false but for this literal, where all is resolved away that this end leads to.
 #[tactic(auto, using(chains::proofs::GrowthLaws::grows_same))]
-fn derive_shared(
+fn derive_back(
     kernel: &mut Kernel,
     engine: &Engine,
     shortcuts: &mut Shortcuts,
     walk: &mut Walk,
-    goal: Lit,
+    but: Lit,
     at: Ref,
+    to: End<'_>,
 ) -> Result<Ref, Memory>
     ensures { Grows kernel.old kernel.new }
 {
     walk.is_last = false;
-    walk.begin(engine, kernel.pool(), at, goal)?;
-    go_back(kernel, engine, shortcuts, walk, End::Shared)?;
+    walk.begin(engine, kernel.pool(), at, but)?;
+    go_back(kernel, engine, shortcuts, walk, to)?;
     let derived = derive(kernel, at, &walk.pairs)?;
     Ok(derived.unwrap_or(at))
 }
@@ -149,7 +150,7 @@ fn close_from(
     start: Ref,
 ) -> Result<Option<Ref>, Memory>
     ensures grows { Grows kernel.old kernel.new }
-    ensures closed { IfOk result (λ found. IfSome found (ClosedBy kernel.new goal)) }
+    ensures closed { IfOk result (λ found. IfSome found (ClosedAt kernel.new.clauses goal)) }
 {
     walk.begin(engine, kernel.pool(), start, goal)?;
     go_back(kernel, engine, shortcuts, walk, End::Goal(implied))?;
@@ -255,7 +256,8 @@ pub(crate) fn core_against(
         return Ok(None);
     };
     let start = way_back(kernel, engine, shortcuts, place, reason, true)?;
-    core_from(kernel, engine, shortcuts, walk, lit, start)
+    let at = derive_back(kernel, engine, shortcuts, walk, lit, start, End::Assumed)?;
+    Ok(Some(at))
 }
 
 // The place of the trail at which a literal is false.
@@ -281,25 +283,15 @@ pub(crate) fn core_of_conflict(
 ) -> Result<Option<Ref>, Memory>
     ensures { Grows kernel.old kernel.new }
 {
-    let start = derive_shared(kernel, engine, shortcuts, walk, assumed, at)?;
-    core_from(kernel, engine, shortcuts, walk, assumed, start)
-}
-
-// The place of a clause of complements of what was assumed, and of this literal's, derived from one that is false but for it.
-#[tactic(auto, using(chains::proofs::GrowthLaws::grows_same))]
-fn core_from(
-    kernel: &mut Kernel,
-    engine: &Engine,
-    shortcuts: &mut Shortcuts,
-    walk: &mut Walk,
-    lit: Lit,
-    start: Ref,
-) -> Result<Option<Ref>, Memory>
-    ensures { Grows kernel.old kernel.new }
-{
-    walk.is_last = false;
-    walk.begin(engine, kernel.pool(), start, lit)?;
-    go_back(kernel, engine, shortcuts, walk, End::Assumed)?;
-    let derived = derive(kernel, start, &walk.pairs)?;
-    Ok(Some(derived.unwrap_or(start)))
+    let start = derive_back(kernel, engine, shortcuts, walk, assumed, at, End::Shared)?;
+    let at = derive_back(
+        kernel,
+        engine,
+        shortcuts,
+        walk,
+        assumed,
+        start,
+        End::Assumed,
+    )?;
+    Ok(Some(at))
 }

@@ -1,6 +1,6 @@
 //! What derives short chains in a kernel.
 ghost use Rattle.std.specs.Prelude.{IfOk, IfSome};
-ghost use Rattle.chains.specs.Growth.{ClosedBy, Grows};
+ghost use Rattle.chains.specs.Growth.{ClosedAt, Grows};
 
 use crate::refute::{Implied, Walk, close_conflict, close_false, core_against, core_of_conflict};
 use crate::share::share_disjunctions;
@@ -66,7 +66,7 @@ impl Refuter {
         implied: &[Implied],
     ) -> Result<Option<Ref>, Memory>
         ensures grows { Grows kernel.old kernel.new }
-        ensures closed { IfOk result (λ found. IfSome found (ClosedBy kernel.new goal)) }
+        ensures closed { IfOk result (λ found. IfSome found (ClosedAt kernel.new.clauses goal)) }
     {
         close_false(
             kernel,
@@ -88,7 +88,7 @@ impl Refuter {
         at: Ref,
     ) -> Result<Option<Ref>, Memory>
         ensures grows { Grows kernel.old kernel.new }
-        ensures closed { IfOk result (λ found. IfSome found (ClosedBy kernel.new goal)) }
+        ensures closed { IfOk result (λ found. IfSome found (ClosedAt kernel.new.clauses goal)) }
     {
         close_conflict(
             kernel,

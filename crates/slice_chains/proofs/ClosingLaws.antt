@@ -5,7 +5,7 @@ use Rattle.std.proofs.lemmas.Bool.{and_from, eq-eqb, or_left, or_right}
 use Rattle.std.proofs.lemmas.Option.{slice_get_within, get_or_from_slice_get}
 use Rattle.clause_pool.specs.Literal.{complement}
 use Rattle.clause_pool.specs.Clause.{has}
-use Rattle.chains.specs.Growth.{Refutes}
+use Rattle.chains.specs.Growth.{Refutes, ClosedAt}
 use Rattle.derivation.specs.After.{closes}
 use Rattle.derivation.specs.Showing.{Closes}
 
@@ -16,10 +16,9 @@ closes_from_refutes goal (x ∷ xs) h =
     (eq-eqb x (complement goal) (h x (or_left (eqb x x) (has xs x) (eq-eqb x x refl))))
     (closes_from_refutes goal xs (λ l is_in. h l (or_right (eqb x l) (has xs l) is_in)))
 
-pub closed_one : (clauses : List (List ℕ)) (n goal at : ℕ) (c : List ℕ) → slice_get clauses at ≡ Some c → Refutes goal c
-    → Closes clauses (record { question = n; goal = goal }) (record { question = n; at = at })
-closed_one clauses n goal at c there refutes = record {
+pub closed_one : (clauses : List (List ℕ)) (n goal at : ℕ) → ClosedAt clauses goal at → Closes clauses (record { question = n; goal = goal }) (record { question = n; at = at })
+closed_one clauses n goal at h = record {
   question = refl;
-  place = slice_get_within clauses at c there;
-  closed = ap (closes goal) (get_or_from_slice_get clauses at c [] there) ∙ closes_from_refutes goal c refutes;
+  place = slice_get_within clauses at h.clause h.there;
+  closed = ap (closes goal) (get_or_from_slice_get clauses at h.clause [] h.there) ∙ closes_from_refutes goal h.clause h.refutes;
 }

@@ -1,7 +1,1 @@
-pub mod AlongLaws
-pub mod ChosenLaws
 pub mod ClosingLaws
-pub mod GoalMoves
-pub mod PutLaws
-pub mod RecordLaws
-pub mod WalkLaws

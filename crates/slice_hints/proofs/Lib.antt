@@ -1,3 +1,2 @@
-pub mod ImpliedLaws
 pub mod UsageLaws
 pub mod SpoiltLaws

@@ -19,10 +19,6 @@ usage_in [] x v d below = absurd (omega arith)
 usage_in (r ∷ vs) x zero d below = refl
 usage_in (r ∷ vs) x (suc v) d below = usage_in vs x v d (omega arith)
 
-pub usage_at : (b : Contents) (x us : List Bool) (v : ℕ) (d : Bool) → us ≡ map (λ (r : Variant). holds r.rule x) b.variants → v < length b.variants
-    → get_or us v d ≡ holds (usage b v) x
-usage_at b x us v d are below = ap (λ (ts : List Bool). get_or ts v d) are ∙ usage_in b.variants x v d below
-
 and_none_holds : (x : List Bool) (f : Rule) (fs : List Rule) → holds (and_none f fs) x ≡ (holds f x && not (list_any (λ (g : Rule). holds g x) fs))
 and_none_holds x f [] = grind arith
 and_none_holds x f (g ∷ gs) = and_none_holds x (both f (negation g)) gs ∙ grind arith

@@ -1,5 +1,5 @@
 //! Sets that are good on every day of a slice, and the questions that they answer.
-ghost use Rattle.std.specs.Prelude.{◌≡◌, ◌&&◌, ◌<◌, not, All, IfOk, IsTrue, length, map};
+ghost use Rattle.std.specs.Prelude.{◌≡◌, ◌&&◌, ◌<◌, All, IfOk, IsTrue, length, map};
 ghost use Rattle.std.specs.List.{list_any};
 ghost use Rattle.pb_base.specs.Rule.{codes_below, holds};
 ghost use Rattle.book_model.specs.Parts.{variants_of};
@@ -7,8 +7,8 @@ ghost use Rattle.clausify.specs.Choices.{usage, is_active_variant, active_varian
 ghost use Rattle.clausify.specs.Questions.{goal, QuestionFits};
 ghost use Rattle.slice_hints.specs.Found.{KnowsUsages};
 
-use book_model::{Book, Variant, active};
-use clausify::Question;
+use book_model::{Book, Variant};
+use clausify::{Question, is_active};
 use pb_base::{CodeSet, Day, Memory};
 use std::alloc::Global;
 
@@ -80,8 +80,7 @@ fn is_used_on(book: &Book, day: Day, found: &Found, variant: u32) -> bool
     ensures { result
         ≡ (is_active_variant book.now day variant && holds (usage book.now variant) found.now.set) }
 {
-    let record = &book.variants()[variant as usize];
-    active(record.from, record.until, day) && is_used(book, found, variant)
+    is_active(book, day, variant) && is_used(book, found, variant)
 }
 
 // Whether the formula of any active variant of the position is true over the set.

@@ -5,9 +5,9 @@ ghost use Rattle.clausify.specs.Questions.{QuestionFits};
 use crate::found::Found;
 use crate::sets::Sets;
 use crate::usages::Usages;
-use book_model::{Book, active};
+use book_model::Book;
 use clause_pool::Lit;
-use clausify::{Asked, Question};
+use clausify::{Asked, Question, is_active};
 use pb_base::{Day, Node};
 use preparing::Refuter;
 
@@ -64,7 +64,8 @@ fn prefer_new_usages(hints: &mut Vec<Lit>, book: &Book, day: Day, sets: &Sets, u
     for asked in usages {
         match asked.question {
             Question::Superfluous(variant) => {
-                if sets.using(variant) == 0 && is_active(book, day, variant) {
+                let is_there = (variant as usize) < book.variants().len();
+                if is_there && sets.using(variant) == 0 && is_active(book, day, variant) {
                     prefer(hints, asked.goal);
                 }
             }
@@ -73,21 +74,12 @@ fn prefer_new_usages(hints: &mut Vec<Lit>, book: &Book, day: Day, sets: &Sets, u
     }
 }
 
-// Whether the variant at this place is active, if there is one.
-fn is_active(book: &Book, day: Day, variant: u32) -> bool {
-    match book.variants().get(variant as usize) {
-        Some(record) => active(record.from, record.until, day),
-        None => false,
-    }
-}
-
 // Prefers the codes of the formulas of a position's active variants.
 fn prefer_codes_at(hints: &mut Vec<Lit>, book: &Book, day: Day, sets: &Sets, position: u32)
     requires { position < length book.now.positions }
 {
     for variant in book.variants_of(position) {
-        let record = &book.variants()[*variant as usize];
-        if active(record.from, record.until, day) {
+        if is_active(book, day, *variant) {
             prefer_codes_of(hints, book, sets, *variant);
         }
     }

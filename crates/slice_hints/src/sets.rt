@@ -11,7 +11,7 @@ ghost use Rattle.std.specs.List.{list_any};
 
 use crate::found::{Found, meets};
 use book_model::{Book, Construct, Supplement, active, breaks, fires, is_good};
-use clausify::Question;
+use clausify::{Question, is_active};
 use pb_base::{CodeSet, Day, Memory};
 use std::alloc::Global;
 use std::marker::Model;
@@ -207,8 +207,7 @@ impl Sets {
     {
         let mut sets = 0;
         for variant in book.variants_of(position) {
-            let record = &book.variants()[*variant as usize];
-            if active(record.from, record.until, day) {
+            if is_active(book, day, *variant) {
                 sets |= self.using(*variant);
             }
         }

@@ -1,6 +1,6 @@
 //! Clauses that refute goals, so that no search is begun for them.
 ghost use Rattle.std.specs.Prelude.{IfSome};
-ghost use Rattle.chains.specs.Growth.{ClosedBy};
+ghost use Rattle.chains.specs.Growth.{ClosedAt};
 
 use chains::refuting_unit;
 use clause_pool::{Kernel, Lit, Ref};
@@ -28,7 +28,7 @@ impl Units {
 
     /// The place of a clause that refutes a goal.
     pub fn refuting(&self, kernel: &Kernel, goal: Lit) -> Option<Ref>
-        ensures { IfSome result (ClosedBy kernel.now goal) }
+        ensures { IfSome result (ClosedAt kernel.now.clauses goal) }
     {
         let at = place_in(&self.refuting, goal)?;
         refuting_unit(kernel, goal, at)
