@@ -1,21 +1,19 @@
 -- What the clauses of a book say of sets of its codes.
-use Rattle.std.proofs.Common.{inl, inr, ◌≡◌, ℕ, zero, suc, ◌+◌, ◌-◌, ◌*◌, ◌<◌, ◌≤◌, Bool, true, false, ltb, List, [], ◌∷◌, ◌++◌, Option, None, Some, length, get_or, map, refl, sym, ap, subst, ◌∙◌, arith, length-append}
+use Rattle.std.proofs.Common.{inl, inr, ◌≡◌, ℕ, zero, suc, ◌+◌, ◌-◌, ◌*◌, ◌<◌, ◌≤◌, Bool, true, ltb, List, [], ◌∷◌, ◌++◌, Some, length, get_or, map, refl, sym, ap, subst, ◌∙◌, arith, length-append}
 use Rattle.std.specs.List.{slice_get, AllByRecursion}
 use Rattle.std.specs.Option.{option_map_or}
 use Rattle.std.proofs.lemmas.Bool.{and_parts, and_from, cases_Bool, ltb-true, ltb-false}
-use Rattle.std.proofs.lemmas.List.{length-map, map-append, get_or_append_left}
+use Rattle.std.proofs.lemmas.List.{length-map, map-append}
 use Rattle.std.proofs.lemmas.List.Elements.{recursion_from_All}
 use Rattle.std.proofs.lemmas.Option.{none-some, same_Some, slice_get-get_or}
 use Rattle.pb_base.specs.Rule.{Rule, never, holds, codes_below}
 use Rattle.pb_base.specs.Sets.{has}
 use Rattle.book_model.specs.Contents.{Contents}
 use Rattle.book_model.specs.Book.{IsBook, VariantFits}
-use Rattle.book_model.specs.Good.{is_good}
 use Rattle.book_model.specs.declared.record.Slice.{Slice}
 use Rattle.book_model.specs.declared.record.Variant.{Variant}
 use Rattle.clause_pool.specs.Literal.{is_true}
-use Rattle.clause_pool.specs.Clause.{AreBelow, Sat}
-use Rattle.clausify.specs.Choices.{usage}
+use Rattle.clause_pool.specs.Clause.{Sat}
 use Rattle.clausify.specs.Formulas.{connectives, formula_literal, literals_from}
 use Rattle.clausify.specs.Items.{Item, free_item, variables_of}
 use Rattle.clausify.specs.Lifting.{BeginsWith, CodesJust}
@@ -23,12 +21,12 @@ use Rattle.clausify.specs.declared.encoder.Encoder.{Encoder}
 use Rattle.clausify.proofs.FormulaLaws.{named_in, Names, Begins, length-named_in, names_first, names_last, denotes}
 use Rattle.clausify.proofs.ItemLaws.{item_fits, items_named, items_named-append, length-items_named, length_from_good, variables_of-append}
 use Rattle.clausify.proofs.RangeLaws.{literal_below}
-use Rattle.guarded_rules.specs.Guarded.{GuardedItem, encoded_guarded, items_of, guarded_variables, meets_all_guarded, AllGuardedFit, IsGuarded}
+use Rattle.guarded_rules.specs.Guarded.{GuardedItem, items_of, guarded_variables, meets_all_guarded, AllGuardedFit, IsGuarded}
 use Rattle.clausify.proofs.AgreeLaws.{Agree, appended_agree, holds_agree, fits_more}
 use Rattle.guarded_rules.proofs.FitLaws.{guard_appended}
 use Rattle.guarded_rules.proofs.GuardedLaws.{IsOverGuarded, guarded_over, met_from_all, all_from_met}
-use Rattle.guarded_rules.proofs.MadeLaws.{made_below, made_just}
-use Rattle.book_clauses.specs.BookClauses.{AllHaveGuards, AreOn, AreUsages, CodesBook, SaysOn, construct_days, is_in, supplement_days}
+use Rattle.guarded_rules.proofs.MadeLaws.{made_just}
+use Rattle.book_clauses.specs.BookClauses.{AllHaveGuards, AreUsages, CodesBook, construct_days, is_in, supplement_days}
 use Rattle.book_clauses.specs.Coding.{book_items, book_rules, free_usage, free_usages}
 use Rattle.book_clauses.proofs.PeriodLaws.{bits, bit_at}
 use Rattle.book_clauses.proofs.MeetLaws.{IsSaid, book_fit, book_from_good, good_from_book}

@@ -1,10 +1,9 @@
 -- What a set that says which periods a day is in has to meet: just what is active on the day.
-use Rattle.std.proofs.Common.{inl, inr, ◌≡◌, ℕ, ◌+◌, ◌<◌, ◌≤◌, Bool, true, false, not, ◌||◌, List, [], ◌∷◌, ◌++◌, Option, None, Some, length, map, refl, sym, ap, subst, ◌∙◌, arith}
+use Rattle.std.proofs.Common.{inl, inr, ◌≡◌, ℕ, ◌+◌, ◌<◌, ◌≤◌, Bool, true, List, [], ◌∷◌, Option, None, Some, length, map, refl, sym, subst, ◌∙◌, arith}
 use Rattle.std.specs.List.{filter, slice_get, AllByRecursion}
 use Rattle.std.specs.Option.{IfSome}
-use Rattle.std.proofs.lemmas.Bool.{cases_Bool, cond-true, cond-false, and_from, false≢true}
+use Rattle.std.proofs.lemmas.Bool.{cases_Bool, cond-true, cond-false, and_from}
 use Rattle.std.proofs.lemmas.List.Elements.{recursion_from_All}
-use Rattle.pb_base.specs.Rule.{codes_below}
 use Rattle.pb_base.specs.Sets.{has}
 use Rattle.book_model.specs.Activity.{is_within}
 use Rattle.book_model.specs.Contents.{Contents}
@@ -17,21 +16,13 @@ use Rattle.book_model.specs.declared.record.Variant.{Variant}
 use Rattle.clausify.specs.Items.{Item, free_item, supplement_item, construct_item, supplement_items, construct_items}
 use Rattle.clausify.proofs.ItemLaws.{meets, item_fits, AllMeet, supplement_item_fits, construct_item_fits, good_from_meets, meets_from_good}
 use Rattle.clausify.proofs.ListLaws.{all-append, all_first, all_last}
-use Rattle.guarded_rules.specs.Guarded.{GuardedItem, guarded, is_on, meets_guarded, AllGuardedFit}
+use Rattle.guarded_rules.specs.Guarded.{guarded, is_on, AllGuardedFit}
 use Rattle.clausify.proofs.AgreeLaws.{Agree, meets_agree}
 use Rattle.guarded_rules.proofs.FitLaws.{fits_guarded}
-use Rattle.guarded_rules.proofs.GuardedLaws.{AllMeetGuarded, met_where_on}
+use Rattle.guarded_rules.proofs.GuardedLaws.{AllMeetGuarded, met_where_on, met_where_off, met_unless}
 use Rattle.book_clauses.specs.BookClauses.{AllHaveGuards, construct_days, guard_in, has_guard, is_in, supplement_days}
-use Rattle.book_clauses.specs.Coding.{book_items, book_rules, free_usage, free_usages, guarded_construct, guarded_supplement, guarded_supplements}
+use Rattle.book_clauses.specs.Coding.{book_items, book_rules, free_usage, free_usages, guarded_construct, guarded_supplements}
 use Rattle.book_clauses.proofs.PeriodLaws.{guard_low, guard_on}
-
-off_met : (on m : Bool) → on ≡ false → (not on || m) ≡ true
-off_met true m off = absurd (false≢true (sym off))
-off_met false m off = refl
-
-one_met : (on m : Bool) → m ≡ true → (not on || m) ≡ true
-one_met true m met = met
-one_met false m met = refl
 
 module _ {X : Type 0} (x z : List Bool) (w : X → Bool) (g : X → Option ℕ) (f : X → Item) where
   abbrev AreSo : List X → Type 0
@@ -53,10 +44,10 @@ module _ {X : Type 0} (x z : List Bool) (w : X → Bool) (g : X → Option ℕ) 
       elim (cases_Bool (w s)) [
         | inl e ↦
             let both = subst (λ (k : List X). AllMeet x (map f k)) (cond-true (w s) (s ∷ filter w xs) (filter w xs) e) h in
-            (one_met (is_on z (g s)) (meets z (f s)) (so.0.1 ∙ both.0), guarded_from_active xs so.1 both.1)
+            (met_unless (is_on z (g s)) (meets z (f s)) (so.0.1 ∙ both.0), guarded_from_active xs so.1 both.1)
         | inr e ↦
             let rest = subst (λ (k : List X). AllMeet x (map f k)) (cond-false (w s) (s ∷ filter w xs) (filter w xs) e) h in
-            (off_met (is_on z (g s)) (meets z (f s)) (so.0.0 ∙ e), guarded_from_active xs so.1 rest)
+            (met_where_off (is_on z (g s)) (meets z (f s)) (so.0.0 ∙ e), guarded_from_active xs so.1 rest)
       ]
 
 module _ {X : Type 0} (Fits : X → Type 0) (g : X → Option ℕ) (f : X → Item) where

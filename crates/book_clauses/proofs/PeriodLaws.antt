@@ -1,15 +1,13 @@
 -- The variables of periods, and what says which of them a day is in.
-use Rattle.std.proofs.Common.{inl, inr, ◌≡◌, ℕ, zero, suc, ◌+◌, ◌*◌, ◌<◌, ◌≤◌, Bool, true, false, cond, List, [], ◌∷◌, ◌++◌, Option, None, Some, length, map, refl, sym, ap, subst, ◌∙◌, arith}
-use Rattle.std.specs.List.{list_any, slice_get, AllByRecursion}
+use Rattle.std.proofs.Common.{inl, inr, ◌≡◌, ℕ, zero, suc, ◌+◌, ◌<◌, ◌≤◌, Bool, true, List, [], ◌∷◌, ◌++◌, Option, None, Some, length, map, refl, sym, ap, subst, ◌∙◌, arith}
+use Rattle.std.specs.List.{list_any, slice_get}
 use Rattle.std.specs.Option.{IfSome}
-use Rattle.std.proofs.lemmas.Bool.{and_parts, and_from, cases_Bool, cond-true, cond-false, eqb-true, eq-eqb, leb-true, le-leb, or_cases, or_left, or_right, false≢true}
+use Rattle.std.proofs.lemmas.Bool.{and_parts, and_from, cases_Bool, cond-true, cond-false, eqb-true, leb-true, le-leb, or_cases, false≢true}
 use Rattle.std.proofs.lemmas.Option.{none-some, same_Some}
-use Rattle.std.proofs.lemmas.List.Folds.{list_any-append}
 use Rattle.pb_base.specs.Sets.{has}
 use Rattle.book_model.specs.Activity.{is_within}
 use Rattle.book_model.specs.Contents.{Contents}
 use Rattle.book_model.specs.declared.record.Slice.{Slice}
-use Rattle.clause_pool.specs.Literal.{literal, is_true}
 use Rattle.guarded_rules.specs.Guarded.{is_on}
 use Rattle.book_clauses.specs.BookClauses.{is_whole, same_days, has_guard, AllHaveGuards, guard_from, guard_in, is_in}
 
@@ -89,23 +87,6 @@ guard_low b ps d =
           subst (λ (g : Option ℕ). IfSome g (λ k. k < length b.codes + length ps)) (sym (cond-false (is_whole b d) None (guard_from (length b.codes) ps d) part))
           (from_low d (length b.codes) ps)
     ]
-
--- further periods
-pub guard_kept : (b : Contents) (ps qs : List Slice) (d : Slice) → has_guard b ps d ≡ true → has_guard b (ps ++ qs) d ≡ true
-guard_kept b ps qs d h =
-    elim (or_cases (is_whole b d) (list_any (λ p. same_days p d) ps) h) [
-      | inl whole ↦ or_left (is_whole b d) _ whole
-      | inr found ↦
-          or_right (is_whole b d) _ (list_any-append (λ p. same_days p d) ps qs ∙ or_left _ (list_any (λ p. same_days p d) qs) found)
-    ]
-
-same_self : (d : Slice) → same_days d d ≡ true
-same_self d = and_from _ _ (eq-eqb d.first d.first refl) (eq-eqb d.last d.last refl)
-
-pub guard_put : (b : Contents) (ps : List Slice) (d : Slice) → has_guard b (ps ++ d ∷ []) d ≡ true
-guard_put b ps d =
-    or_right (is_whole b d) _
-    (list_any-append (λ p. same_days p d) ps (d ∷ []) ∙ or_right (list_any (λ p. same_days p d) ps) _ (or_left (same_days d d) false (same_self d)))
 
 pub all_kept : (b : Contents) (ps qs ds : List Slice) → ((d : Slice) → has_guard b ps d ≡ true → has_guard b qs d ≡ true) → AllHaveGuards b ps ds → AllHaveGuards b qs ds
 all_kept b ps qs [] keeps h = tt

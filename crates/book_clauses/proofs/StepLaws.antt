@@ -1,8 +1,7 @@
 -- How far a loop over the records of a book has come.
-use Rattle.std.proofs.Common.{◌≡◌, ℕ, suc, ◌+◌, ◌<◌, ◌≤◌, ◌*◌, Bool, true, false, List, [], ◌∷◌, ◌++◌, Option, None, Some, length, get_or, map, take, drop, refl, sym, ap, subst, ◌∙◌, arith, append_assoc, append-nil, drop-cons}
+use Rattle.std.proofs.Common.{◌≡◌, ℕ, suc, ◌+◌, ◌<◌, ◌≤◌, ◌*◌, true, List, [], ◌∷◌, ◌++◌, length, get_or, map, take, drop, refl, sym, ap, subst, ◌∙◌, arith, append_assoc, append-nil, drop-cons}
 use Rattle.std.specs.Prelude.{All}
-use Rattle.std.proofs.lemmas.Bool.{cond-true, cond-false}
-use Rattle.std.proofs.lemmas.List.{map-append, take_all, take_more}
+use Rattle.std.proofs.lemmas.List.{map-append, take_more}
 use Rattle.book_model.specs.Contents.{Contents}
 use Rattle.book_model.specs.Book.{SupplementFits, ConstructFits, VariantFits}
 use Rattle.book_model.specs.declared.record.Slice.{Slice}
@@ -10,7 +9,6 @@ use Rattle.book_model.specs.declared.record.Supplement.{Supplement}
 use Rattle.book_model.specs.declared.record.Construct.{Construct}
 use Rattle.book_model.specs.declared.record.Variant.{Variant}
 use Rattle.pb_base.specs.Rule.{Rule}
-use Rattle.clause_pool.specs.Literal.{literal}
 use Rattle.clausify.specs.Encoding.{Encodes}
 use Rattle.clausify.specs.Formulas.{connectives, formula_clauses, formula_literal, literals_from}
 use Rattle.clausify.specs.Items.{demand_item}
@@ -18,14 +16,11 @@ use Rattle.clausify.specs.declared.encoder.Encoder.{Encoder}
 use Rattle.clausify.proofs.Bounds.{connectives_below, demand_item_below}
 use Rattle.guarded_rules.specs.Guarded.{GuardedItem, EncodesGuarded, IsGuarded}
 use Rattle.guarded_rules.proofs.MadeLaws.{guarded_item}
-use Rattle.book_clauses.specs.BookClauses.{AllHaveGuards, guard_from, has_guard, is_in, literals_on, same_days}
+use Rattle.book_clauses.specs.BookClauses.{AllHaveGuards, has_guard}
 use Rattle.book_clauses.specs.Coding.{free_usage}
 use Rattle.book_clauses.proofs.PeriodLaws.{all_kept, all_more}
 
 module _ {X : Type 0} (f : X → GuardedItem) (before : List GuardedItem) where
-  pub items_begun : (xs : List X) (e : Encoder) → IsGuarded before e → IsGuarded (before ++ map f (take 0 xs)) e
-  items_begun xs e h = subst (λ (is : List GuardedItem). IsGuarded is e) (sym (append-nil before)) h
-
   pub items_more : (xs : List X) (k : ℕ) (x : X) (e more : Encoder) → k < length xs → x ≡ get_or xs k x → IsGuarded (before ++ map f (take k xs)) e → EncodesGuarded e more (f x)
       → IsGuarded (before ++ map f (take (k + 1) xs)) more
   items_more xs k x e more below read h made =
@@ -34,9 +29,6 @@ module _ {X : Type 0} (f : X → GuardedItem) (before : List GuardedItem) where
       ∙ ap (λ (is : List GuardedItem). before ++ is)
       (sym (map-append f (take k xs) (x ∷ [])) ∙ ap (map f) (ap (λ (y : X). take k xs ++ y ∷ []) read ∙ sym (take_more xs k x below))))
       (guarded_item (before ++ map f (take k xs)) (f x) e more h made)
-
-  pub items_done : (xs : List X) (k : ℕ) (e : Encoder) → length xs ≤ k → IsGuarded (before ++ map f (take k xs)) e → IsGuarded (before ++ map f xs) e
-  items_done xs k e past h = subst (λ (ys : List X). IsGuarded (before ++ map f ys) e) (take_all k xs past) h
 
 -- a formula alone
 pub free_made : (e more : Encoder) (v : Variant) → Encodes e more (formula_clauses e.truth e.next v.rule) (connectives v.rule) → EncodesGuarded e more (free_usage v)
@@ -64,31 +56,10 @@ usages_more t v w lits lits' all vs k x l below read left is next more =
     ∙ ap (λ (ys : List Variant). lits ++ literals_from t v (map rule_of ys)) (sym (drop-cons vs k x below ∙ ap (λ (y : Variant). y ∷ drop (suc k) vs) (sym read)))
     ∙ left
 
--- the period at place k is passed by
-pub guard_passed : (v : ℕ) (ps : List Slice) (d p : Slice) (k : ℕ) → k < length ps → p ≡ get_or ps k p → same_days p d ≡ false → guard_from (v + k) (drop k ps) d ≡ guard_from (v + (k + 1)) (drop (k + 1) ps) d
-guard_passed v ps d p k below read other =
-    ap (λ (qs : List Slice). guard_from (v + k) qs d) (drop-cons ps k p below ∙ ap (λ (q : Slice). q ∷ drop (suc k) ps) (sym read))
-    ∙ cond-false (same_days p d) (Some (v + k)) (guard_from (v + k + 1) (drop (suc k) ps) d) other
-    ∙ ap (λ (j : ℕ). guard_from j (drop (suc k) ps) d) (let e : v + k + 1 ≡ v + (k + 1) = omega arith in e)
-    ∙ ap (λ (j : ℕ). guard_from (v + (k + 1)) (drop j ps) d) (let e : suc k ≡ k + 1 = omega arith in e)
-
-pub guard_met : (v : ℕ) (ps : List Slice) (d p : Slice) (k : ℕ) → k < length ps → p ≡ get_or ps k p → same_days p d ≡ true → guard_from (v + k) (drop k ps) d ≡ Some (v + k)
-guard_met v ps d p k below read same =
-    ap (λ (qs : List Slice). guard_from (v + k) qs d) (drop-cons ps k p below ∙ ap (λ (q : Slice). q ∷ drop (suc k) ps) (sym read))
-    ∙ cond-true (same_days p d) (Some (v + k)) (guard_from (v + k + 1) (drop (suc k) ps) d) same
-
--- what says which of the periods that are left a day is in
-pub literals_more : (v day : ℕ) (lits lits' all : List ℕ) (ps : List Slice) (k : ℕ) (p : Slice) (l : ℕ) → k < length ps → p ≡ get_or ps k p
-    → lits ++ literals_on (v + k) (drop k ps) day ≡ all → l ≡ literal (v + k) (is_in day p) → lits' ≡ lits ++ l ∷ []
-    → lits' ++ literals_on (v + (k + 1)) (drop (k + 1) ps) day ≡ all
-literals_more v day lits lits' all ps k p l below read left is more =
-    ap (λ (ls : List ℕ). ls ++ literals_on (v + (k + 1)) (drop (k + 1) ps) day) more
-    ∙ append_assoc lits (l ∷ []) (literals_on (v + (k + 1)) (drop (k + 1) ps) day)
-    ∙ ap (λ (j : ℕ). lits ++ j ∷ literals_on (v + (k + 1)) (drop (k + 1) ps) day) is
-    ∙ ap (λ (j : ℕ). lits ++ literal (v + k) (is_in day p) ∷ literals_on j (drop (k + 1) ps) day) (let e : v + (k + 1) ≡ v + k + 1 = omega arith in e)
-    ∙ ap (λ (j : ℕ). lits ++ literal (v + k) (is_in day p) ∷ literals_on (v + k + 1) (drop j ps) day) (let e : k + 1 ≡ suc k = omega arith in e)
-    ∙ ap (λ (qs : List Slice). lits ++ literals_on (v + k) qs day) (sym (drop-cons ps k p below ∙ ap (λ (q : Slice). q ∷ drop (suc k) ps) (sym read)))
-    ∙ left
+-- each formula has a literal
+pub length-literals_from : (t v : ℕ) (fs : List Rule) → length (literals_from t v fs) ≡ length fs
+length-literals_from t v [] = refl
+length-literals_from t v (f ∷ fs) = ap suc (length-literals_from t (v + connectives f) fs)
 
 -- there is room for one more formula
 pub room_for : (next start k n size : ℕ) → next ≤ start + 512 * k → k < n → start + 512 * n < 4294967296 → size ≤ 512 → next + size < 4294967296

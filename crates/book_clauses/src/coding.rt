@@ -36,6 +36,7 @@ pub fn book_clauses(alloc: Global, book: &Book) -> Result<BookClauses, Memory>
     ensures below { IfOk result (λ c. AreBelow (2 * c.vars) c.pool.clauses) }
     ensures periods { IfOk result (λ c. length book.now.codes + length c.periods.items < c.vars) }
     ensures usages { IfOk result (λ c. AreUsages book.now c.pool.clauses c.vars c.usages.items) }
+    ensures counted { IfOk result (λ c. length c.usages.items ≡ length book.now.variants) }
 {
     let periods = periods_of(alloc, book)?;
     let mut encoder = begin(alloc, book, &periods)?;

@@ -1,8 +1,8 @@
 -- A kernel that derived further clauses, and what a clause of one literal says.
-use Rattle.std.proofs.Common.{◌≡◌, ℕ, suc, ◌≤◌, ◌<◌, Bool, false, List, [], ◌∷◌, ◌++◌, Some, Result, Ok, Err, length, take, get_or, eqb, refl, sym, ap, subst, ◌∙◌, arith, inl, inr, append_assoc}
+use Rattle.std.proofs.Common.{◌≡◌, ℕ, suc, ◌≤◌, ◌<◌, false, List, [], ◌∷◌, ◌++◌, Some, Result, Ok, Err, length, take, get_or, eqb, refl, sym, ap, subst, ◌∙◌, arith, inl, inr, append_assoc}
 use Rattle.std.specs.Result.{IfOk}
 use Rattle.std.proofs.lemmas.Bool.{or_cases, eqb-true, false≢true}
-use Rattle.std.proofs.lemmas.List.{take-append-le}
+use Rattle.std.proofs.lemmas.List.{append-nil, take-append-le}
 use Rattle.std.proofs.lemmas.Option.{slice_get-get_or}
 use Rattle.clause_pool.specs.Literal.{complement}
 use Rattle.clause_pool.specs.Clause.{KeepsBounds}
@@ -10,15 +10,11 @@ use Rattle.clause_pool.specs.Chain.{chain}
 use Rattle.clause_pool.specs.Derivation.{Derivation, grown, placed}
 use Rattle.clause_pool.specs.declared.chain.Pair.{Pair}
 use Rattle.clause_pool.specs.declared.chain.StepFault.{StepFault}
-use Rattle.chains.specs.Growth.{Extends, Grows, ClosedBy, Refutes}
-
-append_nothing : (xs : List (List ℕ)) → xs ≡ xs ++ []
-append_nothing [] = refl
-append_nothing (x ∷ xs) = ap (λ (ys : List (List ℕ)). x ∷ ys) (append_nothing xs)
+use Rattle.chains.specs.Growth.{Extends, Grows, ClosedAt, Refutes}
 
 -- nothing was derived
 pub extends_same : (k : Derivation) → Extends k k
-extends_same k = record { same_number = refl; same_given = refl; more = []; clauses = append_nothing k.clauses }
+extends_same k = record { same_number = refl; same_given = refl; more = []; clauses = sym (append-nil k.clauses) }
 
 -- further clauses, and further ones
 pub extends_twice : (a b c : Derivation) → Extends a b → Extends b c → Extends a c
@@ -68,9 +64,10 @@ refutes_unit g (x ∷ []) one first = λ l is_in. elim (or_cases (eqb x l) false
 refutes_unit g (x ∷ y ∷ c) one first = let many : suc (suc (length c)) ≡ 1 = one in absurd (omega arith)
 
 -- a clause of the complement of a goal alone refutes it
-pub closed_by_unit : (k : Derivation) (g at : ℕ) (c : List ℕ) → at < length k.clauses → c ≡ get_or k.clauses at [] → length c ≡ 1 → get_or c 0 0 ≡ complement g → ClosedBy k g at
-closed_by_unit k g at c within is one first = record {
+pub closed_by_unit : (clauses : List (List ℕ)) (g at : ℕ) (c : List ℕ) → at < length clauses → c ≡ get_or clauses at [] → length c ≡ 1 → get_or c 0 0 ≡ complement g
+    → ClosedAt clauses g at
+closed_by_unit clauses g at c within is one first = record {
   clause = c;
-  there = slice_get-get_or k.clauses at [] within ∙ ap (λ (x : List ℕ). Some x) (sym is);
+  there = slice_get-get_or clauses at [] within ∙ ap (λ (x : List ℕ). Some x) (sym is);
   refutes = refutes_unit g c one first;
 }

@@ -6,7 +6,7 @@
 --     IsDerivedBy old new start pairs c place
 --                                a chain's resolvent was derived, if there is one, and stands at a place
 --     Refutes g c                a clause has no literal but the complement of g
---     ClosedBy k g at            the clause of a kernel at this place refutes g
+--     ClosedAt clauses g at      the clause at this place refutes g
 use Rattle.std.specs.Prelude.{◌≡◌, ℕ, true, List, [], ◌∷◌, ◌++◌, Option, Some, None, Result, Ok, Err, length, take, slice_get}
 use Rattle.clause_pool.specs.Literal.{complement}
 use Rattle.clause_pool.specs.Clause.{has, KeepsBounds}
@@ -41,7 +41,7 @@ IsDerivedBy old new start pairs None place = (new ≡ old) × (place ≡ None)
 abbrev pub Refutes : ℕ → List ℕ → Type 0
 Refutes g c = (l : ℕ) → has c l ≡ true → l ≡ complement g
 
-pub record ClosedBy (k : Derivation) (g at : ℕ) : Type 0 where
+pub record ClosedAt (clauses : List (List ℕ)) (g at : ℕ) : Type 0 where
   pub clause : List ℕ
-  pub there : slice_get k.clauses at ≡ Some clause
+  pub there : slice_get clauses at ≡ Some clause
   pub refutes : Refutes g clause

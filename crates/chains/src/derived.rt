@@ -2,7 +2,7 @@
 ghost use Rattle.std.specs.Prelude.{◌≡◌, [], ◌∷◌, IfOk, IfSome, OnErr, Some, slice_get};
 ghost use Rattle.clause_pool.specs.Chain.{chain};
 ghost use Rattle.clause_pool.specs.Literal.{complement};
-ghost use Rattle.chains.specs.Growth.{ClosedBy, Grows, IsDerivedBy, resolvent_of};
+ghost use Rattle.chains.specs.Growth.{ClosedAt, Grows, IsDerivedBy, resolvent_of};
 
 use clause_pool::{Kernel, Lit, Pair, Ref};
 use pb_base::{Fail, Memory};
@@ -29,7 +29,7 @@ pub fn derive(kernel: &mut Kernel, start: Ref, pairs: &[Pair]) -> Result<Option<
 /// The place, if the clause there has the goal's complement and no other literal.
 #[tactic(auto, using(crate::proofs::GrowthLaws::closed_by_unit))]
 pub fn refuting_unit(kernel: &Kernel, goal: Lit, at: Ref) -> Option<Ref>
-    ensures closed { IfSome result (ClosedBy kernel.now goal) }
+    ensures closed { IfSome result (ClosedAt kernel.now.clauses goal) }
     ensures place { IfSome result (λ place. place ≡ at) }
     ensures found { slice_get kernel.now.clauses at ≡ Some (complement goal ∷ []) → result ≡ Some at }
 {

@@ -1,8 +1,8 @@
 -- Sets that agree on the codes of a book meet the same formulas and claims of it, and what speaks of these codes speaks of more.
-use Rattle.std.proofs.Common.{◌≡◌, ℕ, suc, ◌<◌, ◌≤◌, Bool, true, false, not, cond, ltb, nat_le, ◌&&◌, ◌||◌, ◌==◌, List, [], ◌∷◌, ◌++◌, length, take, refl, ap, ◌∙◌, arith}
+use Rattle.std.proofs.Common.{◌≡◌, ℕ, suc, ◌<◌, ◌≤◌, Bool, true, false, not, cond, ltb, nat_le, ◌&&◌, ◌||◌, ◌==◌, List, [], ◌∷◌, ◌++◌, length, refl, ap, ◌∙◌, arith}
 use Rattle.std.specs.List.{filter, list_all}
 use Rattle.std.proofs.lemmas.Bool.{and_parts, and_from, ltb-true, lt-ltb}
-use Rattle.std.proofs.lemmas.List.{get_or-take, get_or_append_left}
+use Rattle.std.proofs.lemmas.List.{get_or_append_left}
 use Rattle.pb_base.specs.Rule.{Rule, code, negation, both, either, always, never, holds, codes_below}
 use Rattle.pb_base.specs.Sets.{has}
 use Rattle.book_model.specs.Good.{present}
@@ -12,9 +12,6 @@ use Rattle.clausify.proofs.ItemLaws.{meets_claim, meets, claim_fits, item_fits, 
 -- both have the same of the first n codes
 abbrev pub Agree : ℕ → List Bool → List Bool → Type 0
 Agree n x z = (i : ℕ) → i < n → has z i ≡ has x i
-
-pub taken_agree : (n : ℕ) (x : List Bool) → Agree n x (take n x)
-taken_agree n x i low = get_or-take n x i false low
 
 pub appended_agree : (x guards : List Bool) → Agree (length x) x (x ++ guards)
 appended_agree x guards i low = get_or_append_left x guards false i low

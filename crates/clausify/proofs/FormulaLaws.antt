@@ -1,6 +1,6 @@
 -- The clauses of a formula hold just where each of its variables is the truth of what it stands for, and its literal is
 -- then the truth of the formula.
-use Rattle.std.proofs.Common.{◌≡◌, ℕ, ◌+◌, ◌<◌, ◌≤◌, Bool, true, not, List, [], ◌∷◌, ◌++◌, length, refl, sym, ap, subst, ◌∙◌, arith, length-append}
+use Rattle.std.proofs.Common.{◌≡◌, ℕ, ◌+◌, ◌<◌, Bool, true, not, List, [], ◌∷◌, ◌++◌, length, refl, sym, ap, subst, ◌∙◌, arith, length-append}
 use Rattle.std.proofs.lemmas.Bool.{and_parts, ltb-true}
 use Rattle.pb_base.specs.Rule.{Rule, code, negation, both, either, always, never, holds, codes_below}
 use Rattle.pb_base.specs.Sets.{has}
@@ -29,10 +29,6 @@ Names a x v (f ∷ fs) = (a v ≡ holds f x) × Names a x (v + 1) fs
 pub record Begins (m n : ℕ) (x : List Bool) (a : ℕ → Bool) : Type 0 where
   pub codes : (i : ℕ) → i < m → a i ≡ has x i
   pub truth : a n ≡ true
-
--- the same of fewer codes
-pub begins_fewer : (k m n : ℕ) (x : List Bool) (a : ℕ → Bool) → k ≤ m → Begins m n x a → Begins k n x a
-begins_fewer k m n x a fewer b = record { codes = λ i below. b.codes i (omega arith); truth = b.truth }
 
 pub length-named_in : (f : Rule) → length (named_in f) ≡ connectives f
 length-named_in (code place) = refl

@@ -1,12 +1,10 @@
 -- Gates over clauses that grow: those that stand stay, and a new one stands where its clauses were put.
-use Rattle.std.proofs.Common.{inl, inr, ◌≡◌, ◌⊎◌, ℕ, zero, suc, ◌+◌, ◌-◌, ◌≤◌, List, [], ◌∷◌, ◌++◌, Some, None, length, take, drop, min, ltb, refl, sym, ap, subst, ◌∙◌, arith, length-drop}
+use Rattle.std.proofs.Common.{inl, inr, ◌≡◌, ◌⊎◌, ℕ, zero, suc, ◌+◌, ◌≤◌, List, [], ◌∷◌, ◌++◌, Some, length, take, drop, min, refl, sym, ap, subst, ◌∙◌, arith, length-drop}
 use Rattle.std.specs.List.{slice_get}
 use Rattle.std.proofs.lemmas.List.{take-append-le, drop-append-le, length-take}
-use Rattle.std.proofs.lemmas.Bool.{cond-true, cond-false, lt-ltb, le-ltb, cases_lt}
-use Rattle.std.proofs.lemmas.Option.{none-some}
 use Rattle.std.proofs.Math.Seq.{drop-append_seam}
 use Rattle.clausify.specs.Joints.{joint_clauses}
-use Rattle.clausify.specs.Layout.{IsGate, AreGates, gate_at}
+use Rattle.clausify.specs.Layout.{IsGate, AreGates}
 use Rattle.clausify.specs.declared.joint.Joint.{Joint}
 use Rattle.clausify.specs.declared.joint.Joint.TheVariants.{All, Any}
 use Rattle.clausify.specs.declared.layout.Gate.{Gate}
@@ -59,15 +57,3 @@ gates_pushed clauses gates more g first items h new = λ k e there.
       | inl old ↦ h k e old
       | inr last ↦ subst (λ (j : ℕ). IsGate clauses (gates.first + j) e) (sym last.0) (subst (IsGate clauses (gates.first + length gates.list.items)) last.1 new)
     ])
-
--- the gate of a variable stands for it
-pub gate_of_variable : (clauses : List (List ℕ)) (gates : Gates) (v : ℕ) (g : Gate) → AreGates clauses gates → gate_at gates v ≡ Some g → IsGate clauses v g
-gate_of_variable clauses gates v g h is =
-    elim (cases_lt v gates.first) [
-      | inl below ↦ absurd (none-some g (sym (cond-true (ltb v gates.first) None (slice_get gates.list.items (v - gates.first)) (lt-ltb v gates.first below)) ∙ is))
-      | inr above ↦
-          let there : slice_get gates.list.items (v - gates.first) ≡ Some g =
-          sym (cond-false (ltb v gates.first) None (slice_get gates.list.items (v - gates.first)) (le-ltb v gates.first above)) ∙ is in
-          let at : gates.first + (v - gates.first) ≡ v = omega arith in
-          subst (λ (w : ℕ). IsGate clauses w g) at (h (v - gates.first) g there)
-    ]

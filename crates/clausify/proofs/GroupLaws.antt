@@ -1,13 +1,13 @@
 -- The clauses of a group hold just where at most one of its codes is present, and the first of them just where some is.
-use Rattle.std.proofs.Common.{inl, inr, ◌≡◌, ℕ, ◌+◌, ◌<◌, ◌≤◌, Bool, true, false, not, ◌||◌, eqb, leb, ltb, List, [], ◌∷◌, length, map, refl, sym, ap, ◌∙◌, arith}
+use Rattle.std.proofs.Common.{inl, inr, ◌≡◌, ℕ, ◌+◌, ◌<◌, ◌≤◌, Bool, None, true, false, not, ◌||◌, eqb, leb, ltb, List, [], ◌∷◌, length, map, refl, sym, ap, ◌∙◌, arith}
 use Rattle.std.specs.List.{list_any, list_all, filter, AllByRecursion}
 use Rattle.std.proofs.lemmas.Bool.{and_parts, and_from, cases_Bool, cond-true, cond-false, ltb-true, lt-ltb, eqb-true, eq-eqb, le-leb, leb-true, true≢false, false≢true}
 use Rattle.pb_base.specs.Sets.{has}
 use Rattle.book_model.specs.Good.{present}
 use Rattle.clause_pool.specs.Literal.{literal, is_true}
-use Rattle.clause_pool.specs.Clause.{clause_true, Sat}
+use Rattle.clause_pool.specs.Clause.{clause_of, clause_true, Sat}
 use Rattle.clause_pool.proofs.ClauseLaws.{clause_true-clause_of}
-use Rattle.clausify.specs.Items.{any_clause, apart_clause, apart_clauses}
+use Rattle.clausify.specs.Items.{any_literals, apart_literals, clause_where}
 use Rattle.clausify.specs.Pairs.{pairs}
 use Rattle.clausify.proofs.ListLaws.{all-append, all_first, all_last, all-map, all_mapped}
 use Rattle.clausify.proofs.Truth.{true_positive, true_negative, two_true}
@@ -57,23 +57,23 @@ present_some x (code ∷ group) h =
 
 module _ {m : ℕ} (n : ℕ) (x : List Bool) (a : ℕ → Bool) (b : Begins m n x a) where
   -- both clauses, by what the set has
-  apart_true : (k l : ℕ) → k < m → l < m → clause_true a (apart_clause (k, l)) ≡ (not (has x k) || (not (has x l) || false))
+  apart_true : (k l : ℕ) → k < m → l < m → clause_true a (clause_of (apart_literals (k, l))) ≡ (not (has x k) || (not (has x l) || false))
   apart_true k l hk hl =
       two_true a (literal k false) (literal l false) (not (has x k)) (not (has x l))
       (true_negative a k ∙ ap not (b.codes k hk)) (true_negative a l ∙ ap not (b.codes l hl))
 
-  any_true : (group : List ℕ) → AreCodes m group → list_any (is_true a) (map (λ code. literal code true) group) ≡ list_any (has x) group
+  any_true : (group : List ℕ) → AreCodes m group → list_any (is_true a) (any_literals group) ≡ list_any (has x) group
   any_true [] h = refl
   any_true (code ∷ group) h =
-      ap (λ t. t || list_any (is_true a) (map (λ k. literal k true) group)) (true_positive a code ∙ b.codes code h.0)
+      ap (λ t. t || list_any (is_true a) (any_literals group)) (true_positive a code ∙ b.codes code h.0)
       ∙ ap (λ t. has x code || t) (any_true group h.1)
 
-  any_clause_true : (group : List ℕ) → AreCodes m group → clause_true a (any_clause group) ≡ list_any (has x) group
-  any_clause_true group h = clause_true-clause_of a (map (λ code. literal code true) group) ∙ any_true group h
+  any_clause_true : (group : List ℕ) → AreCodes m group → clause_true a (clause_of (any_literals group)) ≡ list_any (has x) group
+  any_clause_true group h = clause_true-clause_of a (any_literals group) ∙ any_true group h
 
   -- the code is apart from each of these
   abbrev IsApart : ℕ → List ℕ → Type 0
-  IsApart code group = AllByRecursion (λ (p : ℕ × ℕ). clause_true a (apart_clause p) ≡ true) (map (λ k. (code, k)) group)
+  IsApart code group = AllByRecursion (λ (p : ℕ × ℕ). clause_true a (clause_of (apart_literals p)) ≡ true) (map (λ k. (code, k)) group)
 
   absent_apart : (code : ℕ) (group : List ℕ) → code < m → AreCodes m group → has x code ≡ false → IsApart code group
   absent_apart code [] hc hg e = tt
@@ -101,7 +101,7 @@ module _ {m : ℕ} (n : ℕ) (x : List Bool) (a : ℕ → Bool) (b : Begins m n 
       ]
 
   abbrev AreApart : List ℕ → Type 0
-  AreApart group = AllByRecursion (λ (p : ℕ × ℕ). clause_true a (apart_clause p) ≡ true) (pairs group)
+  AreApart group = AllByRecursion (λ (p : ℕ × ℕ). clause_true a (clause_of (apart_literals p)) ≡ true) (pairs group)
 
   apart_from_few : (group : List ℕ) → AreCodes m group → present x group ≤ 1 → AreApart group
   apart_from_few [] h few = tt
@@ -125,21 +125,28 @@ module _ {m : ℕ} (n : ℕ) (x : List Bool) (a : ℕ → Bool) (b : Begins m n 
         | inr gone ↦ omega (arith, present_without x code group gone)
       ]
 
-  -- at most one is present
-  pub sat_from_few : (group : List ℕ) → AreCodes m group → leb (present x group) 1 ≡ true → Sat (apart_clauses group) a
-  sat_from_few group h few = all-map _ apart_clause (pairs group) (apart_from_few group h (leb-true (present x group) 1 few))
+  abbrev ApartClauses : List ℕ → Type 0
+  ApartClauses group = Sat (map (clause_where None) (map apart_literals (pairs group))) a
 
-  pub few_from_sat : (group : List ℕ) → AreCodes m group → Sat (apart_clauses group) a → leb (present x group) 1 ≡ true
-  few_from_sat group h s = le-leb (present x group) 1 (few_from_apart group h (all_mapped _ apart_clause (pairs group) s))
+  clauses_apart : (group : List ℕ) → ApartClauses group → AreApart group
+  clauses_apart group s = all_mapped _ apart_literals (pairs group) (all_mapped _ (clause_where None) (map apart_literals (pairs group)) s)
+
+  -- at most one is present
+  pub sat_from_few : (group : List ℕ) → AreCodes m group → leb (present x group) 1 ≡ true → ApartClauses group
+  sat_from_few group h few =
+      all-map _ (clause_where None) (map apart_literals (pairs group)) (all-map _ apart_literals (pairs group) (apart_from_few group h (leb-true (present x group) 1 few)))
+
+  pub few_from_sat : (group : List ℕ) → AreCodes m group → ApartClauses group → leb (present x group) 1 ≡ true
+  few_from_sat group h s = le-leb (present x group) 1 (few_from_apart group h (clauses_apart group s))
 
   -- exactly one is
-  pub sat_from_one : (group : List ℕ) → AreCodes m group → eqb (present x group) 1 ≡ true → Sat (any_clause group ∷ apart_clauses group) a
+  pub sat_from_one : (group : List ℕ) → AreCodes m group → eqb (present x group) 1 ≡ true → (clause_true a (clause_of (any_literals group)) ≡ true) × ApartClauses group
   sat_from_one group h one =
       let count : present x group ≡ 1 = eqb-true (present x group) 1 one in
       (any_clause_true group h ∙ some_present x group (omega arith), sat_from_few group h (le-leb (present x group) 1 (omega arith)))
 
-  pub one_from_sat : (group : List ℕ) → AreCodes m group → Sat (any_clause group ∷ apart_clauses group) a → eqb (present x group) 1 ≡ true
+  pub one_from_sat : (group : List ℕ) → AreCodes m group → (clause_true a (clause_of (any_literals group)) ≡ true) × ApartClauses group → eqb (present x group) 1 ≡ true
   one_from_sat group h s =
-      let few : present x group ≤ 1 = few_from_apart group h (all_mapped _ apart_clause (pairs group) s.1) in
+      let few : present x group ≤ 1 = few_from_apart group h (clauses_apart group s.1) in
       let some : 1 ≤ present x group = present_some x group (sym (any_clause_true group h) ∙ s.0) in
       eq-eqb (present x group) 1 (omega arith)

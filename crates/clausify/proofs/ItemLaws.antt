@@ -1,12 +1,13 @@
 -- The clauses of the formulas of a slice hold just where the variables are the truth of what they stand for and each claim is
 -- met, and all claims are met just by the good sets.
-use Rattle.std.proofs.Common.{inl, inr, append_assoc, ◌≡◌, ℕ, ◌+◌, ◌<◌, Bool, true, false, not, ◌&&◌, ◌||◌, ◌==◌, eqb, ltb, nat_le, List, [], ◌∷◌, ◌++◌, Option, None, Some, length, map, refl, sym, ap, subst, ◌∙◌, arith, length-append}
+use Rattle.std.proofs.Common.{inl, inr, append_assoc, ◌≡◌, ℕ, ◌+◌, ◌<◌, ◌≤◌, Bool, true, false, not, ◌&&◌, ◌||◌, ◌==◌, eqb, ltb, nat_le, List, [], ◌∷◌, ◌++◌, Option, None, Some, length, map, refl, sym, ap, subst, ◌∙◌, arith, length-append}
 use Rattle.std.specs.List.{list_any, list_all, filter, All, AllByRecursion}
 use Rattle.std.specs.Option.{IfSome}
 use Rattle.std.proofs.lemmas.List.Elements.{recursion_from_All}
 use Rattle.std.proofs.lemmas.Bool.{and_parts, and_from, and_left, and_right, or_from, or_parts, cases_Bool, cond-true, cond-false, ltb-true, lt-ltb, eq-eqb, eqb-true, not_from_false, not-true}
 use Rattle.pb_base.specs.Rule.{Rule, holds, codes_below}
 use Rattle.pb_base.specs.Sets.{has}
+use Rattle.pb_base.specs.declared.limits.TheConstants.{MOST_GROUP_CODES}
 use Rattle.book_model.specs.Activity.{is_within}
 use Rattle.book_model.specs.Contents.{Contents}
 use Rattle.book_model.specs.Good.{fires, breaks, is_met, present, is_constructible, is_good}
@@ -19,7 +20,7 @@ use Rattle.clause_pool.specs.Literal.{literal, complement, is_true}
 use Rattle.clause_pool.specs.Clause.{Sat}
 use Rattle.clause_pool.proofs.LiteralLaws.{is_true-complement}
 use Rattle.clausify.specs.Formulas.{connectives, formula_literal, literals_from, formula_clauses}
-use Rattle.clausify.specs.Items.{Claim, adds, needed_by, needed, one_of, most_of, free, Item, claim_clauses, variables_of, item_clauses, free_item, claim_on, supplement_item, demand_item, construct_item, supplement_items, construct_items, rule_items}
+use Rattle.clausify.specs.Items.{Claim, adds, needed_by, needed, one_of, most_of, free, Item, claim_clauses, variables_of, item_clauses, free_item, claim_on, group_size, supplement_item, demand_item, construct_item, supplement_items, construct_items, rule_items}
 use Rattle.clausify.proofs.GroupLaws.{all_below, below_all, sat_from_one, one_from_sat, sat_from_few, few_from_sat}
 use Rattle.clausify.proofs.ListLaws.{all-append, all_first, all_last}
 use Rattle.clausify.proofs.Truth.{true_positive, true_negative, one_true, two_true}
@@ -48,7 +49,7 @@ claim_fits n free = true
 abbrev pub item_fits : ℕ → Item → Bool
 item_fits n i = codes_below n i.rule && claim_fits n i.claim
 
-or_nothing : (p : Bool) → (p || false) ≡ p
+pub or_nothing : (p : Bool) → (p || false) ≡ p
 or_nothing true = refl
 or_nothing false = refl
 
@@ -287,3 +288,9 @@ rule_items_fit b day hs hc = all-append _ (supplement_items b day) (construct_it
 
 pub variables_more : (is js : List Item) → variables_of (is ++ js) ≡ variables_of is + variables_of js
 variables_more is js = variables_of-append is js
+
+-- a demand of a book has no more codes than its limit
+pub group_small : (n : ℕ) (d : Demand) → DemandFits n d → group_size d ≤ MOST_GROUP_CODES
+group_small n (demand.Rule on rule) h = omega arith
+group_small n (demand.One group) h = h.most
+group_small n (demand.Most group) h = h.most

@@ -4,6 +4,7 @@ pub mod FormulaLaws
 pub mod NodeLaws
 pub mod GroupLaws
 pub mod ItemLaws
+pub mod EachLaws
 pub mod GoalLaws
 pub mod LiftLaws
 pub mod SliceLaws
@@ -16,7 +17,6 @@ pub mod CodedLaws
 pub mod QuestionLaws
 pub mod RangeLaws
 pub mod MeetLaws
-pub mod MoveLaws
 pub mod AgreeLaws
 mod WorkedSlice
 mod WorkedGroups

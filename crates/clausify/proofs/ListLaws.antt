@@ -1,8 +1,13 @@
 -- What holds of each element of a list holds of each of lists that are made of it.
-use Rattle.std.proofs.Common.{Bool, List, [], ◌∷◌, ◌++◌, map, inl, inr, sym, subst}
-use Rattle.std.specs.List.{filter, flat_map, AllByRecursion}
+use Rattle.std.proofs.Common.{ℕ, Bool, List, [], ◌∷◌, ◌++◌, map, inl, inr, sym, ap, subst, ◌∙◌, append_assoc}
+use Rattle.std.specs.List.{filter, AllByRecursion}
 use Rattle.std.proofs.lemmas.Bool.{cases_Bool, cond-true, cond-false}
+use Rattle.clausify.specs.Joints.{GrowsBy}
 use Rattle.clausify.specs.Pairs.{pairs}
+
+-- clauses that grow twice
+pub grows_twice : (a b c : List (List ℕ)) → GrowsBy a b → GrowsBy b c → GrowsBy a c
+grows_twice a b c f s = record { more = f.more ++ s.more; is = s.is ∙ ap (λ (cs : List (List ℕ)). cs ++ s.more) f.is ∙ append_assoc a f.more s.more }
 
 module _ {X : Type 0} where
   pub all-append : (P : X → Type 0) (xs ys : List X) → AllByRecursion P xs → AllByRecursion P ys → AllByRecursion P (xs ++ ys)
@@ -37,10 +42,6 @@ module _ {X Y : Type 0} where
   pub all-map : (P : Y → Type 0) (f : X → Y) (xs : List X) → AllByRecursion (λ x. P (f x)) xs → AllByRecursion P (map f xs)
   all-map P f [] h = tt
   all-map P f (x ∷ xs) h = (h.0, all-map P f xs h.1)
-
-  pub all-flat_map : (P : Y → Type 0) (f : X → List Y) (xs : List X) → AllByRecursion (λ x. AllByRecursion P (f x)) xs → AllByRecursion P (flat_map f xs)
-  all-flat_map P f [] h = tt
-  all-flat_map P f (x ∷ xs) h = all-append P (f x) (flat_map f xs) h.0 (all-flat_map P f xs h.1)
 
 module _ {X : Type 0} where
   pub all_with : (P : X → Type 0) (x : X) (xs : List X) → P x → AllByRecursion P xs → AllByRecursion (λ (p : X × X). P p.0 × P p.1) (map (λ (y : X). (x, y)) xs)

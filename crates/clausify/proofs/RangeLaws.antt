@@ -1,19 +1,20 @@
 -- The literals of a slice's clauses and goals are of its variables, and its questions name records of the book.
-use Rattle.std.proofs.Common.{inl, inr, ◌≡◌, ℕ, suc, ◌+◌, ◌-◌, ◌*◌, ◌<◌, ◌≤◌, Bool, true, false, eqb, List, [], ◌∷◌, ◌++◌, length, map, drop, sym, ap, subst, arith}
+use Rattle.std.proofs.Common.{inl, inr, ◌≡◌, ℕ, suc, ◌+◌, ◌-◌, ◌*◌, ◌<◌, ◌≤◌, Bool, true, false, eqb, Option, None, List, [], ◌∷◌, ◌++◌, length, map, drop, sym, ap, subst, arith}
 use Rattle.std.specs.List.{flat_map, AllByRecursion, slice_get}
-use Rattle.std.proofs.lemmas.Bool.{and_parts, ltb-true, cases_Bool, cond-true, cond-false}
-use Rattle.pb_base.specs.Rule.{Rule, code, negation, both, either, always, never, codes_below}
+use Rattle.std.specs.Option.{IfSome}
+use Rattle.std.proofs.lemmas.Bool.{and_parts, cases_Bool, cond-true, cond-false}
+use Rattle.pb_base.specs.Rule.{Rule, codes_below}
 use Rattle.book_model.specs.Contents.{Contents}
 use Rattle.book_model.specs.Book.{IsBook}
 use Rattle.book_model.specs.Parts.{variants_from, variants_of, is_active_position}
 use Rattle.book_model.specs.declared.record.Position.{Position}
 use Rattle.book_model.specs.declared.record.Variant.{Variant}
 use Rattle.clause_pool.specs.Literal.{literal, complement}
-use Rattle.clause_pool.specs.Clause.{IsBelow, AreBelow}
-use Rattle.clause_pool.proofs.LiteralLaws.{even_or_odd, complement-even, complement-odd}
+use Rattle.clause_pool.specs.Clause.{AreBelow}
+use Rattle.clause_pool.proofs.LiteralLaws.{complement-below}
 use Rattle.clause_pool.proofs.ClauseLaws.{IsBelow-clause_of}
 use Rattle.clausify.specs.Formulas.{connectives, formula_literal, formula_clauses, both_clauses, either_clauses}
-use Rattle.clausify.specs.Items.{Claim, adds, needed_by, needed, one_of, most_of, free, Item, any_clause, apart_clause, apart_clauses, claim_clauses, variables_of, item_clauses, own_clauses, usage_item, rule_items, usage_items, items}
+use Rattle.clausify.specs.Items.{Claim, Item, claim_where, variables_of, item_clauses, own_clauses, usage_item, rule_items, usage_items, items}
 use Rattle.clausify.specs.Choices.{Choice, choices, choices_from, usage, active_variants, is_active_variant}
 use Rattle.clausify.specs.Questions.{QuestionFits, code_questions_from, choice_questions, uncovered_question}
 use Rattle.clausify.specs.Pairs.{pairs}
@@ -25,10 +26,10 @@ use Rattle.clausify.specs.declared.question.Asked.{Asked}
 use Rattle.clausify.specs.declared.question.Coded.{Coded}
 use Rattle.clausify.specs.declared.question.Question.{Question}
 use Rattle.clausify.specs.declared.question.Question.TheVariants.{Superfluous, Ambiguous}
-use Rattle.clausify.proofs.ListLaws.{all-append, all-map, all_mapped, all_pairs, all_filtered, all_weaker}
-use Rattle.clausify.proofs.GroupLaws.{AreCodes, below_all}
+use Rattle.clausify.proofs.ListLaws.{all-append, all-map, all_mapped, all_pairs, all_filtered}
 use Rattle.clausify.proofs.ItemLaws.{AllFit, claim_fits, rule_items_fit, variables_of-append}
 use Rattle.clausify.proofs.GoalLaws.{UsagesFit, usages_fit, all_usage_items_fit}
+use Rattle.clausify.proofs.EachLaws.{Passes, each_both, each_either, literal_passes, formula_passes, claim_passes}
 use Rattle.clausify.proofs.QuestionLaws.{asked_in_order}
 
 pub positive_below : (v m : ℕ) → v < m → literal v true < 2 * m
@@ -38,87 +39,27 @@ pub negative_below : (v m : ℕ) → v < m → literal v false < 2 * m
 negative_below v m h = omega arith
 
 pub complement_below : (l m : ℕ) → l < 2 * m → complement l < 2 * m
-complement_below l m h =
-    elim (even_or_odd l) [
-      | inl e ↦ omega (arith, complement-even l e)
-      | inr o ↦ omega (arith, complement-odd l o)
-    ]
+complement_below l m h = complement-below l m h
+
+pub below_passes : (m : ℕ) → Passes (λ l. l < 2 * m) (λ v. v < m)
+below_passes m = record { on = λ v h. positive_below v m h; off = λ v h. negative_below v m h; flip = λ l h. complement_below l m h }
 
 pub both_below : (m v k l : ℕ) → v < m → k < 2 * m → l < 2 * m → AreBelow (2 * m) (both_clauses v k l)
-both_below m v k l hv hk hl = (
-  IsBelow-clause_of (2 * m) (literal v false ∷ k ∷ []) (negative_below v m hv, (hk, tt)),
-  (
-    IsBelow-clause_of (2 * m) (literal v false ∷ l ∷ []) (negative_below v m hv, (hl, tt)),
-    (
-      IsBelow-clause_of (2 * m) (literal v true ∷ complement k ∷ complement l ∷ [])
-          (positive_below v m hv, (complement_below k m hk, (complement_below l m hl, tt))),
-      tt,
-    ),
-  ),
-)
+both_below m v k l hv hk hl = each_both (below_passes m) v k l hv hk hl
 
 pub either_below : (m v k l : ℕ) → v < m → k < 2 * m → l < 2 * m → AreBelow (2 * m) (either_clauses v k l)
-either_below m v k l hv hk hl = (
-  IsBelow-clause_of (2 * m) (literal v false ∷ k ∷ l ∷ []) (negative_below v m hv, (hk, (hl, tt))),
-  (
-    IsBelow-clause_of (2 * m) (literal v true ∷ complement k ∷ []) (positive_below v m hv, (complement_below k m hk, tt)),
-    (IsBelow-clause_of (2 * m) (literal v true ∷ complement l ∷ []) (positive_below v m hv, (complement_below l m hl, tt)), tt),
-  ),
-)
+either_below m v k l hv hk hl = each_either (below_passes m) v k l hv hk hl
 
 -- a formula over the codes below c, whose variables go from v up to m, where n is always true
 pub literal_below : (c n v m : ℕ) (f : Rule) → codes_below c f ≡ true → c ≤ v → n < v → v + connectives f ≤ m → formula_literal n v f < 2 * m
-literal_below c n v m (code place) fit codes h k = positive_below place m (let below = ltb-true place c fit in omega arith)
-literal_below c n v m (negation f) fit codes h k = complement_below (formula_literal n v f) m (literal_below c n v m f fit codes h k)
-literal_below c n v m (both f g) fit codes h k = positive_below (v + connectives f + connectives g) m (omega arith)
-literal_below c n v m (either f g) fit codes h k = positive_below (v + connectives f + connectives g) m (omega arith)
-literal_below c n v m always fit codes h k = positive_below n m (omega arith)
-literal_below c n v m never fit codes h k = negative_below n m (omega arith)
+literal_below c n v m f fit codes h k = literal_passes (below_passes m) c n (λ i low. omega arith) (omega arith) v f fit (λ j low. omega arith)
 
 pub formula_below : (c n v m : ℕ) (f : Rule) → codes_below c f ≡ true → c ≤ v → n < v → v + connectives f ≤ m → AreBelow (2 * m) (formula_clauses n v f)
-formula_below c n v m (code place) fit codes h k = tt
-formula_below c n v m (negation f) fit codes h k = formula_below c n v m f fit codes h k
-formula_below c n v m (both f g) fit codes h k =
-    let fits = and_parts (codes_below c f) (codes_below c g) fit in
-    all-append _ (formula_clauses n v f ++ formula_clauses n (v + connectives f) g) _
-    (all-append _ (formula_clauses n v f) _ (formula_below c n v m f fits.0 codes h (omega arith)) (formula_below c n (v + connectives f) m g fits.1 (omega arith) (omega arith) (omega arith)))
-    (both_below m (v + connectives f + connectives g) (formula_literal n v f) (formula_literal n (v + connectives f) g) (omega arith)
-    (literal_below c n v m f fits.0 codes h (omega arith)) (literal_below c n (v + connectives f) m g fits.1 (omega arith) (omega arith) (omega arith)))
-formula_below c n v m (either f g) fit codes h k =
-    let fits = and_parts (codes_below c f) (codes_below c g) fit in
-    all-append _ (formula_clauses n v f ++ formula_clauses n (v + connectives f) g) _
-    (all-append _ (formula_clauses n v f) _ (formula_below c n v m f fits.0 codes h (omega arith)) (formula_below c n (v + connectives f) m g fits.1 (omega arith) (omega arith) (omega arith)))
-    (either_below m (v + connectives f + connectives g) (formula_literal n v f) (formula_literal n (v + connectives f) g) (omega arith)
-    (literal_below c n v m f fits.0 codes h (omega arith)) (literal_below c n (v + connectives f) m g fits.1 (omega arith) (omega arith) (omega arith)))
-formula_below c n v m always fit codes h k = tt
-formula_below c n v m never fit codes h k = tt
+formula_below c n v m f fit codes h k = formula_passes (below_passes m) c n (λ i low. omega arith) (omega arith) v f fit (λ j low. omega arith)
 
--- the clauses of a group of codes
-any_below : (c m : ℕ) (group : List ℕ) → AreCodes c group → c ≤ m → IsBelow (2 * m) (any_clause group)
-any_below c m group codes h =
-    IsBelow-clause_of (2 * m) (map (λ code. literal code true) group)
-    (all-map (λ l. l < 2 * m) (λ code. literal code true) group
-    (all_weaker (λ code. code < c) (λ code. literal code true < 2 * m) (λ code below. positive_below code m (omega arith)) group codes))
-
-apart_below : (c m : ℕ) (group : List ℕ) → AreCodes c group → c ≤ m → AreBelow (2 * m) (apart_clauses group)
-apart_below c m group codes h =
-    all-map (IsBelow (2 * m)) apart_clause (pairs group)
-    (all_weaker (λ (p : ℕ × ℕ). (p.0 < c) × (p.1 < c)) (λ p. IsBelow (2 * m) (apart_clause p))
-    (λ p below. IsBelow-clause_of (2 * m) (literal p.0 false ∷ literal p.1 false ∷ [])
-    (negative_below p.0 m (omega (arith, below.0)), (negative_below p.1 m (omega (arith, below.1)), tt)))
-    (pairs group) (all_pairs (λ code. code < c) group codes))
-
-claim_below : (c m l : ℕ) (d : Claim) → claim_fits c d ≡ true → c ≤ m → l < 2 * m → AreBelow (2 * m) (claim_clauses d l)
-claim_below c m l (adds place) fit h k =
-    let below = ltb-true place c fit in
-    (IsBelow-clause_of (2 * m) (complement l ∷ literal place true ∷ []) (complement_below l m k, (positive_below place m (omega arith), tt)), tt)
-claim_below c m l (needed_by place) fit h k =
-    let below = ltb-true place c fit in
-    (IsBelow-clause_of (2 * m) (literal place false ∷ l ∷ []) (negative_below place m (omega arith), (k, tt)), tt)
-claim_below c m l needed fit h k = (IsBelow-clause_of (2 * m) (l ∷ []) (k, tt), tt)
-claim_below c m l (one_of group) fit h k = (any_below c m group (below_all c group fit) h, apart_below c m group (below_all c group fit) h)
-claim_below c m l (most_of group) fit h k = apart_below c m group (below_all c group fit) h
-claim_below c m l free fit h k = tt
+-- the clauses of a claim, where l is the literal of the formula, behind a guard or none
+pub claim_below : (c m l : ℕ) (g : Option ℕ) (d : Claim) → IfSome g (λ k. k < m) → claim_fits c d ≡ true → c ≤ m → l < 2 * m → AreBelow (2 * m) (claim_where g d l)
+claim_below c m l g d low fit h k = claim_passes (below_passes m) c (λ i less. omega arith) l g d low fit k
 
 pub items_below : (c n v m : ℕ) (is : List Item) → AllFit c is → c ≤ v → n < v → v + variables_of is ≤ m → AreBelow (2 * m) (item_clauses n v is)
 items_below c n v m [] fit codes h k = tt
@@ -126,7 +67,7 @@ items_below c n v m (i ∷ is) fit codes h k =
     let fits = and_parts (codes_below c i.rule) (claim_fits c i.claim) fit.0 in
     all-append _ (own_clauses n v i) (item_clauses n (v + connectives i.rule) is)
     (all-append _ (formula_clauses n v i.rule) _ (formula_below c n v m i.rule fits.0 codes h (omega arith))
-    (claim_below c m (formula_literal n v i.rule) i.claim fits.1 (omega arith) (literal_below c n v m i.rule fits.0 codes h (omega arith))))
+    (claim_below c m (formula_literal n v i.rule) None i.claim tt fits.1 (omega arith) (literal_below c n v m i.rule fits.0 codes h (omega arith))))
     (items_below c n (v + connectives i.rule) m is fit.1 (omega arith) (omega arith) (omega arith))
 
 -- the goals of usages whose literals are of variables below m
@@ -222,7 +163,7 @@ codes_asked_below m i (name ∷ names) h =
     (negative_below i m (omega arith), (positive_below i m (omega arith), codes_asked_below m (suc i) names (omega arith)))
 
 -- what the questions name
-codes_fit : (b : Contents) (i : ℕ) (names : List (List ℕ)) → i + length names ≤ length b.codes → AllByRecursion (QuestionFits b) (code_questions_from i names)
+pub codes_fit : (b : Contents) (i : ℕ) (names : List (List ℕ)) → i + length names ≤ length b.codes → AllByRecursion (QuestionFits b) (code_questions_from i names)
 codes_fit b i [] h = tt
 codes_fit b i (name ∷ names) h =
     let here : i < length b.codes = omega arith in (here, (here, codes_fit b (suc i) names (omega arith)))
@@ -255,7 +196,7 @@ variants_below m i place (v ∷ vs) h =
       | inr e ↦ subst (λ (ks : List ℕ). AllByRecursion (λ k. k < m) ks) (sym (cond-false (eqb v.position place) (i ∷ variants_from (suc i) place vs) (variants_from (suc i) place vs) e)) later
     ]
 
-choices_fit : (b : Contents) (day i : ℕ) (ps : List Position) → i + length ps ≤ length b.positions → AllByRecursion (QuestionFits b) (flat_map choice_questions (choices_from i b day ps))
+pub choices_fit : (b : Contents) (day i : ℕ) (ps : List Position) → i + length ps ≤ length b.positions → AllByRecursion (QuestionFits b) (flat_map choice_questions (choices_from i b day ps))
 choices_fit b day i [] h = tt
 choices_fit b day i (p ∷ ps) h =
     let own : Choice = record { position = i; mandatory = p.mandatory; variants = active_variants b day i } in

@@ -31,7 +31,7 @@ active_same day other [] k h = refl
 active_same day other (v ∷ vs) zero h = h.0
 active_same day other (v ∷ vs) (suc k) h = active_same day other vs k h.1
 
-goal_same : (b : Contents) (day other : ℕ) → AreAlike b day other → (q : Question) → goal b day q ≡ goal b other q
+pub goal_same : (b : Contents) (day other : ℕ) → AreAlike b day other → (q : Question) → goal b day q ≡ goal b other q
 goal_same b day other h Void = refl
 goal_same b day other h (Necessary place) = refl
 goal_same b day other h (Inadmissible place) = refl

@@ -1,11 +1,11 @@
 -- The formulas of a slice, in the order in which they are given their literals, and the clauses that follow each. A group
 -- has no formula of its own, and stands with the one that is always true.
 --     items b day                the formulas of the records that are active on the day
---     apart_clauses codes        no two of the codes are present
+--     claim_where g d l          the clauses of a claim, behind a guard or none
 --     item_clauses n v is        their clauses, where v is the first variable that they take
 --     encoded_items n v is       the same behind the clause that variable n is true
 --     variables_of is            how many variables they take
-use Rattle.std.specs.Prelude.{ℕ, ◌+◌, true, false, List, [], ◌∷◌, ◌++◌, Option, None, Some, filter, map}
+use Rattle.std.specs.Prelude.{ℕ, ◌+◌, true, false, List, [], ◌∷◌, ◌++◌, Option, None, Some, filter, length, map}
 use Rattle.std.specs.List.{flat_map}
 use Rattle.pb_base.specs.Rule.{Rule, always}
 use Rattle.book_model.specs.Activity.{is_within}
@@ -33,25 +33,38 @@ pub record Item : Type 0 where
   pub rule : Rule
   pub claim : Claim
 
--- one of the codes is present
-abbrev pub any_clause : List ℕ → List ℕ
-any_clause group = clause_of (map (λ code. literal code true) group)
+-- some code is present, and two are not present together
+abbrev pub any_literals : List ℕ → List ℕ
+any_literals group = map (λ code. literal code true) group
 
--- two codes are not present together
-abbrev pub apart_clause : ℕ × ℕ → List ℕ
-apart_clause p = clause_of (literal p.0 false ∷ literal p.1 false ∷ [])
+abbrev pub apart_literals : ℕ × ℕ → List ℕ
+apart_literals p = literal p.0 false ∷ literal p.1 false ∷ []
 
-abbrev pub apart_clauses : List ℕ → List (List ℕ)
-apart_clauses group = map apart_clause (pairs group)
+-- the literals of each clause of a claim, as they are given, where l is the literal of the formula
+abbrev pub claim_literals : Claim → ℕ → List (List ℕ)
+claim_literals (adds code) l = (complement l ∷ literal code true ∷ []) ∷ []
+claim_literals (needed_by code) l = (literal code false ∷ l ∷ []) ∷ []
+claim_literals needed l = (l ∷ []) ∷ []
+claim_literals (one_of group) l = any_literals group ∷ map apart_literals (pairs group)
+claim_literals (most_of group) l = map apart_literals (pairs group)
+claim_literals free l = []
 
--- the clauses of a claim, where l is the literal of the formula
+-- a clause that holds where the guard is true, or always where there is none
+abbrev pub clause_where : Option ℕ → List ℕ → List ℕ
+clause_where None lits = clause_of lits
+clause_where (Some g) lits = clause_of (literal g false ∷ lits)
+
+abbrev pub claim_where : Option ℕ → Claim → ℕ → List (List ℕ)
+claim_where g d l = map (clause_where g) (claim_literals d l)
+
 abbrev pub claim_clauses : Claim → ℕ → List (List ℕ)
-claim_clauses (adds code) l = clause_of (complement l ∷ literal code true ∷ []) ∷ []
-claim_clauses (needed_by code) l = clause_of (literal code false ∷ l ∷ []) ∷ []
-claim_clauses needed l = clause_of (l ∷ []) ∷ []
-claim_clauses (one_of group) l = any_clause group ∷ apart_clauses group
-claim_clauses (most_of group) l = apart_clauses group
-claim_clauses free l = []
+claim_clauses d l = claim_where None d l
+
+-- how many codes a group has
+abbrev pub group_size : Demand → ℕ
+group_size (demand.Rule on rule) = 0
+group_size (demand.One group) = length group
+group_size (demand.Most group) = length group
 
 abbrev pub variables_of : List Item → ℕ
 variables_of [] = 0

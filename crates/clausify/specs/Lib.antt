@@ -7,7 +7,6 @@ pub mod Questions
 pub mod Goals
 pub mod Coded
 pub mod Layout
-pub mod Moves
 pub mod Lifting
 pub mod Encoding
 pub mod Limit

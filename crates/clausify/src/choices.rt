@@ -13,8 +13,8 @@ use book_model::{Book, active};
 use pb_base::{Day, Formula, Memory};
 use std::alloc::Global;
 
-// Whether the variant at this place is active.
-fn is_active(book: &Book, day: Day, variant: u32) -> bool
+/// Whether the variant at this place is active.
+pub fn is_active(book: &Book, day: Day, variant: u32) -> bool
     requires { variant < length book.now.variants }
     ensures { result ≡ is_active_variant book.now day variant }
 {
@@ -22,8 +22,8 @@ fn is_active(book: &Book, day: Day, variant: u32) -> bool
     active(variant.from, variant.until, day)
 }
 
-// The formula of the variant at this place.
-fn usage(book: &Book, variant: u32) -> &Formula
+/// The formula of the variant at this place.
+pub fn usage_of(book: &Book, variant: u32) -> &Formula
     requires { variant < length book.now.variants }
     ensures { result.now ≡ usage book.now variant }
 {
@@ -67,7 +67,7 @@ pub(crate) fn add_usages(
     for variant in book.variants_of(position) {
         if is_active(book, day, *variant) {
             starts.push(encoder.start())?;
-            let literal = encoder.literal(usage(book, *variant))?;
+            let literal = encoder.literal(usage_of(book, *variant))?;
             usages.push(Usage {
                 variant: *variant,
                 literal,

@@ -15,13 +15,14 @@ mod parts;
 mod question;
 mod usage;
 
-pub use choices::usages_of;
+pub use choices::{is_active, usage_of, usages_of};
 pub use coding::{LaidSlice, clauses_of, coded_slice, laid_slice};
 pub use counting::question_count;
 pub use encoder::{Encoded, Encoder};
+pub use group::{add_any, add_apart};
 pub use items::{add_constructs, add_rules};
 pub use joint::{Joint, tie};
-pub use laws::{chain_laws, core_laws, layout_laws};
+pub use laws::core_laws;
 pub use layout::{Gate, Gates, Layout, Start};
 pub use question::{Asked, Coded, Question};
 pub use usage::Usage;

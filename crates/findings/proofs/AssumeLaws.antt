@@ -1,12 +1,9 @@
 -- What questions assume.
-use Rattle.std.proofs.Common.{inl, inr, ◌≡◌, ℕ, ◌+◌, ◌*◌, ◌<◌, Bool, true, false, not, ◌&&◌, ◌||◌, eqb, List, [], ◌∷◌, ◌++◌, Option, Some, None, length, get_or, take, refl, sym, ap, subst, ◌∙◌, arith}
-use Rattle.std.specs.List.{list_any, slice_get}
-use Rattle.std.proofs.lemmas.Bool.{cases_eq, or_cases, or_parts, or_left, or_right, eq-eqb, eqb-true, false≢true, true≢false}
-use Rattle.std.proofs.lemmas.List.{take_more, length-set, length-replicate, get_or-replicate, get_or-set_same, get_or-set_other}
-use Rattle.std.proofs.Math.ListN.{replicate}
-use Rattle.std.specs.List.{slice_set}
-use Rattle.std.specs.Option.{IfSome}
-use Rattle.std.proofs.lemmas.Option.{none-some, same_Some, slice_get-get_or, slice_get_within, get_or_from_slice_get}
+use Rattle.std.proofs.Common.{inl, inr, ◌≡◌, ℕ, ◌+◌, ◌*◌, ◌<◌, Bool, true, false, not, ◌&&◌, ◌||◌, eqb, List, [], ◌∷◌, ◌++◌, Some, length, get_or, take, refl, sym, ap, subst, ◌∙◌, arith}
+use Rattle.std.specs.List.{list_any}
+use Rattle.std.proofs.lemmas.Bool.{or_cases, or_parts, or_left, or_right, eq-eqb, eqb-true, false≢true, true≢false}
+use Rattle.std.proofs.lemmas.List.{take_more}
+use Rattle.std.proofs.lemmas.Option.{slice_get-get_or}
 use Rattle.std.proofs.lemmas.List.Folds.{list_any-append, list_all-append}
 use Rattle.pb_base.specs.Rule.{holds}
 use Rattle.book_model.specs.Contents.{Contents}
@@ -18,6 +15,7 @@ use Rattle.clause_pool.proofs.LiteralLaws.{is_true-complement}
 use Rattle.clause_pool.proofs.ClauseLaws.{has-append}
 use Rattle.clausify.specs.Choices.{usage, is_active_variant, active_variants}
 use Rattle.clausify.specs.declared.question.Question.TheVariants.{Necessary, Inadmissible, Superfluous, Ambiguous, Uncovered}
+use Rattle.clausify.proofs.ItemLaws.{or_nothing}
 use Rattle.clausify.proofs.RangeLaws.{positive_below, negative_below, complement_below}
 use Rattle.clausify.proofs.Truth.{true_positive, true_negative}
 use Rattle.propagate.specs.Trail.{AreBelow}
@@ -79,10 +77,6 @@ assumes_uncovered b cs vars day position ls h = record {
 abbrev is_used : Contents → ℕ → List Bool → ℕ → Bool
 is_used b day x v = is_active_variant b day v && holds (usage b v) x
 
-or_false : (t : Bool) → (t || false) ≡ t
-or_false true = refl
-or_false false = refl
-
 none_of_both : (t u : Bool) → (not t && (not u && true)) ≡ not (t || ((true && u) || false))
 none_of_both true u = refl
 none_of_both false true = refl
@@ -99,7 +93,7 @@ none_passed b cs vars day v vs ls inactive h = record {
       h.right x a len begins sat
       ∙ ap not (sym (list_any-append (is_used b day x) vs (v ∷ [])
       ∙ ap (λ (t : Bool). list_any (is_used b day x) vs || ((t && holds (usage b v) x) || false)) inactive
-      ∙ or_false (list_any (is_used b day x) vs)));
+      ∙ or_nothing (list_any (is_used b day x) vs)));
 }
 
 more_below : (ls : List ℕ) (c n : ℕ) → AreBelow ls n → c < n → AreBelow (ls ++ c ∷ []) n

@@ -1,7 +1,7 @@
 -- What the clauses of a book say of the sets that are good on the days of a slice, and what an answer over them says of a question.
-use Rattle.std.proofs.Common.{inl, inr, ◌≡◌, ℕ, zero, suc, ◌+◌, ◌-◌, ◌*◌, ◌<◌, ◌≤◌, Bool, true, false, not, cond, eqb, List, [], ◌∷◌, ◌++◌, Option, Some, length, map, append-nil, refl, sym, ap, subst, ◌∙◌, arith}
+use Rattle.std.proofs.Common.{inl, inr, ◌≡◌, ℕ, zero, suc, ◌+◌, ◌-◌, ◌*◌, ◌<◌, ◌≤◌, Bool, true, false, not, eqb, List, [], ◌∷◌, ◌++◌, Option, length, append-nil, refl, sym, ap, subst, ◌∙◌, arith}
 use Rattle.std.specs.Prelude.{◌==◌, IsTrue}
-use Rattle.std.specs.List.{filter, slice_get, AllByRecursion}
+use Rattle.std.specs.List.{slice_get}
 use Rattle.std.specs.Option.{option_map_or}
 use Rattle.std.proofs.lemmas.Bool.{and_from, and_parts, cases_Bool, or_cases, or_left, or_right, eq-eqb, eqb-true, false≢true, true≢false, le-leb}
 use Rattle.std.proofs.lemmas.List.{take_all}
@@ -12,11 +12,9 @@ use Rattle.pb_base.specs.Rule.{Rule, holds}
 use Rattle.book_model.specs.Activity.{is_within}
 use Rattle.book_model.specs.Contents.{Contents}
 use Rattle.book_model.specs.Good.{is_good}
-use Rattle.book_model.specs.Parts.{variants_of}
-use Rattle.book_model.specs.Slices.{AreAlike, IsSteady, days_from_to}
+use Rattle.book_model.specs.Slices.{AreAlike}
 use Rattle.book_model.specs.declared.record.Slice.{Slice}
-use Rattle.book_model.specs.declared.record.Variant.{Variant}
-use Rattle.book_model.proofs.DaysAlike.{IsAlike, records_alike, good_alike}
+use Rattle.book_model.proofs.DaysAlike.{good_alike}
 use Rattle.book_clauses.specs.BookClauses.{AreOn, AreUsages, CodesBook, SaysOn, is_in, literals_on}
 use Rattle.clause_pool.specs.Literal.{literal, complement, is_true}
 use Rattle.clause_pool.specs.Clause.{has, Follows, Sat}
@@ -24,12 +22,12 @@ use Rattle.clause_pool.specs.Derivation.{Derivation, AllFollow, kernel_of}
 use Rattle.clause_pool.proofs.LiteralLaws.{is_true-complement}
 use Rattle.clause_pool.proofs.ClauseLaws.{TrueLiteral, true_literal, all_found, has-append}
 use Rattle.chains.specs.Growth.{given_of}
-use Rattle.clausify.specs.Choices.{usage, is_active_variant}
 use Rattle.clausify.specs.Lifting.{BeginsWith}
-use Rattle.clausify.specs.Questions.{goal, none_rule, HasSet}
+use Rattle.clausify.specs.Questions.{goal, HasSet}
 use Rattle.clausify.specs.declared.question.Question.{Question}
-use Rattle.clausify.specs.declared.question.Question.TheVariants.{Void, Necessary, Inadmissible, Superfluous, Ambiguous, Uncovered}
+use Rattle.clausify.specs.declared.question.Question.TheVariants.{Void}
 use Rattle.clausify.proofs.ItemLaws.{length_from_good}
+use Rattle.clausify.proofs.SteadyLaws.{goal_same}
 use Rattle.clausify.proofs.Truth.{true_positive, true_negative}
 use Rattle.propagate.specs.Quiet.{IsConsistent}
 use Rattle.propagate.specs.Trail.{AreBelow}
@@ -41,27 +39,6 @@ use Rattle.findings.specs.declared.core_report.Asking.{Asking}
 use Rattle.findings.specs.Findings.{MeetsThrough}
 use Rattle.findings.specs.Core.{all_true, Asks, Assumes, IsAsking, IsClash, IsInTerm, IsKnown, IsOverBook, periods_of}
 use Rattle.findings.proofs.Lifting.{has_from_meets, on_first}
-
--- the goals are the same on all days on which the same records are active
-filter_same : (p q : ℕ → Bool) → ((k : ℕ) → p k ≡ q k) → (ks : List ℕ) → filter p ks ≡ filter q ks
-filter_same p q same [] = refl
-filter_same p q same (k ∷ ks) = ap (λ (t : Bool). cond t (k ∷ filter p ks) (filter p ks)) (same k) ∙ ap (λ (rest : List ℕ). cond (q k) (k ∷ rest) rest) (filter_same p q same ks)
-
-active_same : (day other : ℕ) (vs : List Variant) (k : ℕ) → AllByRecursion (IsAlike day other) (map (λ v. days_from_to v.from v.until) vs)
-    → option_map_or (λ (v : Variant). is_within v.from v.until day) (slice_get vs k) false ≡ option_map_or (λ (v : Variant). is_within v.from v.until other) (slice_get vs k) false
-active_same day other [] k h = refl
-active_same day other (v ∷ vs) zero h = h.0
-active_same day other (v ∷ vs) (suc k) h = active_same day other vs k h.1
-
-goal_same : (b : Contents) (day other : ℕ) → AreAlike b day other → (q : Question) → goal b day q ≡ goal b other q
-goal_same b day other h Void = refl
-goal_same b day other h (Necessary place) = refl
-goal_same b day other h (Inadmissible place) = refl
-goal_same b day other h (Superfluous variant) = refl
-goal_same b day other h (Ambiguous position first second) = refl
-goal_same b day other h (Uncovered position) =
-    ap (λ (vs : List ℕ). none_rule (map (usage b) vs))
-    (filter_same (is_active_variant b day) (is_active_variant b other) (λ k. active_same day other b.variants k (records_alike b day other h).variants) (variants_of position b.variants))
 
 -- the truth of all literals of a list
 pub one_of_all : (a : ℕ → Bool) (ls : List ℕ) (l : ℕ) → all_true a ls ≡ true → has ls l ≡ true → is_true a l ≡ true

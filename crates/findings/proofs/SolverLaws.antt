@@ -7,14 +7,14 @@ use Rattle.book_model.specs.declared.record.Slice.{Slice}
 use Rattle.clause_pool.specs.Clause.{Follows}
 use Rattle.clause_pool.specs.Derivation.{AllFollow}
 use Rattle.clause_pool.proofs.ClauseLaws.{all_found}
-use Rattle.chains.specs.Growth.{ClosedBy, given_of}
+use Rattle.chains.specs.Growth.{ClosedAt, given_of}
 use Rattle.clausify.specs.Coded.{slice_clauses, slice_variables, slice_asked}
 use Rattle.clausify.specs.Questions.{HasSet}
 use Rattle.clausify.specs.declared.question.Asked.{Asked}
 use Rattle.solver.specs.Answer.{Begins, IsSpent}
 use Rattle.solver.specs.Solver.{Solving, Onwards}
 use Rattle.findings.specs.Findings.{MeetsThrough}
-use Rattle.findings.specs.Answering.{SliceFacts, IsOver, ClosedAt}
+use Rattle.findings.specs.Answering.{SliceFacts, IsOver}
 use Rattle.findings.proofs.Lifting.{meets_from_begins, none_from_clause}
 
 -- a solver that derived further clauses still stands over those of the slice
@@ -45,14 +45,11 @@ spent_by_solver b s g budget solving learnt over h =
     (subst (λ (cs : List (List ℕ)). IsSpent solving.vars cs (g ∷ []) budget learnt) over.stands.given h)
 
 pub none_by_solver : (b : Contents) (s : Slice) (k : ℕ) (a : Asked) (solving : Solving) (at : ℕ) → SliceFacts b s → slice_get (slice_asked b s.first) k ≡ Some a
-    → given_of solving.kernel ≡ slice_clauses b s.first → AllFollow solving.kernel → ClosedBy solving.kernel a.goal at → HasSet b s a.question → ⊥
+    → given_of solving.kernel ≡ slice_clauses b s.first → AllFollow solving.kernel → ClosedAt solving.kernel.clauses a.goal at → HasSet b s a.question → ⊥
 none_by_solver b s k a solving at facts is given follow h =
     none_from_clause b s k a h.clause facts is
     (subst (λ (cs : List (List ℕ)). Follows cs h.clause) given
     (all_found (Follows (given_of solving.kernel)) solving.kernel.clauses at h.clause follow h.there)) h.refutes
-
-pub closed_at : (solving : Solving) (g at : ℕ) → ClosedBy solving.kernel g at → ClosedAt solving.kernel.clauses g at
-closed_at solving g at h = record { clause = h.clause; there = h.there; refutes = h.refutes }
 
 -- of a call that answers this value, if it answers one
 pub of_answer : {A E : Type 0} (r : Result A E) (value : A) (P : A → Type 0) → P value → IfOk r (λ v. v ≡ value) → IfOk r P

@@ -21,18 +21,19 @@ use Rattle.derivation.specs.Showing.{Closes, AllClosed}
 use Rattle.derivation.specs.Stage.{to_close}
 use Rattle.derivation.specs.declared.closing.Closing.{Closing}
 use Rattle.derivation.specs.declared.closing.ToClose.{ToClose}
-use Rattle.chains.specs.Growth.{Extends}
+use Rattle.chains.specs.Growth.{ClosedAt, Extends}
 use Rattle.findings.specs.Findings.{MeetsThrough}
 use Rattle.findings.specs.Notes.{Inquiry, OwnNotes, is_asked, is_blocking}
 use Rattle.findings.specs.Outcomes.{outcome_of_set, outcome_of_clause, notes_of, closings_of}
-use Rattle.findings.specs.Answering.{ClosedAt, IsOutcome, AreTold, stops}
+use Rattle.findings.specs.Answering.{IsOutcome, AreTold, stops}
 use Rattle.findings.specs.declared.outcome.Outcome.{Outcome}
 use Rattle.findings.specs.declared.outcome.Outcome.TheVariants.{Fine, Closed, Noted}
 use Rattle.findings.specs.declared.outcome.Told.{Told}
 use Rattle.findings.specs.declared.report.Ask.{Ask}
 use Rattle.findings.specs.declared.report.Ask.TheVariants as asks
 use Rattle.findings.specs.declared.report.Note.TheVariants.{Finding, Undecided}
-use Rattle.slice_chains.proofs.ClosingLaws.{closed_one as closed_by}
+use Rattle.clausify.proofs.ItemLaws.{or_nothing}
+use Rattle.slice_chains.proofs.ClosingLaws.{closed_one}
 use Rattle.solver.specs.Answer.{IsSpent}
 use Rattle.findings.proofs.Lifting.{has_from_meets}
 
@@ -58,15 +59,11 @@ not_asked : (ask : Ask) (q : Question) → is_asked ask q ≡ false → is_to_cl
 not_asked asks.All q h = absurd (true≢false h)
 not_asked asks.Blocking q h = not_blocking q h
 
-or_false : (t : Bool) → (t || false) ≡ t
-or_false true = refl
-or_false false = refl
-
 pub set_outcome : (i : Inquiry) (s : Slice) (clauses : List (List ℕ)) (a : Asked) (x : List Bool) → s.first ≤ s.last → QuestionFits i.book a.question
     → MeetsThrough i.book s a.question x → IsOutcome i s clauses a (outcome_of_set a.question x)
 set_outcome i s clauses a x order fits met =
     cond_both (is_to_close a.question) (Noted (Finding a.question (Some x))) Fine (IsOutcome i s clauses a)
-    (λ must. ((refl, (must, met)), ap (λ (t : Bool). t || false) (blocking_fits i.book a.question fits) ∙ or_false (is_to_close a.question)))
+    (λ must. ((refl, (must, met)), ap (λ (t : Bool). t || false) (blocking_fits i.book a.question fits) ∙ or_nothing (is_to_close a.question)))
     (λ may. (record { no_fault = λ must. absurd (true≢false (sym must ∙ may)); some_set = λ _. has_from_meets i.book s a.question x order met }, may))
 
 pub clause_outcome : (i : Inquiry) (s : Slice) (clauses : List (List ℕ)) (a : Asked) (at : ℕ) → QuestionFits i.book a.question
@@ -74,7 +71,7 @@ pub clause_outcome : (i : Inquiry) (s : Slice) (clauses : List (List ℕ)) (a : 
 clause_outcome i s clauses a at fits none closed =
     cond_both (is_to_close a.question) (Closed at) (Noted (Finding a.question None)) (IsOutcome i s clauses a)
     (λ must. (record { no_fault = λ _. none; some_set = λ may. absurd (true≢false (sym must ∙ may)) }, must, closed))
-    (λ may. ((refl, (may, none)), ap (λ (t : Bool). t || false) (blocking_fits i.book a.question fits) ∙ or_false (is_to_close a.question)))
+    (λ may. ((refl, (may, none)), ap (λ (t : Bool). t || false) (blocking_fits i.book a.question fits) ∙ or_nothing (is_to_close a.question)))
 
 pub left_outcome : (i : Inquiry) (s : Slice) (clauses : List (List ℕ)) (a : Asked) (learnt : PoolContents) → QuestionFits i.book a.question
     → IsSpent (slice_variables i.book s.first) (slice_clauses i.book s.first) (a.goal ∷ []) i.budget learnt.clauses
@@ -124,9 +121,6 @@ closed_grown clauses more (w ∷ ws) (c ∷ cs) h = (
   },
   closed_grown clauses more ws cs h.1,
 )
-
-closed_one : (clauses : List (List ℕ)) (n goal at : ℕ) → ClosedAt clauses goal at → Closes clauses (record { question = n; goal = goal }) (record { question = n; at = at })
-closed_one clauses n goal at h = closed_by clauses n goal at h.clause h.there h.refutes
 
 -- a question that has not to be closed adds none
 none_to_close : (n : ℕ) (a : Asked) → is_to_close a.question ≡ false → to_close n (a ∷ []) ≡ []

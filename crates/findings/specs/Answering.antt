@@ -23,7 +23,7 @@ use Rattle.clausify.specs.Coded.{slice_clauses, slice_variables, slice_asked}
 use Rattle.clausify.specs.Lifting.{CodesGoodSets, IsMet}
 use Rattle.clausify.specs.Questions.{HasSet, QuestionFits, is_to_close}
 use Rattle.clausify.specs.declared.question.Asked.{Asked}
-use Rattle.chains.specs.Growth.{Refutes}
+use Rattle.chains.specs.Growth.{ClosedAt}
 use Rattle.derivation.specs.Showing.{AllClosed, ShowsSlice, StandsOver}
 use Rattle.derivation.specs.Stage.{to_close}
 use Rattle.derivation.specs.Written.{IsBegun}
@@ -65,12 +65,6 @@ pub record IsOver (b : Contents) (s : Slice) (solving : Solving) : Type 0 where
 -- a note that keeps the book from its release
 abbrev pub stops : Note → Bool
 stops note = is_fault note || is_left note
-
--- the clause at this place has no literal but the complement of the goal
-pub record ClosedAt (clauses : List (List ℕ)) (goal at : ℕ) : Type 0 where
-  pub clause : List ℕ
-  pub there : slice_get clauses at ≡ Some clause
-  pub refutes : Refutes goal clause
 
 abbrev pub inquiry : Contents → Effort → Inquiry
 inquiry b effort = record { book = b; ask = effort.ask; budget = effort.budget }

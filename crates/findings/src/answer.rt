@@ -1,7 +1,7 @@
 //! The answer to a question of a slice.
 ghost use Rattle.std.specs.Prelude.{◌≡◌, All, IfOk, IfSome, length, true};
 ghost use Rattle.book_model.specs.Good.{is_good};
-ghost use Rattle.chains.specs.Growth.{ClosedBy};
+ghost use Rattle.chains.specs.Growth.{ClosedAt};
 ghost use Rattle.slice_hints.specs.Found.{IsFound};
 ghost use Rattle.solver.specs.Solver.{Onwards};
 ghost use Rattle.findings.specs.Answering.{SliceFacts, IsTask, IsAsked, IsOver, IsOutcome, inquiry};
@@ -133,7 +133,7 @@ fn closed_outcome(book: &Book, task: SliceTask, asked: &Asked, solver: &Solver, 
     requires facts { SliceFacts book.now task.slice }
     requires asked { IsAsked book.now task.slice asked.now }
     requires over { IsOver book.now task.slice solver.now }
-    requires closed { ClosedBy solver.now.kernel asked.now.goal at }
+    requires closed { ClosedAt solver.now.kernel.clauses asked.now.goal at }
     ensures { IsOutcome (inquiry book.now task.effort) task.slice solver.now.kernel.clauses asked.now result }
 {
     solver.kernel().pool();

@@ -5,15 +5,14 @@ ghost use Rattle.std.specs.List.{list_any};
 ghost use Rattle.clause_pool.specs.Literal.{complement};
 ghost use Rattle.clause_pool.specs.Clause.{has};
 ghost use Rattle.clause_pool.specs.Derivation.{AllFollow};
-ghost use Rattle.clausify.specs.Choices.{is_active_variant};
 ghost use Rattle.clausify.specs.Questions.{QuestionFits};
 ghost use Rattle.solver.specs.Answer.{IsCore};
 ghost use Rattle.book_clauses.specs.BookClauses.{AreUsages, IsUsage};
 ghost use Rattle.findings.specs.Core.{Assumes, AssumesNone};
 
-use book_model::{Book, active};
+use book_model::Book;
 use clause_pool::{Kernel, Lit, Ref};
-use clausify::Question;
+use clausify::{Question, is_active};
 use pb_base::{Day, Memory};
 
 /// Leaves the literals that a question assumes. False where one isn't known.
@@ -155,15 +154,6 @@ fn assume_unused(
         assumed.push(lit.not())?;
     }
     Ok(true)
-}
-
-/// Whether the variant at this place is active.
-pub(crate) fn is_active(book: &Book, day: Day, variant: u32) -> bool
-    requires { variant < length book.now.variants }
-    ensures { result ≡ is_active_variant book.now day variant }
-{
-    let variant = &book.variants()[variant as usize];
-    active(variant.from, variant.until, day)
 }
 
 /// Whether no literal is assumed with its complement.

@@ -6,9 +6,8 @@ ghost use Rattle.clausify.specs.Pairs.{pairs};
 ghost use Rattle.clausify.specs.Questions.{choice_questions, code_questions_from, uncovered_question};
 ghost use Rattle.findings.specs.Core.{later_questions};
 
-use crate::assuming::is_active;
 use book_model::{Book, active};
-use clausify::Question;
+use clausify::{Question, is_active};
 use pb_base::{CodeTable, Day, Memory};
 use std::alloc::Global;
 

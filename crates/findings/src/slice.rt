@@ -5,7 +5,7 @@ ghost use Rattle.book_model.specs.Slices.{IsOrdered, IsSteady};
 ghost use Rattle.clause_pool.specs.Clause.{AreBelow};
 ghost use Rattle.clausify.specs.Coded.{slice_asked, slice_clauses, slice_variables};
 ghost use Rattle.clausify.specs.Goals.{void_asked};
-ghost use Rattle.chains.specs.Growth.{ClosedBy, given_of};
+ghost use Rattle.chains.specs.Growth.{ClosedAt, given_of};
 ghost use Rattle.derivation.specs.Limits.{asked_of};
 ghost use Rattle.derivation.specs.Showing.{StandsOver};
 ghost use Rattle.pb_base.specs.declared.limits.TheConstants.{MOST_QUESTIONS, MOST_BUDGET};
@@ -236,7 +236,7 @@ fn void_closed(
 ) -> Result<SliceTold, Memory>
     requires facts { SliceFacts book.now task.slice }
     requires given { given_of solver.now.kernel ≡ slice_clauses book.now task.slice.first }
-    requires closed { ClosedBy solver.now.kernel (void_asked (length book.now.codes)).goal at }
+    requires closed { ClosedAt solver.now.kernel.clauses (void_asked (length book.now.codes)).goal at }
     ensures notes { IfOk result (λ t. SliceNotes (inquiry book.now task.effort) task.slice t.notes.items) }
     ensures stopped { IfOk result (λ t. list_any stops t.notes.items ≡ true) }
     ensures none { IfOk result (λ t. t.shown ≡ None) }

@@ -1,22 +1,20 @@
 -- The clauses of guarded items are satisfied over just the sets that meet each item whose guard they have.
-use Rattle.std.proofs.Common.{inl, inr, ◌≡◌, ℕ, ◌+◌, ◌<◌, Bool, true, false, not, ◌||◌, List, [], ◌∷◌, ◌++◌, Option, None, Some, length, refl, sym, ap, subst, ◌∙◌, arith}
+use Rattle.std.proofs.Common.{inl, inr, ◌≡◌, ℕ, ◌+◌, ◌<◌, Bool, true, false, not, ◌||◌, List, [], ◌∷◌, ◌++◌, Option, None, Some, length, refl, sym, subst, ◌∙◌, arith}
 use Rattle.std.specs.List.{AllByRecursion}
 use Rattle.std.specs.Option.{IfSome}
 use Rattle.std.proofs.lemmas.Bool.{and_parts, and_from, cases_Bool, false≢true}
-use Rattle.std.proofs.lemmas.List.{map-append}
 use Rattle.pb_base.specs.Rule.{Rule, holds, codes_below}
 use Rattle.pb_base.specs.Sets.{has}
-use Rattle.clause_pool.specs.Literal.{is_true}
 use Rattle.clause_pool.specs.Clause.{Sat}
 use Rattle.clausify.specs.Formulas.{connectives, formula_literal, formula_clauses}
-use Rattle.clausify.specs.Items.{Item, own_clauses, claim_clauses}
+use Rattle.clausify.specs.Items.{Item, own_clauses, claim_clauses, claim_literals, claim_where}
 use Rattle.clausify.specs.Lifting.{CodesJust}
 use Rattle.clausify.proofs.FormulaLaws.{named_in, Names, Begins, length-named_in, names-append, names_first, names_last, denotes, sat_from_names, names_from_sat}
-use Rattle.clausify.proofs.ItemLaws.{meets, item_fits, claim_fits, items_named, length-items_named, items_named-append, sat_from_items, claim_from_sat}
+use Rattle.clausify.proofs.ItemLaws.{meets, item_fits, claim_fits, items_named, length-items_named, sat_from_items, claim_from_sat}
 use Rattle.clausify.proofs.LiftLaws.{lifted, lifted_begins, lifted_named, alone_named, truth_from_sat, sat_from_truth}
 use Rattle.clausify.proofs.ListLaws.{all-append, all_first, all_last}
-use Rattle.guarded_rules.specs.Guarded.{GuardedItem, claim_literals, guarded_claim, guarded_own, guarded_clauses, encoded_guarded, items_of, guarded_variables, is_on, meets_guarded, meets_all_guarded, GuardedFits, AllGuardedFit}
-use Rattle.guarded_rules.proofs.GuardLaws.{sat_where_off, claim_where_on, claim_from_on}
+use Rattle.guarded_rules.specs.Guarded.{GuardedItem, guarded_own, guarded_clauses, encoded_guarded, items_of, guarded_variables, is_on, meets_guarded, meets_all_guarded, AllGuardedFit}
+use Rattle.guarded_rules.proofs.GuardLaws.{sat_where_off, sat_where_on, on_from_sat}
 
 abbrev pub AllMeetGuarded : List Bool → List GuardedItem → Type 0
 AllMeetGuarded x is = AllByRecursion (λ i. meets_guarded x i ≡ true) is
@@ -36,11 +34,11 @@ pub met_where_on : (on m : Bool) → on ≡ true → (not on || m) ≡ true → 
 met_where_on true m e h = h
 met_where_on false m e h = absurd (false≢true e)
 
-met_where_off : (on m : Bool) → on ≡ false → (not on || m) ≡ true
+pub met_where_off : (on m : Bool) → on ≡ false → (not on || m) ≡ true
 met_where_off true m e = absurd (false≢true (sym e))
 met_where_off false m e = refl
 
-met_unless : (on m : Bool) → m ≡ true → (not on || m) ≡ true
+pub met_unless : (on m : Bool) → m ≡ true → (not on || m) ≡ true
 met_unless true m e = e
 met_unless false m e = refl
 
@@ -53,16 +51,16 @@ module _ {m : ℕ} (n : ℕ) (x : List Bool) (a : ℕ → Bool) (b : Begins m n 
       all_last _ (formula_clauses n v i.rule) _ (all_first _ (own_clauses n v i) [] both)
 
   sat_from_own : (v : ℕ) (g : Option ℕ) (i : Item) → IfSome g (λ k. k < m) → item_fits m i ≡ true → Names a x v (named_in i.rule) → (not (is_on x g) || meets x i) ≡ true
-      → Sat (guarded_claim g i.claim (formula_literal n v i.rule)) a
+      → Sat (claim_where g i.claim (formula_literal n v i.rule)) a
   sat_from_own v None i low fit names met = claim_sat v i fit names met
   sat_from_own v (Some g) i low fit names met =
       elim (cases_Bool (has x g)) [
-        | inl on ↦ claim_where_on a g i.claim (formula_literal n v i.rule) (b.codes g low ∙ on) (claim_sat v i fit names (met_where_on (has x g) (meets x i) on met))
+        | inl on ↦ sat_where_on a g (claim_literals i.claim (formula_literal n v i.rule)) (b.codes g low ∙ on) (claim_sat v i fit names (met_where_on (has x g) (meets x i) on met))
         | inr off ↦ sat_where_off a g (claim_literals i.claim (formula_literal n v i.rule)) (b.codes g low ∙ off)
       ]
 
   own_from_sat : (v : ℕ) (g : Option ℕ) (i : Item) → IfSome g (λ k. k < m) → item_fits m i ≡ true → Names a x v (named_in i.rule)
-      → Sat (guarded_claim g i.claim (formula_literal n v i.rule)) a → (not (is_on x g) || meets x i) ≡ true
+      → Sat (claim_where g i.claim (formula_literal n v i.rule)) a → (not (is_on x g) || meets x i) ≡ true
   own_from_sat v None i low fit names s =
       let fits = and_parts (codes_below m i.rule) (claim_fits m i.claim) fit in
       claim_from_sat n x a b i.claim (formula_literal n v i.rule) (holds i.rule x) fits.1 (denotes n x a b v i.rule fits.0 names) s
@@ -72,7 +70,7 @@ module _ {m : ℕ} (n : ℕ) (x : List Bool) (a : ℕ → Bool) (b : Begins m n 
         | inl on ↦
             met_unless (has x g) (meets x i)
             (claim_from_sat n x a b i.claim (formula_literal n v i.rule) (holds i.rule x) fits.1 (denotes n x a b v i.rule fits.0 names)
-            (claim_from_on a g i.claim (formula_literal n v i.rule) (b.codes g low ∙ on) s))
+            (on_from_sat a g (claim_literals i.claim (formula_literal n v i.rule)) (b.codes g low ∙ on) s))
         | inr off ↦ met_where_off (has x g) (meets x i) off
       ]
 
@@ -123,22 +121,6 @@ guarded_over n is x a fit codes sat =
       names = names_from_guarded n x a begins (n + 1) is fit sat.1;
       meets = met_from_guarded n x a begins (n + 1) is fit sat.1;
     }
-
--- the literal of each item's formula is then the formula's truth, with a guard or without
-pub literal_over : (n : ℕ) (is js : List GuardedItem) (i : GuardedItem) (x : List Bool) (a : ℕ → Bool) → AllGuardedFit n (is ++ i ∷ js) → ((k : ℕ) → k < n → a k ≡ has x k)
-    → Sat (encoded_guarded n (n + 1) (is ++ i ∷ js)) a → is_true a (formula_literal n (n + 1 + guarded_variables is) i.item.rule) ≡ holds i.item.rule x
-literal_over n is js i x a fit codes sat =
-    let o : IsOverGuarded n (is ++ i ∷ js) x a = guarded_over n (is ++ i ∷ js) x a fit codes sat in
-    let own : GuardedFits n i = (all_last _ is (i ∷ js) fit).0 in
-    let fits = and_parts (codes_below n i.item.rule) (claim_fits n i.item.claim) own.item in
-    let parted : Names a x (n + 1) (items_named (items_of is) ++ items_named (items_of (i ∷ js))) =
-    subst (λ (fs : List Rule). Names a x (n + 1) fs)
-    (ap items_named (map-append (λ (k : GuardedItem). k.item) is (i ∷ js)) ∙ items_named-append (items_of is) (items_of (i ∷ js))) o.names in
-    let later : Names a x (n + 1 + guarded_variables is) (items_named (items_of (i ∷ js))) =
-    subst (λ (k : ℕ). Names a x (n + 1 + k) (items_named (items_of (i ∷ js)))) (length-items_named (items_of is))
-    (names_last a x (n + 1) (items_named (items_of is)) (items_named (items_of (i ∷ js))) parted) in
-    denotes n x a o.begins (n + 1 + guarded_variables is) i.item.rule fits.0
-    (names_first a x (n + 1 + guarded_variables is) (named_in i.item.rule) (items_named (items_of js)) later)
 
 -- the clauses, where just the sets that pass the test meet the items whose guards they have
 pub guarded_code : (n : ℕ) (is : List GuardedItem) (test : List Bool → Bool) → AllGuardedFit n is

@@ -1,10 +1,10 @@
 -- An encoder that has made the clauses of guarded items: it begins with none, and takes further ones. Then what it made says of
 -- sets of codes, and what is asked of items over fewer codes.
-use Rattle.std.proofs.Common.{append_assoc, ◌≡◌, ℕ, ◌+◌, ◌*◌, ◌≤◌, Bool, true, List, [], ◌∷◌, ◌++◌, None, map, refl, sym, ap, subst, ◌∙◌, arith}
+use Rattle.std.proofs.Common.{append_assoc, ◌≡◌, ℕ, ◌+◌, ◌*◌, Bool, true, List, [], ◌∷◌, ◌++◌, None, map, refl, sym, ap, subst, ◌∙◌, arith}
 use Rattle.std.proofs.lemmas.List.{append-nil, map-append}
 use Rattle.clause_pool.specs.Literal.{literal}
 use Rattle.clause_pool.specs.Clause.{clause_of, AreBelow}
-use Rattle.clausify.specs.Encoding.{EncodesItem, EncodesItems}
+use Rattle.clausify.specs.Encoding.{EncodesItems}
 use Rattle.clausify.specs.Formulas.{connectives}
 use Rattle.clausify.specs.Items.{Item, own_clauses, item_clauses, variables_of}
 use Rattle.clausify.specs.Lifting.{CodesJust}
@@ -67,17 +67,11 @@ guarded_plain is js e f h more =
     further is (map (guarded None) js) e f h (more.clauses ∙ ap (λ (cs : List (List ℕ)). e.pool.clauses ++ cs) (sym (plain_clauses e.truth e.next js)))
     (omega (arith, more.next, plain_variables js)) more.truth
 
-pub guarded_plain_item : (is : List GuardedItem) (i : Item) (e f : Encoder) → IsGuarded is e → EncodesItem e f i → IsGuarded (is ++ guarded None i ∷ []) f
-guarded_plain_item is i e f h more = guarded_item is (guarded None i) e f h (record { clauses = more.clauses; next = more.next; truth = more.truth; first = more.first })
-
 -- what a solver asks of it, and what it says of sets
 pub made_below : (is : List GuardedItem) (e : Encoder) → AllGuardedFit e.truth is → IsGuarded is e → AreBelow (2 * e.next) e.pool.clauses
 made_below is e fit h =
     subst (λ (v : ℕ). AreBelow (2 * v) e.pool.clauses) (sym h.variables)
     (subst (AreBelow (2 * (e.truth + 1 + guarded_variables is))) (sym h.clauses) (encoded_below e.truth is fit))
-
-pub made_within : (is : List GuardedItem) (e : Encoder) → IsGuarded is e → e.truth ≤ e.next
-made_within is e h = omega (arith, h.variables)
 
 pub made_codes : (test : List Bool → Bool) (is : List GuardedItem) (e : Encoder) → IsGuarded is e
     → CodesJust e.truth test (encoded_guarded e.truth (e.truth + 1) is) (e.truth + 1 + guarded_variables is) → CodesJust e.truth test e.pool.clauses e.next

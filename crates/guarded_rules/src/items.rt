@@ -4,10 +4,9 @@
 ghost use Rattle.std.specs.Prelude.{◌+◌, ◌^◌, ◌<◌, ◌≤◌, OnOk};
 ghost use Rattle.pb_base.specs.declared.limits.TheConstants.{MOST_GROUP_CODES};
 ghost use Rattle.clausify.specs.Formulas.{connectives};
-ghost use Rattle.clausify.specs.Items.{added_item, rule_item, demand_item};
-ghost use Rattle.guarded_rules.specs.Guarded.{guarded, group_size, EncodesGuarded};
+ghost use Rattle.clausify.specs.Items.{added_item, demand_item, group_size, rule_item};
+ghost use Rattle.guarded_rules.specs.Guarded.{guarded, EncodesGuarded};
 
-use crate::group::{any_where, apart_where};
 use book_model::Demand;
 use clause_pool::Lit;
 use clausify::Encoder;
@@ -44,55 +43,30 @@ pub fn add_guarded_demand(
     requires room { encoder.old.next + connectives (demand_item demand.now).rule < 2 ^ 32 }
     ensures { OnOk result (EncodesGuarded encoder.old encoder.new (guarded guard (demand_item demand.now))) }
 {
-    match guard {
-        None => add_demand(encoder, demand),
-        Some(guard) => add_demand_where(encoder, guard, demand),
-    }
-}
-
-// Always.
-fn add_demand(encoder: &mut Encoder, demand: &Demand) -> Result<(), Memory>
-    requires few { group_size demand.now ≤ MOST_GROUP_CODES }
-    requires room { encoder.old.next + connectives (demand_item demand.now).rule < 2 ^ 32 }
-    ensures { OnOk result (EncodesGuarded encoder.old encoder.new (guarded None (demand_item demand.now))) }
-{
     match demand {
-        Demand::Rule { on, rule } => encoder.rule_on(*on, rule),
+        Demand::Rule { on, rule } => add_rule(encoder, guard, *on, rule),
         Demand::One(group) => {
-            encoder.any_of(group.codes())?;
-            encoder.apart(group.codes())
+            encoder.any_where(guard, group.codes())?;
+            encoder.apart_where(guard, group.codes())
         }
-        Demand::Most(group) => encoder.apart(group.codes()),
+        Demand::Most(group) => encoder.apart_where(guard, group.codes()),
     }
 }
 
-// Where the guard is true.
-fn add_demand_where(encoder: &mut Encoder, guard: u32, demand: &Demand) -> Result<(), Memory>
-    requires few { group_size demand.now ≤ MOST_GROUP_CODES }
-    requires room { encoder.old.next + connectives (demand_item demand.now).rule < 2 ^ 32 }
-    ensures { let item = guarded (Some guard) (demand_item demand.now) in
-        OnOk result (EncodesGuarded encoder.old encoder.new item) }
-{
-    match demand {
-        Demand::Rule { on, rule } => add_rule_where(encoder, guard, *on, rule),
-        Demand::One(group) => {
-            any_where(encoder, guard, group.codes())?;
-            apart_where(encoder, guard, group.codes())
-        }
-        Demand::Most(group) => apart_where(encoder, guard, group.codes()),
-    }
-}
-
-fn add_rule_where(
+// Where the guard is true and the code is present, or there is none, the formula is true.
+fn add_rule(
     encoder: &mut Encoder,
-    guard: u32,
+    guard: Option<u32>,
     on: Option<u32>,
     rule: &Formula,
 ) -> Result<(), Memory>
     requires { encoder.old.next + connectives rule.now < 2 ^ 32 }
-    ensures { let item = guarded (Some guard) (rule_item on rule.now) in
+    ensures { let item = guarded guard (rule_item on rule.now) in
         OnOk result (EncodesGuarded encoder.old encoder.new item) }
 {
+    let Some(guard) = guard else {
+        return encoder.rule_on(on, rule);
+    };
     let rule = encoder.literal(rule)?;
     let absent = Lit::new(guard, false);
     match on {

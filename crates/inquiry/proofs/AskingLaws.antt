@@ -5,7 +5,7 @@ use Rattle.std.proofs.lemmas.Bool.{false_from_ne_true, true≢false}
 use Rattle.std.proofs.lemmas.List.Elements.{recursion_from_All}
 use Rattle.std.proofs.lemmas.List.{take_all}
 use Rattle.std.proofs.lemmas.Option.{slice_get_within}
-use Rattle.chains.specs.Growth.{ClosedBy, given_of}
+use Rattle.chains.specs.Growth.{ClosedAt, given_of}
 use Rattle.clause_pool.specs.Literal.{is_true}
 use Rattle.clause_pool.specs.Clause.{AreBelow, Follows}
 use Rattle.clause_pool.specs.Derivation.{Derivation, AllFollow, kernel_of}
@@ -47,7 +47,7 @@ module _ {Q : Type 0} (f : Form Q) (IsPosed : Q → Type 0) (MayShow : List Bool
       → IsCore asking.solver.kernel (goal_at f qs place ∷ []) at → ShownByNone f q
   closed_shows_none place at q asking there is follow core x len = false_from_ne_true _ (λ met.
       let g : ℕ = goal_at f qs place in
-      let closed : ClosedBy asking.solver.kernel g at = closed_by_core asking.solver.kernel g at core in
+      let closed : ClosedAt asking.solver.kernel.clauses g at = closed_by_core asking.solver.kernel g at core in
       let m : MeetsGoal (f.clauses qs) g = law.lifts qs (recursion_from_All IsPosed qs posed) place q there x len met in
       let follows : Follows (f.clauses qs) closed.clause =
       subst (λ (cs : List (List ℕ)). Follows cs closed.clause) is.clauses

@@ -5,7 +5,7 @@ use Rattle.clause_pool.specs.Literal.{complement, is_true}
 use Rattle.clause_pool.specs.Clause.{has}
 use Rattle.clause_pool.specs.Derivation.{Derivation}
 use Rattle.clause_pool.proofs.LiteralLaws.{complement-complement, complement-other}
-use Rattle.chains.specs.Growth.{ClosedBy}
+use Rattle.chains.specs.Growth.{ClosedAt}
 use Rattle.propagate.specs.Trail.{AreBelow}
 use Rattle.propagate.specs.Quiet.{IsConsistent}
 use Rattle.solver.specs.Answer.{Begins, IsCore}
@@ -25,7 +25,7 @@ one_consistent g l is_in other = complement-other l (sym (is_one g (complement l
 pub one_assumed : (given : List (List ℕ)) (g codes : ℕ) (x : List Bool) (h : Begins given (g ∷ []) codes x) → is_true h.assignment g ≡ true
 one_assumed given g codes x h = h.assumed g (in_one g)
 
-pub closed_by_core : (k : Derivation) (g at : ℕ) → IsCore k (g ∷ []) at → ClosedBy k g at
+pub closed_by_core : (k : Derivation) (g at : ℕ) → IsCore k (g ∷ []) at → ClosedAt k.clauses g at
 closed_by_core k g at c = record {
   clause = c.clause;
   there = c.there;

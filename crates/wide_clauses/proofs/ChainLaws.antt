@@ -2,13 +2,14 @@
 -- of the formula.
 use Rattle.std.proofs.Common.{inl, inr, ◌≡◌, ℕ, ◌+◌, ◌≤◌, Bool, true, false, not, ◌&&◌, ◌||◌, List, [], ◌∷◌, ◌++◌, length, refl, sym, ap, subst, ◌∙◌, arith, length-append}
 use Rattle.std.specs.List.{list_any}
-use Rattle.std.proofs.lemmas.Bool.{and_parts, cases_Bool, ltb-true}
+use Rattle.std.proofs.lemmas.Bool.{and_parts, cases_Bool, ltb-true, or_left, or_right}
 use Rattle.pb_base.specs.Rule.{Rule, code, negation, both, either, always, never, holds, codes_below}
 use Rattle.clause_pool.specs.Literal.{literal, complement, is_true}
 use Rattle.clause_pool.specs.Clause.{clause_of, clause_true, Sat}
 use Rattle.clause_pool.proofs.ClauseLaws.{clause_true-clause_of}
 use Rattle.clause_pool.proofs.LiteralLaws.{is_true-complement}
 use Rattle.clausify.specs.Formulas.{connectives}
+use Rattle.clausify.proofs.ItemLaws.{or_nothing}
 use Rattle.clausify.proofs.FormulaLaws.{Names, Begins, names-append, names_first, names_last}
 use Rattle.clausify.proofs.ListLaws.{all-append, all_first, all_last}
 use Rattle.clausify.proofs.Truth.{true_positive, true_negative}
@@ -128,13 +129,6 @@ unforced false h = refl
 not_or : (u : Bool) → (not true || u) ≡ true → u ≡ true
 not_or u h = h
 
-any_here : (t u : Bool) → t ≡ true → (t || u) ≡ true
-any_here t u e = ap (λ s. s || u) e
-
-any_later : (t u : Bool) → u ≡ true → (t || u) ≡ true
-any_later true u e = refl
-any_later false u e = e
-
 none_more : (t u : Bool) → t ≡ false → u ≡ false → (t || u) ≡ false
 none_more t u e h = ap (λ s. s || u) e ∙ h
 
@@ -147,8 +141,8 @@ pair_where a l k = clause_true-clause_of a (l ∷ complement k ∷ []) ∙ ap (�
 sat_each : (a : ℕ → Bool) (l : ℕ) (ls : List ℕ) → (list_any (is_true a) ls ≡ true → is_true a l ≡ true) → Sat (with_each l ls) a
 sat_each a l [] h = tt
 sat_each a l (k ∷ ks) h = (
-  pair_where a l k ∙ forced (is_true a l) (is_true a k) (λ e. h (any_here (is_true a k) (list_any (is_true a) ks) e)),
-  sat_each a l ks (λ e. h (any_later (is_true a k) (list_any (is_true a) ks) e)),
+  pair_where a l k ∙ forced (is_true a l) (is_true a k) (λ e. h (or_left (is_true a k) (list_any (is_true a) ks) e)),
+  sat_each a l ks (λ e. h (or_right (is_true a k) (list_any (is_true a) ks) e)),
 )
 
 none_each : (a : ℕ → Bool) (l : ℕ) (ls : List ℕ) → is_true a l ≡ false → Sat (with_each l ls) a → list_any (is_true a) ls ≡ false
@@ -175,10 +169,6 @@ or_swap true true = refl
 or_swap true false = refl
 or_swap false true = refl
 or_swap false false = refl
-
-or_nothing : (t : Bool) → (t || false) ≡ t
-or_nothing true = refl
-or_nothing false = refl
 
 not_both : (t u : Bool) → (not t || not u) ≡ not (u && t)
 not_both true true = refl

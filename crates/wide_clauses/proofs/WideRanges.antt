@@ -1,18 +1,15 @@
 -- The literals of items are of the variables that are taken.
-use Rattle.std.proofs.Common.{◌≡◌, ℕ, ◌+◌, ◌*◌, ◌<◌, ◌≤◌, true, false, List, [], ◌∷◌, ◌++◌, map}
+use Rattle.std.proofs.Common.{◌≡◌, ℕ, ◌+◌, ◌*◌, ◌<◌, ◌≤◌, true, false, List, [], ◌∷◌, ◌++◌, None, map, arith}
 use Rattle.std.specs.List.{AllByRecursion}
-use Rattle.std.proofs.Common.{arith}
 use Rattle.std.proofs.lemmas.Bool.{and_parts, ltb-true}
 use Rattle.pb_base.specs.Rule.{Rule, code, negation, both, either, always, never, codes_below}
 use Rattle.clause_pool.specs.Literal.{literal, complement}
-use Rattle.clause_pool.specs.Clause.{AreBelow, IsBelow}
+use Rattle.clause_pool.specs.Clause.{AreBelow}
 use Rattle.clause_pool.proofs.ClauseLaws.{IsBelow-clause_of}
-use Rattle.clausify.specs.Items.{Claim, adds, needed_by, needed, one_of, most_of, free, Item, any_clause, apart_clause, apart_clauses, claim_clauses, free_item}
-use Rattle.clausify.specs.Pairs.{pairs}
-use Rattle.clausify.proofs.GroupLaws.{AreCodes, below_all}
+use Rattle.clausify.specs.Items.{Item, free_item}
 use Rattle.clausify.proofs.ItemLaws.{AllBelow, AllFit, claim_fits}
-use Rattle.clausify.proofs.ListLaws.{all-append, all-map, all_pairs, all_weaker}
-use Rattle.clausify.proofs.RangeLaws.{positive_below, negative_below, complement_below}
+use Rattle.clausify.proofs.ListLaws.{all-append}
+use Rattle.clausify.proofs.RangeLaws.{positive_below, negative_below, complement_below, claim_below}
 use Rattle.wide_clauses.specs.Chains.{Place, alone, in_any, in_all, of_any, of_all, taken, wide_literal, any_literals, all_literals, with_each, one_of_clauses, any_tied, all_tied, wide_clauses, wide_variables}
 use Rattle.wide_clauses.specs.WideItems.{taken_by, wide_item_clauses, wide_literals, wide_own}
 
@@ -87,38 +84,11 @@ module _ (c n m : ℕ) where
   wide_literals_below v (f ∷ fs) below codes h k =
       (wide_literal_below v f below.0 codes h (omega arith), wide_literals_below (v + wide_variables f) fs below.1 (omega arith) (omega arith) (omega arith))
 
-  -- the clauses of claims, where l is the literal of the formula
-  group_any_below : (group : List ℕ) → AreCodes c group → c ≤ m → IsBelow (2 * m) (any_clause group)
-  group_any_below group codes h =
-      IsBelow-clause_of (2 * m) (map (λ place. literal place true) group)
-      (all-map (λ l. l < 2 * m) (λ place. literal place true) group
-      (all_weaker (λ place. place < c) (λ place. literal place true < 2 * m) (λ place below. positive_below place m (omega arith)) group codes))
-
-  group_apart_below : (group : List ℕ) → AreCodes c group → c ≤ m → AreBelow (2 * m) (apart_clauses group)
-  group_apart_below group codes h =
-      all-map (IsBelow (2 * m)) apart_clause (pairs group)
-      (all_weaker (λ (p : ℕ × ℕ). (p.0 < c) × (p.1 < c)) (λ p. IsBelow (2 * m) (apart_clause p))
-      (λ p below. IsBelow-clause_of (2 * m) (literal p.0 false ∷ literal p.1 false ∷ [])
-      (negative_below p.0 m (omega (arith, below.0)), (negative_below p.1 m (omega (arith, below.1)), tt)))
-      (pairs group) (all_pairs (λ place. place < c) group codes))
-
-  claims_below : (l : ℕ) (d : Claim) → claim_fits c d ≡ true → c ≤ m → l < 2 * m → AreBelow (2 * m) (claim_clauses d l)
-  claims_below l (adds place) fit h k =
-      let below = ltb-true place c fit in
-      (IsBelow-clause_of (2 * m) (complement l ∷ literal place true ∷ []) (complement_below l m k, (positive_below place m (omega arith), tt)), tt)
-  claims_below l (needed_by place) fit h k =
-      let below = ltb-true place c fit in
-      (IsBelow-clause_of (2 * m) (literal place false ∷ l ∷ []) (negative_below place m (omega arith), (k, tt)), tt)
-  claims_below l needed fit h k = (IsBelow-clause_of (2 * m) (l ∷ []) (k, tt), tt)
-  claims_below l (one_of group) fit h k = (group_any_below group (below_all c group fit) h, group_apart_below group (below_all c group fit) h)
-  claims_below l (most_of group) fit h k = group_apart_below group (below_all c group fit) h
-  claims_below l free fit h k = tt
-
   pub wide_items_below : (v : ℕ) (is : List Item) → AllFit c is → c ≤ v → n < v → v + taken_by is ≤ m → AreBelow (2 * m) (wide_item_clauses n v is)
   wide_items_below v [] fit codes h k = tt
   wide_items_below v (i ∷ is) fit codes h k =
       let fits = and_parts (codes_below c i.rule) (claim_fits c i.claim) fit.0 in
       all-append _ (wide_own n v i) (wide_item_clauses n (v + wide_variables i.rule) is)
       (all-append _ (wide_clauses n v i.rule alone) _ (wide_below v i.rule alone fits.0 codes h (omega arith))
-      (claims_below (wide_literal n v i.rule) i.claim fits.1 (omega arith) (wide_literal_below v i.rule fits.0 codes h (omega arith))))
+      (claim_below c m (wide_literal n v i.rule) None i.claim tt fits.1 (omega arith) (wide_literal_below v i.rule fits.0 codes h (omega arith))))
       (wide_items_below (v + wide_variables i.rule) is fit.1 (omega arith) (omega arith) (omega arith))

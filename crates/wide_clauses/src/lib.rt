@@ -2,7 +2,6 @@
 #![tactic(auto)]
 
 mod constructs;
-mod group;
 mod wide;
 
 pub use constructs::add_wide_constructs;

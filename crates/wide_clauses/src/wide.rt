@@ -1,10 +1,9 @@
 //! Clauses in the making.
-ghost use Rattle.std.specs.Prelude.{◌≡◌, ◌+◌, ◌^◌, ◌<◌, ◌++◌, ◌∷◌, true, [], IfOk, OnOk};
+ghost use Rattle.std.specs.Prelude.{◌≡◌, ◌+◌, ◌^◌, ◌<◌, ◌∷◌, true, [], IfOk, OnOk};
 ghost use Rattle.pb_base.specs.Rule.{both, either};
 ghost use Rattle.clause_pool.specs.Literal.{literal};
 ghost use Rattle.clause_pool.specs.Clause.{clause_of};
-ghost use Rattle.wide_clauses.specs.Chains.{one_of_clauses};
-ghost use Rattle.wide_clauses.specs.Chains.{alone, wide_clauses, wide_literal, wide_variables};
+ghost use Rattle.wide_clauses.specs.Chains.{alone, one_of_clauses, wide_clauses, wide_literal, wide_variables};
 ghost use Rattle.wide_clauses.specs.Encoding.{Widens};
 
 use clause_pool::{Lit, Pool};
@@ -15,7 +14,7 @@ use std::alloc::Global;
 /// use: some of the call's clauses may stand, and not others.
 #[derive(Drop)]
 pub struct WideEncoder {
-    pub(crate) alloc: Global,
+    alloc: Global,
     pub pool: Pool,
     /// The variable that is always true, behind those of the codes.
     pub truth: u32,

@@ -1,4 +1,5 @@
 use Rattle.std.proofs.Common.{ℕ, List, ◌≡◌, ◌+◌, ◌*◌, ◌∙◌, length, map, sym, ap, subst, arith}
+use Rattle.std.proofs.lemmas.List.{length-map}
 use Rattle.book_model.specs.declared.record.Slice.{Slice}
 use Rattle.clause_pool.specs.Clause.{AreBelow}
 use Rattle.clausify.specs.Formulas.{literals_from}
@@ -8,6 +9,7 @@ use Rattle.book_clauses.specs.BookClauses.{AreUsages, CodesBook}
 use Rattle.book_clauses.specs.Coding.{book_items, book_rules}
 use Rattle.book_clauses.proofs.BookLaws.{book_usages, codes_book, rule_of}
 use Rattle.book_clauses.proofs.MeetLaws.{book_fit}
+use Rattle.book_clauses.proofs.StepLaws.{length-literals_from}
 use Rattle.book_clauses.proofs.coding.book_clauses.Goals as goal
 
 pub returns-clause-codes : goal.returns-clause-codes
@@ -45,3 +47,7 @@ returns-clause-usages c =
     (omega (arith, (subst (λ (ps : List Slice). IsGuarded (book_rules c.args.book.now ps) c.add_constructs.new.encoder) c.deref-3.ensures.value c.in_ok-add_constructs.ensures.made).variables, c.in_ok-usages.ensures.truth))
     (c.in_ok-usages.ensures.usages
     ∙ ap (λ (t : ℕ). literals_from t c.add_constructs.new.encoder.next (map rule_of c.args.book.now.variants)) (sym c.in_ok-usages.ensures.truth))))
+
+pub returns-clause-counted : goal.returns-clause-counted
+returns-clause-counted c =
+    ap length c.in_ok-usages.ensures.usages ∙ length-literals_from _ _ (map rule_of c.args.book.now.variants) ∙ length-map c.args.book.now.variants rule_of

@@ -1,5 +1,4 @@
-use Rattle.std.proofs.Common.{◌<◌, ℕ, Option, length, sym, subst, arith}
-use Rattle.std.specs.Option.{IfSome}
+use Rattle.std.proofs.Common.{◌<◌, length, sym, subst, arith}
 use Rattle.book_clauses.specs.BookClauses.{IsUsage}
 use Rattle.findings.proofs.AssumeLaws.{usage_read}
 use Rattle.findings.proofs.assuming.usage_of.Goals as goal

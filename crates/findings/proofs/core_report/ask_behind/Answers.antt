@@ -1,4 +1,4 @@
-use Rattle.std.proofs.Common.{ℕ, IfOk, IfSome, List, sym, subst, ◌∙◌}
+use Rattle.std.proofs.Common.{IfOk, IfSome, List, subst, ◌∙◌}
 use Rattle.clausify.specs.declared.question.Question.{Question}
 use Rattle.findings.specs.Answering.{inquiry}
 use Rattle.findings.specs.Core.{AreToldOf}

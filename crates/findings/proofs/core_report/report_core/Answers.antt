@@ -1,4 +1,4 @@
-use Rattle.std.proofs.Common.{List, ℕ, ◌≡◌, length, ap, sym, subst, ◌∙◌}
+use Rattle.std.proofs.Common.{List, ℕ, ◌≡◌, length, sym, subst}
 use Rattle.chains.specs.Growth.{given_of}
 use Rattle.propagate.specs.Quiet.{IsConsistent}
 use Rattle.clausify.specs.declared.question.Question.TheVariants.{Void}

@@ -1,9 +1,9 @@
-use Rattle.std.proofs.Common.{List, ℕ, ap, sym, subst, ◌∙◌, length, ◌≡◌, arith}
+use Rattle.std.proofs.Common.{ap, sym, subst, arith}
 use Rattle.chains.specs.Growth.{given_of}
 use Rattle.solver.specs.Answer.{Begins, IsCore}
 use Rattle.solver.specs.Solver.{Onwards, Solving}
 use Rattle.findings.specs.Answering.{inquiry}
-use Rattle.findings.specs.Core.{Asks, IsOverBook, OwnOf}
+use Rattle.findings.specs.Core.{OwnOf}
 use Rattle.findings.specs.Outcomes.{notes_of}
 use Rattle.findings.specs.declared.outcome.Outcome.{Outcome}
 use Rattle.findings.proofs.Lifting.{on_first}
