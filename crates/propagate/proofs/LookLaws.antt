@@ -1,7 +1,7 @@
 -- What a look at an entry keeps and answers.
 use Rattle.std.proofs.Common.{◌≡◌, ◌⊎◌, inl, inr, ℕ, ◌+◌, ◌<◌, ◌≤◌, Bool, true, false, not, List, Some, length, refl, sym, subst, ◌∙◌, ap, arith}
 use Rattle.std.specs.List.{slice_get}
-use Rattle.std.proofs.lemmas.Bool.{cases_eq}
+use Rattle.std.proofs.lemmas.Bool.{cases_eq, true≢false}
 use Rattle.std.proofs.lemmas.Option.{get_or_from_slice_get, slice_get_within}
 use Rattle.clause_pool.specs.Literal.{complement}
 use Rattle.clause_pool.specs.Clause.{has}
@@ -9,10 +9,11 @@ use Rattle.clause_pool.proofs.ClauseLaws.{has-append}
 use Rattle.std.proofs.lemmas.Bool.{or_left}
 use Rattle.propagate.specs.Trail.{OthersFalse, IsReason}
 use Rattle.propagate.specs.Assignment.{Assigned}
-use Rattle.propagate.specs.Watching.{HasTrue, Watching, EntryFits, IsPairIn, clause_at, pair_of, list_of, Grown, AreReasons, Keeps, Shifted, Watches}
-use Rattle.propagate.specs.Visiting.{Scene, scene, IsConflict, Goes, AreTrueIn, entries_of}
+use Rattle.propagate.specs.Watching.{HasTrue, Watching, EntryFits, IsPairIn, clause_at, pair_of, list_of, Grown, AreReasons, AreTrue, Keeps, Shifted, Watches}
+use Rattle.propagate.specs.Visiting.{Scene, scene, IsConflict, CanWatch, Stops, AreTrueIn, entries_of}
 use Rattle.propagate.specs.declared.watch.Watch.{Watch}
 use Rattle.propagate.proofs.KeepLaws.{grown_not, grown_twice, held_grown, visiting_grown, shifted_held, true_grown, true_shifted, true_one_more}
+use Rattle.propagate.proofs.WatchLaws.{one_entry}
 
 pub keeps_not : (a : Assigned) (w : Watching) → Keeps a a w w
 keeps_not a w = record { grown = grown_not a; same_clauses = refl; same_count = refl; reasoned = λ h. h; held = λ v visiting h. h }
@@ -36,16 +37,6 @@ keeps_codes a b w x k h =
 
 pub grown_has : (a b : Assigned) (l : ℕ) → Grown a b → has a.lits l ≡ true → has b.lits l ≡ true
 grown_has a b l g h = subst (λ (z : Assigned). has z.lits l ≡ true) (sym g.is) (has-append a.lits g.more l ∙ or_left (has a.lits l) (has g.more l) h)
-
--- one more entry's clause has a true literal
-pub goes_on : (a b : Assigned) (w : Watching) (code at : ℕ) (entry : Watch) → Grown a b → slice_get (list_of w code) at ≡ Some entry → HasTrue b.lits (clause_at w.clauses entry.clause) → Goes (scene a w) (scene b w) code at (at + 1)
-goes_on a b w code at entry g found holds = record {
-  true_before = λ h. true_one_more b w code at entry (slice_get_within (list_of w code) at entry found) (get_or_from_slice_get (list_of w code) at entry entry found) holds (true_grown a b w code at g h);
-  fewer = omega arith;
-}
-
-pub entry_within : (w : Watching) (code at : ℕ) (entry : Watch) → slice_get (list_of w code) at ≡ Some entry → at < length (list_of w code)
-entry_within w code at entry found = slice_get_within (list_of w code) at entry found
 
 -- a clause of two literals, one of which is false
 pub binary_reason : (a : Assigned) (w : Watching) (code : ℕ) (entry : Watch) → EntryFits w code entry → entry.is_binary ≡ true → has a.lits (complement code) ≡ true → IsReason w.clauses a.lits entry.blocker entry.clause
@@ -85,12 +76,6 @@ keeps_shifted a w x code at k other open_literal s h apart is_in not_false one =
   held = λ v visiting held. shifted_held a v w x k other open_literal s.same_clauses h apart is_in not_false one held;
 }
 
-pub goes_shifted : (a : Assigned) (w x : Watching) (code at : ℕ) → Shifted w x code at → Goes (scene a w) (scene a x) code at at
-goes_shifted a w x code at s = record {
-  true_before = λ h. true_shifted a w x code at s h;
-  fewer = let e = s.shorter in omega (arith, e);
-}
-
 pub reason_by : (clauses : List (List ℕ)) (lits codes : List ℕ) (l k : ℕ) → k < length clauses → has (clause_at clauses k) l ≡ true → codes ≡ clause_at clauses k → OthersFalse lits codes l → IsReason clauses lits l k
 reason_by clauses lits codes l k attached is_in is others = record {
   attached = attached;
@@ -108,16 +93,55 @@ pub record AtEntry (first s : Scene) (code at : ℕ) : Type 0 where
   pub before : AreTrueIn s code at
   pub within : at ≤ entries_of s code
 
-pub next_entry : (first s t : Scene) (code at next : ℕ) → AtEntry first s code at → Keeps s.assigned t.assigned s.watching t.watching → Goes s t code at next → at < entries_of s code → next ≤ at + 1 → at ≤ next → AtEntry first t code next
-next_entry first s t code at next h k g within low high = record {
-  keeps = keeps_twice first.assigned s.assigned t.assigned first.watching s.watching t.watching h.keeps k;
-  before = g.true_before h.before;
-  within = let e = g.fewer in omega (arith, e, within, low, high);
-}
-
 pub at_first : (a : Assigned) (w : Watching) (code : ℕ) → AtEntry (scene a w) (scene a w) code 0
 at_first a w code = record { keeps = keeps_not a w; before = tt; within = omega arith }
 
--- the entries up to the next place have nothing to say
-pub at_next : (first s : Scene) (code at next : ℕ) → AtEntry first s code at → next ≤ entries_of s code → (AreTrueIn s code at → AreTrueIn s code next) → AtEntry first s code next
-at_next first s code at next h within all_true = record { keeps = h.keeps; before = all_true h.before; within = within }
+-- the loop over the entries before one has to move
+pub record Going (a b : Assigned) (w : Watching) (code from at : ℕ) : Type 0 where
+  pub keeps : Keeps a b w w
+  pub behind : from ≤ at
+  pub within : at ≤ length (list_of w code)
+  pub true_before : AreTrue a w code from → AreTrue b w code at
+
+pub going_first : (a : Assigned) (w : Watching) (code from : ℕ) → from ≤ length (list_of w code) → Going a a w code from from
+going_first a w code from within = record { keeps = keeps_not a w; behind = omega arith; within = within; true_before = λ h. h }
+
+pub going_on : (a b c : Assigned) (w : Watching) (code from at : ℕ) (entry : Watch) → Going a b w code from at → Keeps b c w w → slice_get (list_of w code) at ≡ Some entry → HasTrue c.lits (clause_at w.clauses entry.clause) → Going a c w code from (at + 1)
+going_on a b c w code from at entry g k found holds =
+    let inside = slice_get_within (list_of w code) at entry found in
+    let behind = g.behind in
+    record {
+      keeps = keeps_twice a b c w w w g.keeps k;
+      behind = omega (arith, behind);
+      within = omega (arith, inside);
+      true_before = λ h. true_one_more c w code at entry inside (get_or_from_slice_get (list_of w code) at entry entry found) holds (true_grown b c w code at k.grown (g.true_before h));
+    }
+
+pub going_stops : (a b c : Assigned) (w : Watching) (code from at other fresh : ℕ) (entry : Watch) → Going a b w code from at → Keeps b c w w → slice_get (list_of w code) at ≡ Some entry → CanWatch (scene c w) code entry other fresh
+    → AreTrue a w code from → Stops (scene c w) code from at other fresh
+going_stops a b c w code from at other fresh entry g k found can h = record {
+  behind = g.behind;
+  there = slice_get_within (list_of w code) at entry found;
+  true_before = true_grown b c w code at k.grown (g.true_before h);
+  entry = entry;
+  is_entry = found;
+  can_watch = can;
+}
+
+-- the entry moves
+pub stopped : (first s : Scene) (b : Assigned) (x : Watching) (code from at other fresh : ℕ) → AtEntry first s code from → Keeps s.assigned b s.watching s.watching → (h : Stops (scene b s.watching) code from at other fresh)
+    → Shifted s.watching x code at → Watches s.watching x h.entry.clause other fresh → AtEntry first (scene b x) code at
+stopped first s b x code from at other fresh e k h shifted watches = record {
+  keeps = keeps_twice first.assigned s.assigned b first.watching s.watching x e.keeps
+      (keeps_twice s.assigned b b s.watching s.watching x k (keeps_shifted b s.watching x code at h.entry.clause other fresh shifted watches h.can_watch.apart h.can_watch.is_in h.can_watch.not_false h.can_watch.one));
+  before = true_shifted b s.watching x code at shifted h.true_before;
+  within = let l = shifted.shorter in let there = h.there in omega (arith, l, there);
+}
+
+-- what the entry at this place may watch
+pub can_watch_at : (s : Scene) (code from at other fresh : ℕ) (h : Stops s code from at other fresh) (e : Watch) → slice_get (list_of s.watching code) at ≡ Some e → CanWatch s code e other fresh
+can_watch_at s code from at other fresh h e found = subst (λ (x : Watch). CanWatch s code x other fresh) (one_entry (list_of s.watching code) at h.entry e h.is_entry found) h.can_watch
+
+-- another literal than one that is false
+pub fresh_not : (lits : List ℕ) (code fresh : ℕ) → has lits (complement code) ≡ true → has lits (complement fresh) ≡ false → fresh ≡ code → ⊥
+fresh_not lits code fresh is_false not_false e = true≢false (sym is_false ∙ ap (λ (n : ℕ). has lits (complement n)) (sym e) ∙ not_false)

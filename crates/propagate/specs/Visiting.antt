@@ -1,12 +1,18 @@
 -- What a look at an entry of a literal's list answers.
 --     Scene                      what is true, and what the clauses watch
---     Looks old new code at ..   the answer to a look at the entry at this place of the literal's list
-use Rattle.std.specs.Prelude.{◌≡◌, ℕ, ◌+◌, ◌<◌, length}
+--     Looks s code entry ..      the answer to a look at an entry of the literal's list
+--     Passes s code from ..      the answer to a pass over the entries from this place on
+use Rattle.std.specs.Prelude.{◌≡◌, ℕ, ◌<◌, ◌≤◌, true, false, length}
+use Rattle.clause_pool.specs.Literal.{complement}
+use Rattle.clause_pool.specs.Clause.{has}
 use Rattle.propagate.specs.Trail.{AllFalse}
 use Rattle.propagate.specs.Assignment.{Assigned}
-use Rattle.propagate.specs.Watching.{Watching, AreTrue, clause_at, list_of}
+use Rattle.propagate.specs.Watching.{Watching, HasTrue, AreTrue, IsOneOf, IsEntryAt, clause_at, list_of, pair_of}
+use Rattle.propagate.specs.declared.watch.Watch.{Watch}
 use Rattle.propagate.specs.declared.visit.Outcome.{Outcome}
-use Rattle.propagate.specs.declared.visit.Outcome.TheVariants.{Kept, Moved, Conflict}
+use Rattle.propagate.specs.declared.visit.Outcome.TheVariants.{Kept, Fresh, Conflict}
+use Rattle.propagate.specs.declared.visit.Pass.{Pass}
+use Rattle.propagate.specs.declared.visit.Pass.TheVariants as Pass
 
 pub record Scene : Type 0 where
   pub assigned : Assigned
@@ -31,11 +37,31 @@ pub record IsConflict (s : Scene) (k : ℕ) : Type 0 where
   pub attached : k < length s.watching.clauses
   pub all_false : AllFalse s.assigned.lits (clause_at s.watching.clauses k)
 
-pub record Goes (s t : Scene) (code at next : ℕ) : Type 0 where
-  pub true_before : AreTrueIn s code at → AreTrueIn t code next
-  pub fewer : entries_of t code + at + 1 ≡ entries_of s code + next
+-- the clause of an entry may watch this literal in place of the one whose entry it is
+pub record CanWatch (s : Scene) (code : ℕ) (entry : Watch) (other fresh : ℕ) : Type 0 where
+  pub one : IsOneOf (pair_of s.watching entry.clause) other
+  pub not_code : other ≡ code → ⊥
+  pub other_in : has (clause_at s.watching.clauses entry.clause) other ≡ true
+  pub is_in : has (clause_at s.watching.clauses entry.clause) fresh ≡ true
+  pub below : fresh < length s.watching.lists
+  pub apart : other ≡ fresh → ⊥
+  pub not_false : has s.assigned.lits (complement fresh) ≡ false
 
-abbrev pub Looks : Scene → Scene → ℕ → ℕ → Outcome → Type 0
-Looks s t code at Kept = Goes s t code at (at + 1)
-Looks s t code at Moved = Goes s t code at at
-Looks s t code at (Conflict k) = IsConflict t k
+abbrev pub Looks : Scene → ℕ → Watch → Outcome → Type 0
+Looks s code entry Kept = HasTrue s.assigned.lits (clause_at s.watching.clauses entry.clause)
+Looks s code entry (Fresh other fresh) = CanWatch s code entry other fresh
+Looks s code entry Conflict = IsConflict s entry.clause
+
+-- the entry at this place is the first to move
+pub record Stops (s : Scene) (code from at other fresh : ℕ) : Type 0 where
+  pub behind : from ≤ at
+  pub there : at < entries_of s code
+  pub true_before : AreTrueIn s code at
+  pub entry : Watch
+  pub is_entry : IsEntryAt s.watching code at entry
+  pub can_watch : CanWatch s code entry other fresh
+
+abbrev pub Passes : Scene → ℕ → ℕ → Pass → Type 0
+Passes s code from Pass.Done = AllTrueIn s code
+Passes s code from (Pass.Shift at other fresh) = Stops s code from at other fresh
+Passes s code from (Pass.Conflict k) = IsConflict s k

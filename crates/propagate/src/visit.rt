@@ -5,7 +5,7 @@ ghost use Rattle.clause_pool.specs.Literal.{complement};
 ghost use Rattle.clause_pool.specs.Clause.{has};
 ghost use Rattle.propagate.specs.Trail.{OthersFalse, AllFalse, IsReason};
 ghost use Rattle.propagate.specs.Assignment.{IsAssigned, AreLiteralsOf};
-ghost use Rattle.propagate.specs.Visiting.{scene, Looks, IsConflict, AllTrueIn};
+ghost use Rattle.propagate.specs.Visiting.{scene, Looks, Passes, IsConflict, AllTrueIn};
 ghost use Rattle.propagate.specs.Watching.{Grown, AreReasons, Keeps, AreTrue, HasTrue, IsWatching, EntryFits, clause_at, pair_of, list_of};
 
 use crate::assignment::Assignment;
@@ -14,13 +14,23 @@ use crate::watches::WatchedClauses;
 use clause_pool::Lit;
 use pb_base::Memory;
 
-/// What a look at one entry of a list did.
+/// What a look at one entry of a list finds.
 pub(crate) enum Outcome {
-    /// The entry stays where it is.
+    /// A literal of the clause is true.
     Kept,
-    /// The clause watches another literal, and the last entry of the list took its place.
-    Moved,
+    /// This other watched literal isn't true, and this further literal isn't false.
+    Fresh(u32, u32),
     /// All literals of the clause are false.
+    Conflict,
+}
+
+/// Where a pass over the entries of a list comes to.
+pub(crate) enum Pass {
+    /// The clause of each entry has a true literal.
+    Done,
+    /// The clause of the entry at this place is to watch these two.
+    Shift(usize, u32, u32),
+    /// All literals of this clause are false.
     Conflict(u32),
 }
 
@@ -84,105 +94,83 @@ pub(crate) fn put_last(assignment: &mut Assignment, code: u32, clause: u32) -> b
     true
 }
 
-// Whether the blocker of an entry is true, or the other literal that its clause watches, which for a clause of two is the
-// blocker.
+// Looks at an entry of the list of a literal that has become false: at its blocker first, and at its clause where that isn't true.
 #[inline(always)]
-fn is_true_by(assignment: &Assignment, watched: &WatchedClauses, code: u32, entry: Watch) -> bool
-    requires codes { length watched.now.lists ≡ assignment.now.vars + assignment.now.vars }
+fn look(assignment: &mut Assignment, watched: &WatchedClauses, code: u32, entry: Watch) -> Outcome
+    requires codes { length watched.now.lists ≡ assignment.old.vars + assignment.old.vars }
     requires watching { IsWatching watched.now }
     requires fits { EntryFits watched.now code entry }
-    ensures { OnTrue result (HasTrue assignment.now.lits (clause_at watched.now.clauses entry.clause)) }
+    requires is_false { has assignment.old.lits (complement code) ≡ true }
+    ensures keeps { Keeps assignment.old assignment.new watched.now watched.now }
+    ensures looks { Looks (scene assignment.new watched.now) code entry result }
 {
     if assignment.is_true(entry.blocker) {
-        return true;
+        return Outcome::Kept;
     }
-    if entry.is_binary {
-        return false;
+    if !entry.is_binary {
+        return look_further(assignment, watched, code, entry);
     }
-    assignment.is_true(watched.other_of(entry.clause, code))
+    if put_last(assignment, entry.blocker, entry.clause) {
+        return Outcome::Kept;
+    }
+    Outcome::Conflict
 }
 
-// The next entry of a literal's list to look at, from this place on: those before it have nothing to say.
+// The same where the entry alone doesn't tell: looks at the clause.
 #[inline(always)]
-fn next_place(
-    assignment: &Assignment,
+fn look_further(
+    assignment: &mut Assignment,
     watched: &WatchedClauses,
     code: u32,
-    from: usize,
-) -> Option<usize>
-    requires codes { length watched.now.lists ≡ assignment.now.vars + assignment.now.vars }
+    entry: Watch,
+) -> Outcome
+    requires codes { length watched.now.lists ≡ assignment.old.vars + assignment.old.vars }
+    requires watching { IsWatching watched.now }
+    requires fits { EntryFits watched.now code entry }
+    requires is_false { has assignment.old.lits (complement code) ≡ true }
+    ensures keeps { Keeps assignment.old assignment.new watched.now watched.now }
+    ensures looks { Looks (scene assignment.new watched.now) code entry result }
+{
+    let clause = entry.clause;
+    let other = watched.other_of(clause, code);
+    if assignment.is_true(other) {
+        return Outcome::Kept;
+    }
+    if let Some(fresh) = other_open(assignment, watched.codes(clause), other) {
+        return Outcome::Fresh(other, fresh);
+    }
+    if put_last(assignment, other, clause) {
+        return Outcome::Kept;
+    }
+    Outcome::Conflict
+}
+
+// Goes through the entries of a literal that has become false, from this place on, up to the first that has to move or whose clause
+// is false.
+#[inline(always)]
+fn go_through(assignment: &mut Assignment, watched: &WatchedClauses, code: u32, from: usize) -> Pass
+    requires codes { length watched.now.lists ≡ assignment.old.vars + assignment.old.vars }
     requires code { code < length watched.now.lists }
+    requires is_false { has assignment.old.lits (complement code) ≡ true }
     requires from { from ≤ length (list_of watched.now code) }
-    ensures within { IfSome result (λ at. at < length (list_of watched.now code)) }
-    ensures behind { IfSome result (λ at. from ≤ at) }
-    ensures small { IfSome result (λ at. at + 1 < 2 ^ 64) }
-    ensures true_before { IfSome result (λ at. AreTrue assignment.now watched.now code from
-        → AreTrue assignment.now watched.now code at) }
-    ensures all_true { IfNone result (AreTrue assignment.now watched.now code from
-        → AllTrueIn (scene assignment.now watched.now) code) }
+    ensures keeps { Keeps assignment.old assignment.new watched.now watched.now }
+    ensures passes { AreTrue assignment.old watched.now code from
+        → Passes (scene assignment.new watched.now) code from result }
 {
     let entries = watched.entries(code);
     let mut at = from;
     while at < entries.len() {
-        if !is_true_by(assignment, watched, code, entries[at].watch()) {
-            return Some(at);
+        let entry = entries[at].watch();
+        match look(assignment, watched, code, entry) {
+            Outcome::Kept => {
+                at += 1;
+                continue;
+            }
+            Outcome::Fresh(other, fresh) => return Pass::Shift(at, other, fresh),
+            Outcome::Conflict => return Pass::Conflict(entry.clause),
         }
-        at += 1;
     }
-    None
-}
-
-/// Looks at one entry of the list of a literal that has become false.
-#[inline(always)]
-pub(crate) fn look(
-    assignment: &mut Assignment,
-    watched: &mut WatchedClauses,
-    code: u32,
-    at: usize,
-) -> Result<Outcome, Memory>
-    requires codes { length watched.old.lists ≡ assignment.old.vars + assignment.old.vars }
-    requires code { code < length watched.old.lists }
-    requires is_false { has assignment.old.lits (complement code) ≡ true }
-    requires there { at < length (list_of watched.old code) }
-    ensures keeps { Keeps assignment.old assignment.new watched.old watched.new }
-    ensures looks { IfOk result
-        (Looks (scene assignment.old watched.old) (scene assignment.new watched.new) code at) }
-{
-    let entry = watched.entry(code, at);
-    if !entry.is_binary {
-        return look_further(assignment, watched, code, at);
-    }
-    if put_last(assignment, entry.blocker, entry.clause) {
-        return Ok(Outcome::Kept);
-    }
-    Ok(Outcome::Conflict(entry.clause))
-}
-
-// The same where the entry alone doesn't tell: looks at the clause.
-fn look_further(
-    assignment: &mut Assignment,
-    watched: &mut WatchedClauses,
-    code: u32,
-    at: usize,
-) -> Result<Outcome, Memory>
-    requires codes { length watched.old.lists ≡ assignment.old.vars + assignment.old.vars }
-    requires code { code < length watched.old.lists }
-    requires is_false { has assignment.old.lits (complement code) ≡ true }
-    requires there { at < length (list_of watched.old code) }
-    ensures keeps { Keeps assignment.old assignment.new watched.old watched.new }
-    ensures looks { IfOk result
-        (Looks (scene assignment.old watched.old) (scene assignment.new watched.new) code at) }
-{
-    let clause = watched.entry(code, at).clause;
-    let other = watched.other_of(clause, code);
-    if let Some(fresh) = other_open(assignment, watched.codes(clause), other) {
-        watched.shift(code, at, other, fresh)?;
-        return Ok(Outcome::Moved);
-    }
-    if put_last(assignment, other, clause) {
-        return Ok(Outcome::Kept);
-    }
-    Ok(Outcome::Conflict(clause))
+    Pass::Done
 }
 
 /// Looks at all entries of a literal that has become false, up to the first clause that is false.
@@ -199,19 +187,14 @@ pub(crate) fn visit(
     ensures all_true { result ≡ Ok None → AllTrueIn (scene assignment.new watched.new) code }
 {
     let mut from = 0;
-    while let Some(at) = next_place(assignment, watched, code, from) {
-        let seen = look(assignment, watched, code, at)?;
-        match seen {
-            Outcome::Kept => {
-                from = at + 1;
-                continue;
-            }
-            Outcome::Moved => {
+    loop {
+        match go_through(assignment, watched, code, from) {
+            Pass::Done => return Ok(None),
+            Pass::Shift(at, other, fresh) => {
+                watched.shift(code, at, other, fresh)?;
                 from = at;
-                continue;
             }
-            Outcome::Conflict(clause) => return Ok(Some(clause)),
+            Pass::Conflict(clause) => return Ok(Some(clause)),
         }
     }
-    Ok(None)
 }

@@ -228,11 +228,11 @@ fn moved(block: &mut Vec<ShortWatch>, span: Span) -> Result<Span, Memory>
     })
 }
 
-/// For each of so many literals, how many clauses of a pool it is one of the first two literals of.
+/// For each of so many literals, the count of the clauses of a pool of which it is one of the first two literals, and two more.
 pub(crate) fn rooms_for(alloc: Global, pool: &Pool, literals: usize) -> Result<Vec<u32>, Memory>
     ensures { IfOk result (λ rooms. length rooms.items ≡ literals) }
 {
-    let mut rooms = vec![in alloc; 0; literals]?;
+    let mut rooms = vec![in alloc; 2; literals]?;
     for at in 0..pool.len() {
         let lits = pool.lits(at);
         if lits.len() > 1 {
