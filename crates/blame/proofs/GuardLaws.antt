@@ -1,6 +1,6 @@
 -- A solver over entries, each behind its guard: which sets pass its test, and what it says that no set passes.
-use Rattle.std.proofs.Common.{◌≡◌, ℕ, ◌+◌, ◌*◌, ◌<◌, ◌≤◌, Bool, true, false, not, ◌&&◌, ◌||◌, List, [], ◌∷◌, ◌++◌, Some, None, length, map, get_or, slice_get, refl, sym, ap, subst, ◌∙◌, inl, inr, arith, All, length-append, eqb, filter, slice_index_or, replicate}
-use Rattle.std.proofs.lemmas.Bool.{and_from, cases_Bool, cond-true, cond-false, or_cases, or_left, or_right, eqb-true, false_from_ne_true, false≢true}
+use Rattle.std.proofs.Common.{◌≡◌, ◌==◌, ◌⊎◌, ℕ, ◌+◌, ◌*◌, ◌<◌, ◌≤◌, Bool, true, false, not, ◌&&◌, ◌||◌, List, [], ◌∷◌, ◌++◌, Some, None, length, map, get_or, slice_get, refl, sym, ap, subst, ◌∙◌, inl, inr, arith, All, length-append, eqb, filter, slice_index_or, replicate}
+use Rattle.std.proofs.lemmas.Bool.{and_from, and_parts, eq-eqb, cases_Bool, cond-true, cond-false, or_cases, or_left, or_right, eqb-true, false_from_ne_true, false≢true}
 use Rattle.std.proofs.lemmas.List.{append-nil, length-replicate}
 use Rattle.std.proofs.lemmas.List.Elements.{recursion_from_All}
 use Rattle.std.proofs.lemmas.Option.{slice_get-get_or, get_or_from_slice_get, slice_get_within}
@@ -11,8 +11,8 @@ use Rattle.book_model.specs.Contents.{Contents}
 use Rattle.chains.specs.Growth.{given_of}
 use Rattle.clause_pool.specs.Literal.{literal, complement, is_true}
 use Rattle.clause_pool.specs.Clause.{clause_of, has as has_literal, AreBelow}
-use Rattle.clause_pool.specs.Derivation.{Derivation}
-use Rattle.clause_pool.proofs.LiteralLaws.{complement-positive}
+use Rattle.clause_pool.specs.Derivation.{Derivation, AllFollow}
+use Rattle.clause_pool.proofs.LiteralLaws.{complement-positive, complement-negative}
 use Rattle.clausify.specs.Formulas.{connectives}
 use Rattle.clausify.specs.Items.{rule_item}
 use Rattle.clausify.specs.Lifting.{CodesJust}
@@ -20,19 +20,22 @@ use Rattle.clausify.specs.declared.encoder.Encoder.{Encoder}
 use Rattle.clausify.proofs.Bounds.{connectives_below}
 use Rattle.clausify.proofs.ItemLaws.{meets, item_fits}
 use Rattle.clausify.proofs.ListLaws.{all-append}
-use Rattle.clausify.proofs.Truth.{true_positive}
+use Rattle.clausify.proofs.Truth.{true_positive, true_negative}
 use Rattle.guarded_rules.specs.Guarded.{GuardedItem, guarded, guarded_variables, meets_all_guarded, AllGuardedFit, EncodesGuarded, IsGuarded}
 use Rattle.clausify.proofs.AgreeLaws.{Agree, appended_agree, meets_agree, fits_more}
 use Rattle.guarded_rules.proofs.FitLaws.{guard_appended, fits_guarded}
 use Rattle.guarded_rules.proofs.GuardedLaws.{AllMeetGuarded, all_from_met}
 use Rattle.guarded_rules.proofs.MadeLaws.{guarded_variables-append, guarded_item, guarded_plain, made_below, made_just}
-use Rattle.item_search.specs.Search.{IsMadeOf, IsRefused}
-use Rattle.item_search.proofs.SearchLaws.{refused_denied}
-use Rattle.solver.specs.Solver.{Solving}
+use Rattle.item_search.specs.Search.{CodesSets, IsRefused}
+use Rattle.item_search.proofs.SearchLaws.{refused_denied, core_refused}
+use Rattle.propagate.specs.Trail.{AreBelow as AreLiterals}
+use Rattle.propagate.specs.Quiet.{IsConsistent}
+use Rattle.solver.specs.Answer.{IsCore}
+use Rattle.solver.specs.Solver.{Solving, Onwards}
 use Rattle.blame.specs.Absent.{absent_clause, are_absent, IsUnused, IsDenied}
 use Rattle.blame.specs.Blame.{AreFew, entry_item}
 use Rattle.blame.specs.Entries.{EntryFits}
-use Rattle.blame.specs.Guarding.{IsOn, AreItems, MayAdd, AreFurther, further_true, IsMade, MeetsKept, AreMarked, IsGuardOf, AreGuards, AreFewer, AreStill, IsUntried, IsGuarding}
+use Rattle.blame.specs.Guarding.{IsOn, AreItems, MayAdd, AreFurther, further_true, IsMade, MeetsKept, AreMarked, IsGuardOf, AreGuards, AreFewer, AreStill, IsUntried, GuardedSets, IsGuarding}
 use Rattle.blame.specs.declared.entries.Entry.{Entry}
 use Rattle.blame.specs.declared.marks.Marks.{Marks}
 use Rattle.blame.proofs.AbsentLaws.{just_absent, absent_below, unused_low, absented}
@@ -137,8 +140,8 @@ module _ (b : Contents) (day : ℕ) (book : IsBook b) where
 
   -- what the solver over all of them says
   pub guarding_by : (m : List Entry) (f : Rule) (e : Encoder) (s : Solving) → All (EntryFits b day) m → RuleFits (length b.codes) f
-      → e.truth ≡ length b.codes + length m → IsMade b m f e → IsMadeOf e s → IsGuarding b day f m s
-  guarding_by m f e s fit rule truth made over =
+      → e.truth ≡ length b.codes + length m → IsMade b m f e → given_of s.kernel ≡ e.pool.clauses → s.vars ≡ e.next → IsGuarding b day f m s
+  guarding_by m f e s fit rule truth made clauses variables =
       let n : ℕ = length b.codes in
       let all : ℕ = n + length m in
       let second : Encoder = made.second in
@@ -148,15 +151,14 @@ module _ (b : Contents) (day : ℕ) (book : IsBook b) where
       let free = recursion_from_All (IsUnused denied.used) us denied.free in
       let room : length denied.used ≤ all = omega (arith, denied.counted) in
       let just : CodesJust all both second.pool.clauses second.next = just_second m f made.first second made.items made.further (first_truth m f e made truth) in
-      let next : s.vars ≡ second.next = omega (arith, over.variables, denied.made.next) in
+      let next : s.vars ≡ second.next = omega (arith, variables, denied.made.next) in
       record {
         test = λ x. both x && are_absent us x;
         sets = record {
           just =
               subst (λ (v : ℕ). CodesJust all (λ x. both x && are_absent us x) (given_of s.kernel) v) (sym next)
-              (subst (λ (cs : List (List ℕ)). CodesJust all (λ x. both x && are_absent us x) cs second.next) (sym (over.clauses ∙ denied.made.clauses))
+              (subst (λ (cs : List (List ℕ)). CodesJust all (λ x. both x && are_absent us x) cs second.next) (sym (clauses ∙ denied.made.clauses))
               (just_absent all second.next both second.pool.clauses us (unused_low denied.used all us room free) just));
-          codes = over.codes ∙ truth;
           within = omega (arith, truth, first_truth m f e made truth, next, made.further.made.next, made.items.made.variables);
         };
         passes = λ x kept counted marked met h.
@@ -191,9 +193,9 @@ module _ (b : Contents) (day : ℕ) (book : IsBook b) where
       (absent_below e.next denied.unused
       (unused_low denied.used e.next denied.unused (omega (arith, denied.counted, room)) (recursion_from_All (IsUnused denied.used) denied.unused denied.free))))
 
-  pub made_room : (m : List Entry) (f : Rule) (e : Encoder) → IsMade b m f e → e.truth ≤ e.next
-  made_room m f e made =
-      omega (arith, made.denied.made.next, made.denied.made.truth, made.further.made.next, made.further.made.truth, made.items.made.variables)
+  pub made_room : (m : List Entry) (f : Rule) (e : Encoder) → e.truth ≡ length b.codes + length m → IsMade b m f e → length b.codes ≤ e.next
+  made_room m f e truth made =
+      omega (arith, truth, made.denied.made.next, made.denied.made.truth, made.further.made.next, made.further.made.truth, made.items.made.variables)
 
   room_by : (m : List Entry) (i : ℕ) (e : Encoder) → i ≤ length m → AreFew m → Guarding b m i e → e.next + 512 < 4294967296
   room_by m i e within few h = omega (arith, h.truth, h.made.variables, h.small, within, few, book.codes_limit)
@@ -237,11 +239,91 @@ complement_guard : (v : ℕ) → complement (literal v true) ≡ literal v false
 complement_guard v =
     ap complement (let e : literal v true ≡ 2 * v = omega arith in e) ∙ complement-positive v ∙ (let e : 2 * v + 1 ≡ literal v false = omega arith in e)
 
+complement_other : (v : ℕ) → complement (literal v false) ≡ literal v true
+complement_other v =
+    ap complement (let e : literal v false ≡ 2 * v + 1 = omega arith in e) ∙ complement-negative v ∙ (let e : 2 * v ≡ literal v true = omega arith in e)
+
+complement_value : (v : ℕ) (s : Bool) → complement (literal v s) ≡ literal v (not s)
+complement_value v true = complement_guard v
+complement_value v false = complement_other v
+
+same_variable : (u v : ℕ) (s t : Bool) → literal u s ≡ literal v t → u ≡ v
+same_variable u v true true h = omega (arith, h)
+same_variable u v true false h = absurd (omega (arith, h))
+same_variable u v false true h = absurd (omega (arith, h))
+same_variable u v false false h = omega (arith, h)
+
+same_value : (u v : ℕ) (s t : Bool) → literal u s ≡ literal v t → s ≡ t
+same_value u v true true h = refl
+same_value u v true false h = absurd (omega (arith, h))
+same_value u v false true h = absurd (omega (arith, h))
+same_value u v false false h = refl
+
+literal_low : (v bound : ℕ) (s : Bool) → v < bound → literal v s < 2 * bound
+literal_low v bound true h = omega (arith, h)
+literal_low v bound false h = omega (arith, h)
+
+not_itself : (s : Bool) → not s ≡ s → ⊥
+not_itself true h = false≢true h
+not_itself false h = false≢true (sym h)
+
+abbrev value_but : List Bool → ℕ → ℕ → Bool
+value_but kept but place = has kept place && not (place == but)
+
+-- what a search asks of the literals of guards
+pub guards_below : (n bound : ℕ) (kept : List Bool) (but : ℕ) (lits : List ℕ) → AreGuards n kept but lits → n + length kept ≤ bound → AreLiterals lits (2 * bound)
+guards_below n bound kept but lits h room l is_in =
+    let g : IsGuardOf n kept but l = h l is_in in
+    subst (λ (k : ℕ). k < 2 * bound) (sym g.is) (literal_low (n + g.place) bound (value_but kept but g.place) (omega (arith, g.inside, room)))
+
+pub guards_consistent : (n : ℕ) (kept : List Bool) (but : ℕ) (lits : List ℕ) → AreGuards n kept but lits → IsConsistent lits
+guards_consistent n kept but lits h l is_in other =
+    let g : IsGuardOf n kept but l = h l is_in in
+    let o : IsGuardOf n kept but (complement l) = h (complement l) other in
+    let s : Bool = value_but kept but g.place in
+    let both : literal (n + g.place) (not s) ≡ literal (n + o.place) (value_but kept but o.place) =
+    sym (ap complement g.is ∙ complement_value (n + g.place) s) ∙ o.is in
+    let same : n + g.place ≡ n + o.place = same_variable (n + g.place) (n + o.place) (not s) (value_but kept but o.place) both in
+    let place : o.place ≡ g.place = omega (arith, same) in
+    not_itself s (same_value (n + g.place) (n + o.place) (not s) (value_but kept but o.place) both ∙ ap (value_but kept but) place)
+
+value_true : (a : ℕ → Bool) (u : ℕ) (v : Bool) → a u ≡ v → is_true a (literal u v) ≡ true
+value_true a u true h = true_positive a u ∙ h
+value_true a u false h = true_negative a u ∙ ap not h
+
+split_off : (a b : Bool) → (a && not b) ≡ false → (a ≡ false) ⊎ (b ≡ true)
+split_off true true h = inr refl
+split_off true false h = absurd (false≢true (sym h))
+split_off false b h = inl refl
+
+not_then : (b : Bool) → not b ≡ true → b ≡ true → ⊥
+not_then true h is = false≢true h
+not_then false h is = false≢true is
+
 -- the entries that a search made use of are enough
 module _ (b : Contents) (day : ℕ) (f : Rule) (m : List Entry) (s : Solving) (guarding : IsGuarding b day f m s) (k : Derivation) (lits : List ℕ) (at but n : ℕ) (old new : Marks)
     (first : n ≡ length b.codes) (refused : IsRefused (length b.codes + length m) guarding.test k lits at)
-    (guards : AreGuards n old.kept.items but lits) (fewer : AreFewer old.kept.items new.kept.items)
-    (still : AreStill n (slice_index_or k.clauses at []) old.kept.items new.kept.items) where
+    (guards : AreGuards n old.kept.items but lits) (fewer : AreFewer old.kept.items new.kept.items) (left_out : has new.kept.items but ≡ false)
+    (still : AreStill n but (slice_index_or k.clauses at []) old.kept.items new.kept.items) where
+  -- what the clause denies of the literals is so where just the guards of these entries are there
+  guard_so : (l : ℕ) → (g : IsGuardOf n old.kept.items but l) → has_literal (slice_index_or k.clauses at []) (complement l) ≡ true
+      → has new.kept.items g.place ≡ value_but old.kept.items but g.place
+  guard_so l g denied =
+      let v : Bool = value_but old.kept.items but g.place in
+      elim (cases_Bool v) [
+        | inl on ↦
+            let parts = and_parts (has old.kept.items g.place) (not (g.place == but)) on in
+            let named : has_literal (slice_index_or k.clauses at []) (literal (n + g.place) false) ≡ true =
+            subst (λ (j : ℕ). has_literal (slice_index_or k.clauses at []) j ≡ true)
+            (ap complement g.is ∙ complement_value (n + g.place) v ∙ ap (λ (t : Bool). literal (n + g.place) (not t)) on) denied in
+            still g.place g.inside parts.0 (λ same. not_then (g.place == but) parts.1 (eq-eqb g.place but same)) named ∙ sym on
+        | inr off ↦
+            elim (split_off (has old.kept.items g.place) (g.place == but) off) [
+              | inl gone ↦ false_from_ne_true (has new.kept.items g.place) (λ yes_. false≢true (sym gone ∙ fewer.fewer g.place yes_)) ∙ sym off
+              | inr same ↦ ap (has new.kept.items) (eqb-true g.place but same) ∙ left_out ∙ sym off
+            ]
+      ]
+
   none_used : length old.kept.items ≡ length m → (x : List Bool) → length x ≡ length b.codes → MeetsKept b day x m new.kept.items → holds f x ≡ false
   none_used counted_old x counted met =
       false_from_ne_true (holds f x) (λ yes_.
@@ -252,15 +334,13 @@ module _ (b : Contents) (day : ℕ) (f : Rule) (m : List Entry) (s : Solving) (g
         passes = p.1.1;
         lits_true = λ l is_in.
             let g : IsGuardOf n old.kept.items but l = guards l (in_filter (λ (j : ℕ). has_literal (slice_index_or k.clauses at []) (complement j)) lits l is_in) in
-            let named : has_literal (slice_index_or k.clauses at []) (literal (n + g.place) false) ≡ true =
-            subst (λ (j : ℕ). has_literal (slice_index_or k.clauses at []) j ≡ true) (ap complement g.is ∙ complement_guard (n + g.place))
-            (filtered (λ (j : ℕ). has_literal (slice_index_or k.clauses at []) (complement j)) lits l is_in) in
+            let v : Bool = value_but old.kept.items but g.place in
             let inside : g.place < length m = subst (λ (j : ℕ). g.place < j) counted_old g.inside in
-            ap (is_true (has p.0)) g.is
-            ∙ true_positive (has p.0) (n + g.place)
-            ∙ ap (λ (j : ℕ). has p.0 (j + g.place)) first
+            let so : has p.0 (n + g.place) ≡ v =
+            ap (λ (j : ℕ). has p.0 (j + g.place)) first
             ∙ p.1.2 g.place inside
-            ∙ still g.place g.inside g.is_kept named;
+            ∙ guard_so l g (filtered (λ (j : ℕ). has_literal (slice_index_or k.clauses at []) (complement j)) lits l is_in) in
+            ap (is_true (has p.0)) g.is ∙ value_true (has p.0) (n + g.place) v so;
       }))
 
   pub marked_used : new.needed.items ≡ old.needed.items → AreMarked b day f m old → AreMarked b day f m new
@@ -286,3 +366,20 @@ module _ (b : Contents) (day : ℕ) (f : Rule) (m : List Entry) (s : Solving) (g
         none = none_used counted_old;
         each = λ j needed. absurd (false≢true (sym (none_needed (length m) j) ∙ sym (ap (λ (ts : List Bool). has ts j) none) ∙ needed));
       }
+
+-- what the solver derives changes nothing
+pub sets_onwards : (n : ℕ) (test : List Bool → Bool) (old new : Solving) → GuardedSets n test old → Onwards old new → GuardedSets n test new
+sets_onwards n test old new h more = record {
+  just =
+      subst (λ (v : ℕ). CodesJust n test (given_of new.kernel) v) (sym more.same_vars)
+      (subst (λ (cs : List (List ℕ)). CodesJust n test cs old.vars) (sym more.extends.same_given) h.just);
+  within = omega (arith, more.same_vars, h.within);
+}
+
+-- where the solver closes, no set passes with what its clause denies
+pub guarded_refused : (n : ℕ) (test : List Bool → Bool) (s : Solving) (lits : List ℕ) (at : ℕ) → GuardedSets n test s → AreLiterals lits (2 * n) → AllFollow s.kernel
+    → IsCore s.kernel lits at → IsRefused n test s.kernel lits at
+guarded_refused n test s lits at h below follow core =
+    let t : Solving = record { kernel = s.kernel; vars = s.vars; codes = n } in
+    let sets : CodesSets n test t = record { just = h.just; codes = refl; within = h.within } in
+    core_refused n test t sets lits below at follow core

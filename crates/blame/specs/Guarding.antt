@@ -5,21 +5,29 @@
 --     AreMarked b day f m marks   no set meets the kept entries and the rule, and of those that are called needed, each is so
 --     IsOn b m y                  the set meets the entries of which it has the guard
 --     IsMade b m f e              an encoder has made clauses that are satisfied where a set is so, and the rule holds
---     AreGuards n kept but lits   each of these literals says that the guard of a kept entry is there, but for that at one place
+--     AreGuards n kept but lits   each of these literals says whether the guard of an entry is there: just those of the kept ones are, but for
+--                                 that at one place
+--     GuardedSets n test s        just the sets of n codes and guards that pass the test begin what satisfies a solver's clauses
+--     IsGuardedAnswer n test s lits answer
+--                                 where a search answers by a clause, no set passes the test with literals that this clause denies
 --     IsGuarding b day f m s      what meets the kept entries and the rule passes the test of the solver with just their guards
-use Rattle.std.specs.Prelude.{◌≡◌, ◌⊎◌, ℕ, ◌+◌, ◌*◌, ◌<◌, Bool, true, false, List, [], ◌∷◌, Some, length, map, slice_get, replicate, if◌then◌else◌}
+use Rattle.std.specs.Prelude.{◌≡◌, ◌==◌, ◌⊎◌, ℕ, ◌+◌, ◌*◌, ◌<◌, ◌≤◌, ◌&&◌, Bool, true, false, not, List, [], ◌∷◌, Some, length, map, slice_get, replicate, if◌then◌else◌}
 use Rattle.std.specs.List.{list_all, AllByRecursion}
 use Rattle.pb_base.specs.Rule.{Rule, holds}
 use Rattle.pb_base.specs.Sets.{has}
 use Rattle.book_model.specs.Contents.{Contents}
 use Rattle.clause_pool.specs.Literal.{literal}
 use Rattle.clause_pool.specs.Clause.{has as has_literal, clause_of, clause_true, IsBelow}
+use Rattle.chains.specs.Growth.{given_of}
 use Rattle.clausify.specs.Encoding.{EncodesAlone}
+use Rattle.clausify.specs.Lifting.{CodesJust}
 use Rattle.clausify.specs.declared.encoder.Encoder.{Encoder}
 use Rattle.clausify.proofs.ItemLaws.{meets}
 use Rattle.guarded_rules.specs.Guarded.{GuardedItem, AllGuardedFit, EncodesGuarded, IsGuarded, meets_all_guarded}
 use Rattle.solver.specs.Solver.{Solving}
-use Rattle.item_search.specs.Search.{CodesSets}
+use Rattle.solver.specs.declared.answer.Answer.{Answer}
+use Rattle.solver.specs.declared.answer.Answer.TheVariants.{Set, Closed, Spent}
+use Rattle.item_search.specs.Search.{IsRefused}
 use Rattle.blame.specs.Absent.{IsDenied}
 use Rattle.blame.specs.Blame.{entry_item}
 use Rattle.blame.specs.Entries.{meets_entry}
@@ -65,11 +73,11 @@ pub record IsMade (b : Contents) (m : List Entry) (f : Rule) (e : Encoder) : Typ
   pub further : AreFurther b m first second
   pub denied : IsDenied (length b.codes) second e
 
+-- the literal says whether the guard of an entry is there: it is so where the entry is kept, but for that at one place
 pub record IsGuardOf (n : ℕ) (kept : List Bool) (but l : ℕ) : Type 0 where
   pub place : ℕ
   pub inside : place < length kept
-  pub is_kept : has kept place ≡ true
-  pub is : l ≡ literal (n + place) true
+  pub is : l ≡ literal (n + place) (has kept place && not (place == but))
 
 abbrev pub AreGuards : ℕ → List Bool → ℕ → List ℕ → Type 0
 AreGuards n kept but lits = (l : ℕ) → has_literal lits l ≡ true → IsGuardOf n kept but l
@@ -93,9 +101,18 @@ pub record IsUntried (count : ℕ) (marks : Marks) : Type 0 where
   pub kept : marks.kept.items ≡ replicate count true
   pub needed : marks.needed.items ≡ replicate count false
 
+pub record GuardedSets (n : ℕ) (test : List Bool → Bool) (s : Solving) : Type 0 where
+  pub just : CodesJust n test (given_of s.kernel) s.vars
+  pub within : n ≤ s.vars
+
+abbrev pub IsGuardedAnswer : ℕ → (List Bool → Bool) → Solving → List ℕ → Answer → Type 0
+IsGuardedAnswer n test s lits (Set x) = Unit {0}
+IsGuardedAnswer n test s lits (Closed at) = IsRefused n test s.kernel lits at
+IsGuardedAnswer n test s lits (Spent learnt) = Unit {0}
+
 pub record IsGuarding (b : Contents) (day : ℕ) (f : Rule) (m : List Entry) (s : Solving) : Type 0 where
   pub test : List Bool → Bool
-  pub sets : CodesSets (length b.codes + length m) test s
+  pub sets : GuardedSets (length b.codes + length m) test s
   pub passes : (x kept : List Bool) → length x ≡ length b.codes → length kept ≡ length m → MeetsKept b day x m kept → holds f x ≡ true
       → (y : List Bool) × ((length y ≡ length b.codes + length m) × (test y ≡ true) × ((k : ℕ) → k < length m → has y (length b.codes + k) ≡ has kept k))
 
@@ -104,9 +121,9 @@ pub record AreFewer (old new : List Bool) : Type 0 where
   pub counted : length new ≡ length old
   pub fewer : (k : ℕ) → has new k ≡ true → has old k ≡ true
 
--- those stay marked of which a clause denies the guard
-abbrev pub AreStill : ℕ → List ℕ → List Bool → List Bool → Type 0
-AreStill n clause old new = (k : ℕ) → k < length old → has old k ≡ true → has_literal clause (literal (n + k) false) ≡ true → has new k ≡ true
+-- those stay marked of which a clause denies the guard, but for that at one place
+abbrev pub AreStill : ℕ → ℕ → List ℕ → List Bool → List Bool → Type 0
+AreStill n but clause old new = (k : ℕ) → k < length old → has old k ≡ true → (k ≡ but → ⊥) → has_literal clause (literal (n + k) false) ≡ true → has new k ≡ true
 
 pub record AreNamed (n count : ℕ) (clause : List ℕ) (named : List Bool) : Type 0 where
   pub counted : length named ≡ count

@@ -10,6 +10,7 @@ ghost use Rattle.blame.specs.Blame.{AreFew, entry_item};
 ghost use Rattle.blame.specs.Guarding.{AreFurther, IsGuarding, IsMade, MayAdd};
 ghost use Rattle.blame.specs.Plain.{AddsPlain};
 
+use crate::deciding::solver_deciding;
 use crate::entries::Entry;
 use crate::plain::{add_plain_demand, is_plain_demand};
 use crate::unused::deny_unused;
@@ -17,7 +18,6 @@ use book_model::Book;
 use clause_pool::Lit;
 use clausify::Encoder;
 use guarded_rules::{add_guarded_demand, add_guarded_supplement};
-use item_search::solver_over;
 use pb_base::{Day, Formula, Memory};
 use solver::Solver;
 use std::alloc::Global;
@@ -35,9 +35,9 @@ pub(crate) fn guarded_solver(
     requires rule { RuleFits (length book.now.codes) rule.now }
     ensures { IfOk result (IsGuarding book.now day rule.now entries.now) }
 {
-    let _codes = book.codes();
+    let codes = book.codes().len();
     let encoder = guarded(alloc, book, day, rule, entries)?;
-    let solver = solver_over(alloc, encoder)?;
+    let solver = solver_deciding(alloc, encoder, codes)?;
     Ok(solver)
 }
 

@@ -4,6 +4,7 @@
 mod blamed;
 mod codes;
 mod coding;
+mod deciding;
 mod entries;
 mod guarding;
 mod kept;
@@ -13,6 +14,7 @@ mod meeting;
 mod missed;
 mod near;
 mod noting;
+mod order;
 mod places;
 mod plain;
 mod rotating;

@@ -2,7 +2,6 @@
 
 use crate::entries::Entry;
 use crate::places::Places;
-use crate::values::is_met;
 use book_model::Book;
 
 /// The kept entries that a set misses, counted no further than three. Of two both places are told, of one the first.
@@ -38,15 +37,17 @@ impl Missed {
             first: entries.len(),
             second: entries.len(),
         };
-        missed.look_at(book, values, entries, kept, self.first);
-        missed.look_at(book, values, entries, kept, self.second);
-        let mut left = places.count(code);
-        while left > 0 && missed.count < 3 {
-            let Some((place, before)) = places.link(left) else {
+        missed.look_at(book, values, entries, places, kept, self.first);
+        missed.look_at(book, values, entries, places, kept, self.second);
+        let value = values.get(code as usize).copied();
+        for stand in places.of_code(code) {
+            if missed.count >= 3 {
                 return missed;
-            };
-            missed.look_at(book, values, entries, kept, place);
-            left = before.min(left - 1);
+            }
+            // A clause is met where the code makes it true now.
+            if stand.value.is_none() || stand.value != value {
+                missed.look_at(book, values, entries, places, kept, stand.entry);
+            }
         }
         missed
     }
@@ -56,6 +57,7 @@ impl Missed {
         book: &Book,
         values: &[bool],
         entries: &[Entry],
+        places: &Places,
         kept: &[bool],
         place: usize,
     ) {
@@ -65,7 +67,7 @@ impl Missed {
         let Some(entry) = entries.get(place) else {
             return;
         };
-        if is_met(book, values, *entry) {
+        if places.is_met(book, values, place, *entry) {
             return;
         }
         if self.count == 0 {

@@ -65,6 +65,26 @@ fn add_plain_rule(
     Ok(())
 }
 
+/// Puts the literals of such a demand behind others. Others have none.
+pub(crate) fn push_clause(lits: &mut Vec<Lit>, demand: &Demand) -> Result<(), Memory> {
+    match demand {
+        Demand::Rule { on, rule } => push_rule_clause(lits, *on, rule),
+        Demand::One(_) => Ok(()),
+        Demand::Most(_) => Ok(()),
+    }
+}
+
+fn push_rule_clause(lits: &mut Vec<Lit>, on: Option<u32>, rule: &Formula) -> Result<(), Memory> {
+    let first = lits.len();
+    if let Some(code) = on {
+        lits.push(Lit::new(code, false))?;
+    }
+    if !push_literals(lits, rule)? {
+        lits.truncate(first);
+    }
+    Ok(())
+}
+
 // The guard isn't there, or the code isn't.
 fn begun_literals(alloc: Global, guard: u32, on: Option<u32>) -> Result<Vec<Lit>, Memory>
     ensures { IfOk result (λ lits. lits.items ≡ begun_literals guard on) }

@@ -14,6 +14,7 @@ use crate::entries::Entry;
 use crate::guarding::guarded_solver;
 use crate::kept::blamed_by_marks;
 use crate::marks::{Marks, untried};
+use crate::order::{from_the_last, least_used_first};
 use crate::places::Places;
 use crate::trying::{try_all, try_without};
 use book_model::Book;
@@ -87,11 +88,15 @@ fn shrink_hinted_by(
     ensures among { IfOk result (λ found. IfSome found (λ m. Among first.now m.entries.items)) }
 {
     let mut marks = untried(alloc, first.len())?;
-    let none = try_all(alloc, book, day, rule, budget, first, solver, &mut marks)?;
-    if !none {
+    let found = try_all(alloc, book, day, rule, budget, first, solver, &mut marks)?;
+    let Some(place) = found else {
         return Ok(None);
-    }
-    let blamed = shrink_on(alloc, book, day, rule, budget, first, solver, &mut marks)?;
+    };
+    let codes = book.codes().len();
+    let order = least_used_first(alloc, solver.kernel(), place, codes, first.len())?;
+    let blamed = shrink_on(
+        alloc, book, day, rule, budget, first, solver, &mut marks, &order,
+    )?;
     Ok(Some(blamed))
 }
 
@@ -115,10 +120,13 @@ fn shrink_by(
     ensures among { IfOk result (λ m. Among first.now m.entries.items) }
 {
     let mut marks = untried(alloc, first.len())?;
-    shrink_on(alloc, book, day, rule, budget, first, solver, &mut marks)
+    let order = from_the_last(alloc, first.len())?;
+    shrink_on(
+        alloc, book, day, rule, budget, first, solver, &mut marks, &order,
+    )
 }
 
-// The same of those that are kept, one after another.
+// The same of those that are kept, one after another in this order.
 fn shrink_on(
     alloc: Global,
     book: &Book,
@@ -128,6 +136,7 @@ fn shrink_on(
     first: &[Entry],
     solver: &mut Solver,
     marks: &mut Marks,
+    order: &[usize],
 ) -> Result<Blamed, Memory>
     requires few { AreFew first.now }
     requires rule { RuleFits (length book.now.codes) rule.now }
@@ -139,11 +148,9 @@ fn shrink_on(
     ensures among { IfOk result (λ m. Among first.now m.entries.items) }
 {
     let places = Places::of(alloc, book, first)?;
-    let mut at = first.len();
-    while at > 0 {
-        at -= 1;
+    for at in order {
         try_without(
-            alloc, book, day, rule, budget, first, &places, solver, marks, at,
+            alloc, book, day, rule, budget, first, &places, solver, marks, *at,
         )?;
     }
     blamed_by_marks(alloc, book, day, rule, first, marks)

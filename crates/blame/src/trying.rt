@@ -1,5 +1,5 @@
 //! Tries to leave entries out, by one solver in which each of them has a guard.
-ghost use Rattle.std.specs.Prelude.{◌≡◌, ◌+◌, ◌^◌, ◌<◌, ◌≤◌, ◌&&◌, ℕ, [], All, IfOk, OnOk, length, slice_index_or, true, false};
+ghost use Rattle.std.specs.Prelude.{◌≡◌, ◌==◌, not, ◌+◌, ◌^◌, ◌<◌, ◌≤◌, ◌&&◌, ℕ, [], All, IfOk, IfSome, OnOk, length, slice_index_or, true, false};
 ghost use Rattle.pb_base.specs.Sets.{has};
 ghost use Rattle.pb_base.specs.declared.limits.TheConstants.{MOST_BUDGET};
 ghost use Rattle.book_model.specs.Book.{RuleFits};
@@ -9,15 +9,15 @@ ghost use Rattle.blame.specs.Entries.{EntryFits};
 ghost use Rattle.blame.specs.Blame.{AreFew};
 ghost use Rattle.blame.specs.Guarding.{AreFewer, AreGuards, AreMarked, AreNamed, AreStill, IsGuarding, IsUntried};
 
+use crate::deciding::search_guarded;
 use crate::entries::Entry;
 use crate::marks::Marks;
 use crate::noting::note_need;
 use crate::places::Places;
 use book_model::Book;
 use clause_pool::{Lit, Ref};
-use item_search::{Outcome, search};
 use pb_base::{Day, Formula, Memory};
-use solver::Solver;
+use solver::{Answer, Solver};
 use std::alloc::Global;
 
 /// Lets the entry at a place go, if no set meets the others that are kept together with the rule, and with it all that the search
@@ -36,7 +36,6 @@ pub(crate) fn try_without(
 ) -> Result<(), Memory>
     requires few { AreFew entries.now }
     requires rule { RuleFits (length book.now.codes) rule.now }
-    requires there { at < length entries.now }
     requires guarding { IsGuarding book.now day rule.now entries.now solver.old }
     requires marked { AreMarked book.now day rule.now entries.now marks.old }
     requires some { 0 < budget }
@@ -49,18 +48,19 @@ pub(crate) fn try_without(
     }
     let codes = book.codes().len();
     let lits = guards_but(alloc, codes, &marks.kept, at)?;
-    let outcome = search(solver, &lits, budget)?;
-    match outcome {
-        Outcome::Shown(set) => note_need(alloc, book, day, rule, entries, places, marks, at, &set),
-        Outcome::NotShown(place) => {
-            keep_used(alloc, codes, marks, solver, place)?;
+    let answer = search_guarded(solver, &lits, budget)?;
+    match answer {
+        Answer::Set(set) => note_need(alloc, book, day, rule, entries, places, marks, at, &set),
+        Answer::Closed(place) => {
+            keep_used(alloc, codes, marks, solver, place, at)?;
             Ok(())
         }
-        Outcome::Left(_) => Ok(()),
+        Answer::Spent(_) => Ok(()),
     }
 }
 
-/// Looks whether no set meets all entries together with the rule. Then those are kept of which the search made use.
+/// Looks whether no set meets all entries together with the rule. Then those are kept of which the search made use, and the place of the
+/// clause is told of which it made it.
 pub(crate) fn try_all(
     alloc: Global,
     book: &Book,
@@ -70,26 +70,27 @@ pub(crate) fn try_all(
     entries: &[Entry],
     solver: &mut Solver,
     marks: &mut Marks,
-) -> Result<bool, Memory>
+) -> Result<Option<Ref>, Memory>
     requires few { AreFew entries.now }
     requires guarding { IsGuarding book.now day rule.now entries.now solver.old }
     requires untried { IsUntried (length entries.now) marks.old }
     requires some { 0 < budget }
     requires most { budget ≤ MOST_BUDGET }
     ensures guarding { IsGuarding book.now day rule.now entries.now solver.new }
-    ensures marked { IfOk result (λ none. none ≡ true
-        → AreMarked book.now day rule.now entries.now marks.new) }
+    ensures marked { IfOk result (λ found. IfSome found
+        (λ place. AreMarked book.now day rule.now entries.now marks.new)) }
 {
     let codes = book.codes().len();
-    let lits = guards_but(alloc, codes, &marks.kept, entries.len())?;
-    let outcome = search(solver, &lits, budget)?;
-    match outcome {
-        Outcome::NotShown(place) => {
-            keep_used(alloc, codes, marks, solver, place)?;
-            Ok(true)
+    let count = entries.len();
+    let lits = guards_but(alloc, codes, &marks.kept, count)?;
+    let answer = search_guarded(solver, &lits, budget)?;
+    match answer {
+        Answer::Closed(place) => {
+            keep_used(alloc, codes, marks, solver, place, count)?;
+            Ok(Some(place))
         }
-        Outcome::Shown(_) => Ok(false),
-        Outcome::Left(_) => Ok(false),
+        Answer::Set(_) => Ok(None),
+        Answer::Spent(_) => Ok(None),
     }
 }
 
@@ -97,40 +98,62 @@ fn is_untried(marks: &Marks, at: usize) -> bool {
     marks.kept.get(at) == Some(&true) && marks.needed.get(at) == Some(&false)
 }
 
-// The literals that the guards of the entries are there that are kept, but for that at a place. The last comes first: so clauses
-// that are learnt watch the guard that is assumed last.
+// The literals that the guards of the entries are there that are kept, but for that at a place, and that the others aren't. The last
+// comes first: so clauses that are learnt watch the guard that is assumed last.
 fn guards_but(alloc: Global, first: u32, kept: &[bool], but: usize) -> Result<Vec<Lit>, Memory>
     requires { first + length kept.now < 2 ^ 31 }
     ensures { IfOk result (λ lits. AreGuards first kept.now but lits.items) }
 {
-    let mut lits = Vec::new(alloc);
+    let mut lits = Vec::with_capacity(alloc, kept.len())?;
     for place in (0..kept.len()).rev() {
-        if place != but && kept[place] {
-            lits.push(Lit::new(first + place as u32, true))?;
-        }
+        let stays = stays(kept, but, place);
+        lits.push(Lit::new(first + place as u32, stays))?;
     }
     Ok(lits)
 }
 
+// Whether the entry at a place is kept, and isn't the one at the other place.
+fn stays(kept: &[bool], but: usize, place: usize) -> bool
+    requires { place < length kept.now }
+    ensures { result ≡ (has kept.now place && not (place == but)) }
+{
+    kept[place] && place != but
+}
+
 // No set meets the entries of which the clause at a place of the solver's kernel denies the guards, together with the rule: only these
-// are kept.
+// are kept, and not the one that was left out.
 fn keep_used(
     alloc: Global,
     first: u32,
     marks: &mut Marks,
     solver: &Solver,
     at: Ref,
+    but: usize,
 ) -> Result<(), Memory>
     requires { at < length solver.now.kernel.clauses }
     ensures needed { marks.new.needed.items ≡ marks.old.needed.items }
     ensures kept { AreFewer marks.old.kept.items marks.new.kept.items }
+    ensures left_out { OnOk result (has marks.new.kept.items but ≡ false) }
     ensures used { let clause = slice_index_or solver.now.kernel.clauses at [] in
-        OnOk result (AreStill first clause marks.old.kept.items marks.new.kept.items) }
+        OnOk result (AreStill first but clause marks.old.kept.items marks.new.kept.items) }
 {
     let pool = solver.kernel().pool();
     let named = denied_by(alloc, first, marks.kept.len(), pool.lits(at))?;
     keep_named(&mut marks.kept, &named);
+    leave_out(&mut marks.kept, but);
     Ok(())
+}
+
+// The entry at a place isn't kept.
+fn leave_out(kept: &mut Vec<bool>, but: usize)
+    ensures fewer { AreFewer kept.old.items kept.new.items }
+    ensures left_out { has kept.new.items but ≡ false }
+    ensures others { (k : ℕ) → (k ≡ but → ⊥) → has kept.old.items k ≡ true
+        → has kept.new.items k ≡ true }
+{
+    if but < kept.len() {
+        kept[but] = false;
+    }
 }
 
 // For each of so many entries, whether a clause denies its guard.

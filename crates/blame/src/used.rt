@@ -40,6 +40,48 @@ pub(crate) fn marks_by(
     Ok(marks)
 }
 
+/// How often each of so many variables, of which this is the first, stands in the given clauses of the chains on which the clause at a
+/// place rests.
+pub(crate) fn use_counts(
+    alloc: Global,
+    kernel: &Kernel,
+    at: Ref,
+    first: u32,
+    count: usize,
+) -> Result<Vec<u32>, Memory> {
+    let used = used_clauses(alloc, kernel, at)?;
+    let mut counts = vec![in alloc; 0; count]?;
+    for place in kernel.given()..kernel.pool().len() {
+        if used.get(place) == Some(&true) {
+            count_chain(&mut counts, kernel, place, first);
+        }
+    }
+    Ok(counts)
+}
+
+fn count_chain(counts: &mut [u32], kernel: &Kernel, at: Ref, first: u32)
+    requires { at < length kernel.now.clauses }
+{
+    if let Some(start) = kernel.start_of(at) {
+        count_given(counts, kernel, start, first);
+    }
+    for pair in kernel.pairs_of(at) {
+        count_given(counts, kernel, pair.pair().with, first);
+    }
+}
+
+fn count_given(counts: &mut [u32], kernel: &Kernel, at: Ref, first: u32) {
+    let pool = kernel.pool();
+    if at >= kernel.given() || at >= pool.len() {
+        return;
+    }
+    for lit in pool.lits(at) {
+        if let Some(count) = counts.get_mut(lit.var().wrapping_sub(first) as usize) {
+            *count = count.saturating_add(1);
+        }
+    }
+}
+
 fn is_denied(kernel: &Kernel, at: Ref, code: u32) -> bool {
     let pool = kernel.pool();
     let denied = Lit::new(code, false);
