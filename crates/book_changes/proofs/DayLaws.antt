@@ -1,5 +1,6 @@
 -- The runs of two books lie in slices of both.
 use Rattle.std.proofs.Common.{inl, inr, ◌≡◌, ℕ, zero, suc, ◌+◌, ◌-◌, ◌<◌, ◌≤◌, Bool, true, false, List, [], ◌∷◌, nat_le, refl, sym, subst, ◌∙◌, arith, All}
+use Rattle.std.proofs.lemmas.Bool.Decides.{nat_tests}
 use Rattle.std.specs.List.{flat_map, range_with_len, AllByRecursion}
 use Rattle.std.specs.Prelude.{None, Some, Result, Ok, Err, IfOk, if◌then◌else◌}
 use Rattle.pb_base.specs.Answers.{Answers, IfRefused}
@@ -51,23 +52,17 @@ run_of b s r h from to ordered = record {
 }
 
 later_bounds : (a b : ℕ) → (a ≤ later a b) × (b ≤ later a b)
-later_bounds a b = elim (cases_Bool (nat_le a b)) [
-  | inl is ↦ let e : later a b ≡ b = cond-true (nat_le a b) b a is in let le : a ≤ b = leb-true a b is in (omega (arith, e, le), omega (arith, e))
-  | inr is ↦ let e : later a b ≡ a = cond-false (nat_le a b) b a is in let lt : b < a = leb-false a b is in (omega (arith, e), omega (arith, e, lt))
-]
+later_bounds a b = (grind (arith, nat_tests), grind (arith, nat_tests))
 
 earlier_bounds : (a b : ℕ) → (earlier a b ≤ a) × (earlier a b ≤ b)
-earlier_bounds a b = elim (cases_Bool (nat_le a b)) [
-  | inl is ↦ let e : earlier a b ≡ a = cond-true (nat_le a b) a b is in let le : a ≤ b = leb-true a b is in (omega (arith, e), omega (arith, e, le))
-  | inr is ↦ let e : earlier a b ≡ b = cond-false (nat_le a b) a b is in let lt : b < a = leb-false a b is in (omega (arith, e, lt), omega (arith, e))
-]
+earlier_bounds a b = (grind (arith, nat_tests), grind (arith, nat_tests))
 
 module _ (first second : Contents) where
   shared_run : (s t : Slice) → IsSliceOf first s → IsSliceOf second t → AllByRecursion (IsJointRun first second) (shared s t)
   shared_run s t one other = elim (cases_Bool (nat_le (later s.first t.first) (earlier s.last t.last))) [
     | inl some ↦
         let ordered : later s.first t.first ≤ earlier s.last t.last = leb-true (later s.first t.first) (earlier s.last t.last) some in
-        subst (AllByRecursion (IsJointRun first second)) (sym (cond-true (nat_le (later s.first t.first) (earlier s.last t.last)) (shared_days s t ∷ []) [] some)) (
+        rw some (
           record {
             one = run_of first s (shared_days s t) one (later_bounds s.first t.first).0 (earlier_bounds s.last t.last).0 ordered;
             other = run_of second t (shared_days s t) other (later_bounds s.first t.first).1 (earlier_bounds s.last t.last).1 ordered;
@@ -75,7 +70,7 @@ module _ (first second : Contents) where
           tt,
         )
     | inr none ↦
-        subst (AllByRecursion (IsJointRun first second)) (sym (cond-false (nat_le (later s.first t.first) (earlier s.last t.last)) (shared_days s t ∷ []) [] none)) tt
+        rw none tt
   ]
 
   shared_runs : (s : Slice) (ts : List Slice) → IsSliceOf first s → AllByRecursion (IsSliceOf second) ts → AllByRecursion (IsJointRun first second) (flat_map (shared s) ts)
@@ -133,21 +128,9 @@ refused b (Err (Refused fault)) are = are
 refused b (Err Memory) are = tt
 
 -- the first day of a run is in both terms
-in_both : (one other : Bool) → one ≡ true → other ≡ true → (if one then (if other then None else Some Second) else Some First) ≡ None
-in_both true true h k = refl
-in_both true false h k = absurd (false≢true k)
-in_both false other h k = absurd (false≢true h)
-
 pub inside : (first second : Contents) (r : Slice) → IsJointRun first second r → outside first second r.first ≡ None
 inside first second r run =
-    in_both (is_within first.first first.last r.first) (is_within second.first second.last r.first)
-    (within_from first.first first.last r.first run.one.from run.one.to) (within_from second.first second.last r.first run.other.from run.other.to)
-
-pub books_on : (first second : Contents) (r : Slice) → IsJointRun first second r → IsBook first → IsBook second → IsReleasable first → IsReleasable second → AreBooks first second r.first
-books_on first second r run book other released others = record {
-  one = record { book = book; releasable = released; first = run.one.from; last = run.one.to };
-  other = record { book = other; releasable = others; first = run.other.from; last = run.other.to };
-}
+    rw (within_from first.first first.last r.first run.one.from run.one.to, within_from second.first second.last r.first run.other.from run.other.to) refl
 
 pub never_outside : (first second : Contents) (r : Slice) (book : Outside) → IsJointRun first second r → outside first second r.first ≡ Some book → ⊥
 never_outside first second r book run is = let none : outside first second r.first ≡ None = inside first second r run in cc

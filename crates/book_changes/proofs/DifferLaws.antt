@@ -1,5 +1,6 @@
 -- The notes of a comparison with what each book selects, and what it means that there are none.
 use Rattle.std.proofs.Common.{◌≡◌, ℕ, zero, suc, true, List, [], ◌∷◌, ◌++◌, Some, map, refl, sym, ap, subst, ◌∙◌, inl, inr, All}
+use Rattle.pb_base.proofs.PartLaws.{none_in_parts}
 use Rattle.std.specs.List.{AllZip, AllByRecursion, filter, slice_get}
 use Rattle.std.specs.Option.{is_none}
 use Rattle.std.proofs.lemmas.Bool.{cases_Bool, cond-true, cond-false}
@@ -38,9 +39,9 @@ module _ (first second : Contents) (day budget : ℕ) where
   note_made : (id : List ℕ) (note : CompareNote) (made : DifferNote) → IsNote first second day budget id note → IsSelected first second day note made → IsDifferNote first second day budget id made
   note_made id (compared.Finding position names) (Differs at car has next) h s = (
     s.0 ∙ h.0,
-    subst (DiffersWith first second day id) (sym s.1) h.1,
-    s.2 ∙ ap (λ (i : List ℕ). chosen first day i (named first.codes names)) h.0 ∙ ap (λ (ns : List (List ℕ)). chosen first day id (named first.codes ns)) (sym s.1),
-    s.3 ∙ ap (λ (i : List ℕ). chosen second day i (named second.codes names)) h.0 ∙ ap (λ (ns : List (List ℕ)). chosen second day id (named second.codes ns)) (sym s.1),
+    rw s.1 h.1,
+    rw (s.1, ← h.0) s.2,
+    rw (s.1, ← h.0) s.3,
   )
   note_made id (compared.Finding position names) (Undecided at) h s = absurd s
   note_made id (compared.Undecided position learnt) (Differs at car has next) h s = absurd s
@@ -57,63 +58,52 @@ module _ (first second : Contents) (day budget : ℕ) where
 
   pub parts_made : (ids : List (List ℕ)) (notes : List CompareNote) (made : List DifferNote) → InParts (IsNoted first second day budget) ids notes → AllZip (IsSelected first second day) notes made
       → InParts (IsDifferNoted first second day budget) ids made
-  parts_made [] notes made parts zip = none made (subst (λ (ns : List CompareNote). AllZip (IsSelected first second day) ns made) parts zip)
+  parts_made [] notes made parts zip = none made (rw parts at zip)
     where
       none : (ms : List DifferNote) → AllZip (IsSelected first second day) [] ms → ms ≡ []
       none [] h = refl
       none (m ∷ ms) h = absurd h
   parts_made (id ∷ ids) notes made parts zip =
-      let s = zip_split (IsSelected first second day) parts.0 parts.1 made (subst (λ (ns : List CompareNote). AllZip (IsSelected first second day) ns made) parts.2 zip) in
+      let s = zip_split (IsSelected first second day) parts.0 parts.1 made (rw parts.2 at zip) in
       (s.own, s.later, s.whole, noted_made id parts.0 s.own parts.3 s.own_zip, parts_made ids parts.1 s.later parts.4 s.later_zip)
 
   -- each note's car gets other parts
   notes_true : (ids : List (List ℕ)) (notes : List CompareNote) → InParts (IsNoted first second day budget) ids notes → AllByRecursion (IsTrueNote first second day) notes
-  notes_true [] notes parts = subst (AllByRecursion (IsTrueNote first second day)) (sym parts) tt
+  notes_true [] notes parts = rw parts tt
   notes_true (id ∷ ids) notes parts = by parts.0 parts.1 parts.2 parts.3 (notes_true ids parts.1 parts.4)
     where
       true_one : (note : CompareNote) → IsNote first second day budget id note → IsTrueNote first second day note
-      true_one (compared.Finding position names) h = subst (λ (i : List ℕ). DiffersWith first second day i names) (sym h.0) h.1
+      true_one (compared.Finding position names) h = rw h.0 h.1
       true_one (compared.Undecided position learnt) h = tt
 
       by : (own rest : List CompareNote) → notes ≡ own ++ rest → IsNoted first second day budget id own → AllByRecursion (IsTrueNote first second day) rest
           → AllByRecursion (IsTrueNote first second day) notes
-      by [] rest is h later = subst (AllByRecursion (IsTrueNote first second day)) (sym is) later
-      by (note ∷ []) rest is h later = subst (AllByRecursion (IsTrueNote first second day)) (sym is) (true_one note h, later)
+      by [] rest is h later = rw is later
+      by (note ∷ []) rest is h later = rw is (true_one note h, later)
       by (note ∷ other ∷ more) rest is h later = absurd h
 
   pub all_true : (ids : List (List ℕ)) (notes : List CompareNote) → InParts (IsNoted first second day budget) ids notes → All (IsTrueNote first second day) notes
   all_true ids notes parts = All-from_recursion (IsTrueNote first second day) notes (notes_true ids notes parts)
 
   -- without a note each position is the same in each car of both
-  none_differ : (ids : List (List ℕ)) (notes : List DifferNote) → notes ≡ [] → InParts (IsDifferNoted first second day budget) ids notes → AllByRecursion (AreAlike first second day) ids
-  none_differ [] notes empty parts = tt
-  none_differ (id ∷ ids) notes empty parts = by parts.0 parts.1 parts.2 parts.3 (λ e. none_differ ids parts.1 e parts.4)
-    where
-      by : (own rest : List DifferNote) → notes ≡ own ++ rest → IsDifferNoted first second day budget id own → (rest ≡ [] → AllByRecursion (AreAlike first second day) ids)
-          → AllByRecursion (AreAlike first second day) (id ∷ ids)
-      by [] rest is h later = (h, later (sym is ∙ empty))
-      by (note ∷ more) rest is h later = let clash : note ∷ (more ++ rest) ≡ [] = sym is ∙ empty in cc
-
   each_id : (ps : List Position) (k : ℕ) (p : Position) → AllByRecursion (AreAlike first second day) (map (λ q. q.id) ps) → slice_get ps k ≡ Some p → AreAlike first second day p.id
   each_id [] k p h is = cc
-  each_id (q ∷ ps) zero p h is = let same : q ≡ p = cc in subst (λ (r : Position). AreAlike first second day r.id) same h.0
+  each_id (q ∷ ps) zero p h is = let same : p ≡ q = cc in rw same h.0
   each_id (q ∷ ps) (suc k) p h is = each_id ps k p h.1 is
 
   each_added : (ps : List Position) (k : ℕ) (p : Position) → AllByRecursion (AreAlike first second day) (filter (λ id. is_none (position_place first id)) (map (λ q. q.id) ps))
       → slice_get ps k ≡ Some p → is_none (position_place first p.id) ≡ true → AreAlike first second day p.id
   each_added [] k p h is only = cc
   each_added (q ∷ ps) zero p h is only =
-      let same : q ≡ p = cc in
-      let rest : List (List ℕ) = filter (λ id. is_none (position_place first id)) (map (λ (r : Position). r.id) ps) in
-      let here : is_none (position_place first q.id) ≡ true = ap (λ (r : Position). is_none (position_place first r.id)) same ∙ only in
-      let all : AllByRecursion (AreAlike first second day) (q.id ∷ rest) =
-      subst (AllByRecursion (AreAlike first second day)) (cond-true (is_none (position_place first q.id)) (q.id ∷ rest) rest here) h in
-      subst (λ (r : Position). AreAlike first second day r.id) same all.0
+      let same : p ≡ q = cc in
+      let here : is_none (position_place first q.id) ≡ true = rw same at only in
+      let all = rw here at h in
+      rw same all.0
   each_added (q ∷ ps) (suc k) p h is only =
-      let rest : List (List ℕ) = filter (λ id. is_none (position_place first id)) (map (λ (r : Position). r.id) ps) in
-      let later : AllByRecursion (AreAlike first second day) rest = elim (cases_Bool (is_none (position_place first q.id))) [
-        | inl some ↦ (subst (AllByRecursion (AreAlike first second day)) (cond-true (is_none (position_place first q.id)) (q.id ∷ rest) rest some) h).1
-        | inr none ↦ subst (AllByRecursion (AreAlike first second day)) (cond-false (is_none (position_place first q.id)) (q.id ∷ rest) rest none) h
+      let later : AllByRecursion (AreAlike first second day) (filter (λ id. is_none (position_place first id)) (map (λ (r : Position). r.id) ps)) =
+      elim (cases_Bool (is_none (position_place first q.id))) [
+        | inl some ↦ (let all = rw some at h in all.1)
+        | inr none ↦ rw none at h
       ] in
       each_added ps k p later is only
 
@@ -121,7 +111,7 @@ module _ (first second : Contents) (day budget : ℕ) where
 pub same_on_day : (first second : Contents) (day budget : ℕ) (notes : List DifferNote) → InParts (IsDifferNoted first second day budget) (ids_of_either first second) notes → KeepsCars first second day
     → notes ≡ [] → (names : List (List ℕ)) → IsCar first day names → HaveSameParts first second day (named first.codes names) (named second.codes names)
 same_on_day first second day budget notes parts keeps empty names car =
-    let alike = none_differ first second day budget (ids_of_either first second) notes empty parts in
+    let alike = none_in_parts (IsDifferNoted first second day budget) (ids_of_either first second) notes empty parts in
     let kept = keeps names car in
     let common : IsCommon first second day names = record {
       distinct = car.distinct;

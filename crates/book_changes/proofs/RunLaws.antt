@@ -1,5 +1,6 @@
 -- What is told of the first day of a run holds on all its days.
 use Rattle.std.proofs.Common.{◌≡◌, ℕ, ◌+◌, ◌<◌, Bool, true, List, [], ◌∷◌, ◌++◌, Option, Some, length, take, get_or, sym, ap, subst, ◌∙◌}
+use Rattle.shared_work.proofs.JoinLaws.{zip-append}
 use Rattle.std.specs.List.{AllZip, IsDistinct}
 use Rattle.std.specs.Option.{option_map, option_to_list}
 use Rattle.std.specs.Prelude.{Ok, Err}
@@ -56,22 +57,15 @@ some_common first second r releasable apart run keeps =
 
 -- what is said by a search for a car of both
 pub any_common : (first second : Contents) (day budget : ℕ) (found : RuleAnswer) → IsCommonAnswer first second day budget found → IsAnyCommon first second day budget (common_by found)
-any_common first second day budget (Met x) common = common
+any_common first second day budget (Met x) common = (picked first.codes x, common.1)
 any_common first second day budget NotMet none = none
 any_common first second day budget Left left = left
-
-pub zip_push : {X Y : Type 0} (R : X → Y → Type 0) (xs : List X) (x : X) (ys : List Y) (y : Y) → AllZip R xs ys → R x y → AllZip R (xs ++ x ∷ []) (ys ++ y ∷ [])
-zip_push R [] x [] y zip one = (one, tt)
-zip_push R [] x (z ∷ ys) y zip one = absurd zip
-zip_push R (w ∷ xs) x [] y zip one = absurd zip
-zip_push R (w ∷ xs) x (z ∷ ys) y zip one = (zip.0, zip_push R xs x ys y zip.1 one)
 
 -- of the pair at one place more
 pub zip_more : {X Y : Type 0} (R : X → Y → Type 0) (xs : List X) (i : ℕ) (d : X) (ys more : List Y) (y : Y) → i < length xs → AllZip R (take i xs) ys → R (get_or xs i d) y
     → more ≡ ys ++ y ∷ [] → AllZip R (take (i + 1) xs) more
 zip_more {X} {Y} R xs i d ys more y within zip one is =
-    subst (λ (zs : List Y). AllZip R (take (i + 1) xs) zs) (sym is)
-    (subst (λ (ws : List X). AllZip R ws (ys ++ y ∷ [])) (sym (take_more xs i d within)) (zip_push R (take i xs) (get_or xs i d) ys y zip one))
+    rw (is, take_more xs i d within) (zip-append R (take i xs) (get_or xs i d ∷ []) ys (y ∷ []) zip (one, tt))
 
 -- a car that gets other parts is one of both
 pub first_car : (first second : Contents) (day : ℕ) (id : List ℕ) (names : List (List ℕ)) → DiffersWith first second day id names → IsCar first day names
@@ -84,7 +78,7 @@ pub few_on : (b : Contents) (r : Slice) (x : List Bool) → IsReleasable b → I
 few_on b r x releasable run good = few_from_sound b r.first x (releasable.sound r.first run.from run.to x good)
 
 pub some_part : (o : Option Variant) (v : Variant) (uses : List PartUse) → o ≡ Some v → option_to_list (option_map use_of o) ≡ uses → option_to_list (Some (use_of v)) ≡ uses
-some_part o v uses is are = sym (ap (λ (p : Option Variant). option_to_list (option_map use_of p)) is) ∙ are
+some_part o v uses is are = rw is at are
 
 -- the set of a car's names
 pub names_made : (codes names : List (List ℕ)) → AreNamed codes names → IsDistinct same_name names → set_of_names codes names ≡ Ok (named codes names)

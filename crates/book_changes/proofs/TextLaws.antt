@@ -3,7 +3,7 @@ use Rattle.std.proofs.Common.{◌≡◌, ℕ, zero, suc, ◌+◌, ◌-◌, ◌<�
 use Rattle.std.specs.List.{flat_map, filter}
 use Rattle.std.specs.Result.{OnOk}
 use Rattle.std.proofs.lemmas.Bool.{cases_Bool, cond-true, cond-false}
-use Rattle.std.proofs.lemmas.List.{drop_more, length-drop, take_all, take_more}
+use Rattle.std.proofs.lemmas.List.{drop_more, length-drop, take_all, take_more, drop_all}
 use Rattle.book_model.specs.Contents.{Contents}
 use Rattle.book_model.specs.declared.record.Slice.{Slice}
 use Rattle.book_changes.specs.Alike.{same_lines}
@@ -11,12 +11,6 @@ use Rattle.book_changes.specs.ChangesText.{block_text, blocks_text, days_behind,
 use Rattle.book_changes.specs.Joining.{closed_behind, closed_by, pending_after, pending_behind}
 use Rattle.book_changes.specs.declared.run.RunNotes.{RunNotes}
 use Rattle.book_model.specs.Slices.{days_from_to}
-
-drop_past : {X : Type 0} (xs : List X) (i : ℕ) → length xs ≤ i → drop i xs ≡ []
-drop_past [] zero past = refl
-drop_past [] (suc i) past = refl
-drop_past (x ∷ xs) zero past = absurd (omega (arith, past))
-drop_past (x ∷ xs) (suc i) past = drop_past xs i (omega (arith, past))
 
 module _ (runs : List RunNotes) (i : ℕ) (d : RunNotes) (within : i < length runs) where
   abbrev r : RunNotes
@@ -28,26 +22,22 @@ module _ (runs : List RunNotes) (i : ℕ) (d : RunNotes) (within : i < length ru
   pub block_more : (one other : Contents) (budget : ℕ) (text more all : List ℕ) → more ≡ text ++ block_text one other budget (take i runs) r rest → text ++ blocks_text one other budget (take i runs) (drop i runs) ≡ all
       → more ++ blocks_text one other budget (take (i + 1) runs) rest ≡ all
   block_more one other budget text more all is so_far =
-      let own : List ℕ = block_text one other budget (take i runs) r rest in
-      let next : blocks_text one other budget (take i runs) (drop i runs) ≡ own ++ blocks_text one other budget (take (i + 1) runs) rest =
-      ap (blocks_text one other budget (take i runs)) (drop_more runs i d within) ∙ ap (λ (rs : List RunNotes). own ++ blocks_text one other budget rs rest) (sym (take_more runs i d within)) in
-      ap (λ (t : List ℕ). t ++ blocks_text one other budget (take (i + 1) runs) rest) is ∙ append_assoc text own (blocks_text one other budget (take (i + 1) runs) rest)
-      ∙ ap (λ (t : List ℕ). text ++ t) (sym next) ∙ so_far
+      let split = drop_more runs i d within in
+      rw (is, append_assoc, take_more runs i d within) (rw split at so_far)
 
   pub count_more : (count own more all : ℕ) → own ≡ told_once (take i runs) r → more ≡ count + own → count + told_behind (take i runs) (drop i runs) ≡ all
       → more + told_behind (take (i + 1) runs) rest ≡ all
   count_more count own more all is adds so_far =
-      let next : told_behind (take i runs) (drop i runs) ≡ told_once (take i runs) r + told_behind (take (i + 1) runs) rest =
-      ap (told_behind (take i runs)) (drop_more runs i d within) ∙ ap (λ (rs : List RunNotes). told_once (take i runs) r + told_behind rs rest) (sym (take_more runs i d within)) in
+      let next : told_behind (take i runs) (drop i runs) ≡ told_once (take i runs) r + told_behind (take (i + 1) runs) rest = rw (drop_more runs i d within, take_more runs i d within) refl in
       omega (arith, is, adds, so_far, next)
 
 pub blocks_ended : (one other : Contents) (runs : List RunNotes) (i budget : ℕ) (text all : List ℕ) → length runs ≤ i → text ++ blocks_text one other budget (take i runs) (drop i runs) ≡ all → text ≡ all
 blocks_ended one other runs i budget text all past so_far =
-    sym (ap (λ (rs : List RunNotes). text ++ blocks_text one other budget (take i runs) rs) (drop_past runs i past) ∙ append-nil text) ∙ so_far
+    rw (drop_all i runs past, append-nil) at so_far
 
 pub count_ended : (runs : List RunNotes) (i count all : ℕ) → length runs ≤ i → count + told_behind (take i runs) (drop i runs) ≡ all → count ≡ all
 count_ended runs i count all past so_far =
-    let none : told_behind (take i runs) (drop i runs) ≡ 0 = ap (told_behind (take i runs)) (drop_past runs i past) in omega (arith, none, so_far)
+    let none : told_behind (take i runs) (drop i runs) ≡ 0 = ap (told_behind (take i runs)) (drop_all i runs past) in omega (arith, none, so_far)
 
 -- a slice to the end
 pub rest_whole : (runs : List RunNotes) (i : ℕ) → take (length runs - (i + 1)) (drop (i + 1) runs) ≡ drop (i + 1) runs
@@ -55,31 +45,14 @@ rest_whole runs i = take_all (length runs - (i + 1)) (drop (i + 1) runs) (omega 
 
 -- days that touch are pending on, others close those before
 join_step : (pending days : Slice) (later : List Slice) → closed_behind pending days ++ flat_map pair_text (joined_from (pending_behind pending days) later) ≡ flat_map pair_text (joined_from pending (days ∷ later))
-join_step pending days later = elim (cases_Bool (touches pending.last days.first)) [
-  | inl touch ↦
-      ap (λ (t : List ℕ). t ++ flat_map pair_text (joined_from (pending_behind pending days) later)) (cond-true (touches pending.last days.first) [] (pair_text pending) touch)
-      ∙ ap (λ (s : Slice). flat_map pair_text (joined_from s later)) (cond-true (touches pending.last days.first) (days_from_to pending.first days.last) days touch)
-      ∙ sym (ap (flat_map pair_text) (cond-true (touches pending.last days.first) (joined_from (days_from_to pending.first days.last) later) (pending ∷ joined_from days later) touch))
-  | inr apart ↦
-      ap (λ (t : List ℕ). t ++ flat_map pair_text (joined_from (pending_behind pending days) later)) (cond-false (touches pending.last days.first) [] (pair_text pending) apart)
-      ∙ ap (λ (s : Slice). pair_text pending ++ flat_map pair_text (joined_from s later)) (cond-false (touches pending.last days.first) (days_from_to pending.first days.last) days apart)
-      ∙ sym (ap (flat_map pair_text) (cond-false (touches pending.last days.first) (joined_from (days_from_to pending.first days.last) later) (pending ∷ joined_from days later) apart))
-]
+join_step pending days later = elim (cases_Bool (touches pending.last days.first)) [ inl touch ↦ rw touch refl | inr apart ↦ rw apart refl ]
 
 run_step : (r : RunNotes) (pending : Slice) (s : RunNotes) (later : List RunNotes)
     → closed_by r pending s ++ flat_map pair_text (days_behind r (pending_after r pending s) later) ≡ flat_map pair_text (days_behind r pending (s ∷ later))
 run_step r pending s later =
-    let behind : List Slice = map (λ (t : RunNotes). t.days) (filter (same_lines r) later) in
     elim (cases_Bool (same_lines r s)) [
-      | inl same ↦
-          ap (λ (t : List ℕ). t ++ flat_map pair_text (joined_from (pending_after r pending s) behind)) (cond-true (same_lines r s) (closed_behind pending s.days) [] same)
-          ∙ ap (λ (t : Slice). closed_behind pending s.days ++ flat_map pair_text (joined_from t behind)) (cond-true (same_lines r s) (pending_behind pending s.days) pending same)
-          ∙ join_step pending s.days behind
-          ∙ sym (ap (λ (ts : List RunNotes). flat_map pair_text (joined_from pending (map (λ (t : RunNotes). t.days) ts))) (cond-true (same_lines r s) (s ∷ filter (same_lines r) later) (filter (same_lines r) later) same))
-      | inr other ↦
-          ap (λ (t : List ℕ). t ++ flat_map pair_text (joined_from (pending_after r pending s) behind)) (cond-false (same_lines r s) (closed_behind pending s.days) [] other)
-          ∙ ap (λ (t : Slice). flat_map pair_text (joined_from t behind)) (cond-false (same_lines r s) (pending_behind pending s.days) pending other)
-          ∙ sym (ap (λ (ts : List RunNotes). flat_map pair_text (joined_from pending (map (λ (t : RunNotes). t.days) ts))) (cond-false (same_lines r s) (s ∷ filter (same_lines r) later) (filter (same_lines r) later) other))
+      | inl same ↦ rw same (join_step pending s.days (map (λ (t : RunNotes). t.days) (filter (same_lines r) later)))
+      | inr other ↦ rw other refl
     ]
 
 -- one run more among those behind
@@ -88,19 +61,13 @@ pub days_more : (r : RunNotes) (later : List RunNotes) (i : ℕ) (s : RunNotes) 
     → more ++ flat_map pair_text (days_behind r next (drop (i + 1) later)) ≡ all
 days_more r later i s pending next text more all within read opens puts so_far =
     let rest : List RunNotes = drop (i + 1) later in
-    let front : drop i later ≡ s ∷ rest = drop_more later i s within ∙ ap (λ (t : RunNotes). t ∷ rest) (sym read) in
-    ap (λ (t : List ℕ). t ++ flat_map pair_text (days_behind r next rest)) puts
-    ∙ ap (λ (o : Slice). text ++ closed_by r pending s ++ flat_map pair_text (days_behind r o rest)) opens
-    ∙ append_assoc text (closed_by r pending s) (flat_map pair_text (days_behind r (pending_after r pending s) rest))
-    ∙ ap (λ (t : List ℕ). text ++ t) (run_step r pending s rest)
-    ∙ ap (λ (rs : List RunNotes). text ++ flat_map pair_text (days_behind r pending rs)) (sym front)
-    ∙ so_far
+    let front : drop i later ≡ s ∷ rest = rw (drop_more later i s within, ← read) refl in
+    rw (puts, opens, append_assoc, run_step r pending s rest) (rw front at so_far)
 
 days_ended : (r : RunNotes) (later : List RunNotes) (i : ℕ) (pending : Slice) (text more all : List ℕ) → length later ≤ i → more ≡ text ++ pair_text pending
     → text ++ flat_map pair_text (days_behind r pending (drop i later)) ≡ all → more ≡ all
 days_ended r later i pending text more all past puts so_far =
-    puts ∙ ap (λ (t : List ℕ). text ++ t) (sym (append-nil (pair_text pending)))
-    ∙ ap (λ (rs : List RunNotes). text ++ flat_map pair_text (days_behind r pending rs)) (sym (drop_past later i past)) ∙ so_far
+    rw puts (rw (drop_all i later past, append-nil) at so_far)
 
 -- what was pending is put last
 pub days_put : {T E : Type 0} (result : Result T E) (r : RunNotes) (later : List RunNotes) (i : ℕ) (pending : Slice) (text more all : List ℕ) → length later ≤ i

@@ -2,15 +2,15 @@
 use Rattle.std.proofs.Common.{◌≡◌, ℕ, zero, suc, ◌+◌, ◌*◌, ◌<◌, ◌≤◌, Bool, true, false, List, [], ◌∷◌, ◌++◌, Option, Some, None, length, get_or, map, refl, sym, ap, subst, inl, inr, arith, length-append}
 use Rattle.std.specs.List.{filter, flat_map, list_any, slice_get, sum_by, AllByRecursion}
 use Rattle.std.specs.Option.{option_map_or, is_none}
-use Rattle.std.proofs.lemmas.Bool.{cases_Bool, cond-true, cond-false}
-use Rattle.std.proofs.lemmas.List.{length-map}
+use Rattle.std.proofs.lemmas.Bool.{cond_both}
+use Rattle.std.proofs.lemmas.List.{length-map, map-append}
 use Rattle.std.proofs.lemmas.List.Elements.{recursion_from_All}
 use Rattle.std.proofs.lemmas.List.Sums.{sum_by-cons}
 use Rattle.std.proofs.lemmas.Option.{slice_get_within}
-use Rattle.pb_base.specs.Rule.{never, nodes, codes_below}
+use Rattle.pb_base.specs.Rule.{Rule, code, negation, both, either, always, never, nodes, codes_below}
 use Rattle.pb_base.specs.Names.{place_in}
-use Rattle.pb_base.proofs.LeafLaws.{nodes-with_leaves, codes_below-with_places}
-use Rattle.pb_base.specs.Leaves.{renamed}
+use Rattle.pb_base.proofs.LeafLaws.{codes_below-with_places}
+use Rattle.pb_base.specs.Leaves.{with_places}
 use Rattle.book_model.specs.Activity.{is_within}
 use Rattle.book_model.specs.Book.{IsBook, SupplementFits, ConstructFits, DemandFits, VariantFits}
 use Rattle.book_model.specs.Contents.{Contents}
@@ -30,7 +30,7 @@ use Rattle.clausify.specs.Items.{Item, free_item, variables_of, supplement_item,
 use Rattle.clausify.specs.Choices.{Choice, choices, choices_from, usage, active_variants}
 use Rattle.clausify.specs.Goals.{usages_from, all_usages}
 use Rattle.clausify.specs.declared.usage.Usage.{Usage}
-use Rattle.clausify.proofs.Bounds.{connectives_below, active_below}
+use Rattle.clausify.proofs.Bounds.{connectives_below, demand_item_below, variables_below, active_below}
 use Rattle.clausify.proofs.GoalLaws.{UsagesFit, usages_fit}
 use Rattle.clausify.proofs.ItemLaws.{variables_of-append}
 use Rattle.clausify.proofs.ListLaws.{all-append, all-map, all_weaker, all_filtered}
@@ -45,161 +45,103 @@ use Rattle.book_compare.specs.declared.place.Place.{Place}
 use Rattle.book_compare.specs.declared.place.TheConstants.{MOST_OF_POSITION}
 use Rattle.book_compare.specs.Same.{active_of, variants_on, variants_at}
 use Rattle.book_compare.proofs.JointLaws.{joint_fit}
-use Rattle.book_compare.proofs.NumberLaws.{numbers_below}
-use Rattle.book_compare.proofs.UsageLaws.{variants_by_id, first_variants, renamed_variants}
+use Rattle.book_compare.proofs.NumberLaws.{cases_option, numbers_below}
+use Rattle.book_compare.proofs.UsageLaws.{first_and_rest, variants_by_id, first_variants, renamed_variants}
 use Rattle.book_compare.specs.JointItems.{absent_item, absent_items, renamed_item, day_variants, renamed_usage, renamed_usage_items, renamed_usages, second_items, joint_items, first_variable, joint_clauses, joint_variables, first_usages_at, second_usages_at, first_usages, second_usages}
 
--- few variables: each item takes at most 512
-
-abbrev AreSmall : List Item → Type 0
-AreSmall is = AllByRecursion (λ i. connectives i.rule ≤ 512) is
-
-small_variables : (is : List Item) → AreSmall is → variables_of is ≤ 512 * length is
-small_variables [] small = omega arith
-small_variables (i ∷ is) small = omega (arith, small.0, small_variables is small.1)
+-- few variables: a formula has at most 512 nodes
 
 length-filter_below : {X : Type 0} (w : X → Bool) (xs : List X) → length (filter w xs) ≤ length xs
 length-filter_below w [] = omega arith
-length-filter_below w (x ∷ xs) = elim (cases_Bool (w x)) [
-  | inl e ↦ omega (arith, ap length (cond-true (w x) (x ∷ filter w xs) (filter w xs) e), length-filter_below w xs)
-  | inr e ↦ omega (arith, ap length (cond-false (w x) (x ∷ filter w xs) (filter w xs) e), length-filter_below w xs)
-]
+length-filter_below w (x ∷ xs) = grind (arith, length-filter_below w xs)
 
--- the formulas have few nodes, and keep them where their codes get other variables
-abbrev HaveFewNodes : List Item → Type 0
-HaveFewNodes is = AllByRecursion (λ i. nodes i.rule ≤ 512) is
-
-small_from_nodes : (is : List Item) → HaveFewNodes is → AreSmall is
-small_from_nodes [] few = tt
-small_from_nodes (i ∷ is) few = let one : nodes i.rule ≤ 512 = few.0 in (omega (arith, connectives_below i.rule, one), small_from_nodes is few.1)
-
-nodes_renamed : (numbers : List ℕ) (is : List Item) → HaveFewNodes is → HaveFewNodes (map (renamed_item numbers) is)
-nodes_renamed numbers [] few = tt
-nodes_renamed numbers (i ∷ is) few =
-    let one : nodes i.rule ≤ 512 = few.0 in (omega (arith, nodes-with_leaves (renamed numbers) i.rule, one), nodes_renamed numbers is few.1)
-
-demand_nodes : (n : ℕ) (d : Demand) → DemandFits n d → nodes (demand_item d).rule ≤ 512
-demand_nodes n (demand.Rule on rule) h = h.rule.size
-demand_nodes n (demand.One group) h = omega arith
-demand_nodes n (demand.Most group) h = omega arith
-
-rule_nodes : (b : Contents) (day : ℕ) → IsBook b → HaveFewNodes (rule_items b day)
-rule_nodes b day book =
-    all-append _ (map supplement_item (filter (λ s. is_within s.from s.until day) b.supplements)) _
-    (all-map (λ i. nodes i.rule ≤ 512) supplement_item (filter (λ s. is_within s.from s.until day) b.supplements)
-    (all_filtered (λ s. nodes s.rule ≤ 512) (λ s. is_within s.from s.until day) b.supplements
-    (all_weaker (SupplementFits (length b.codes)) (λ s. nodes s.rule ≤ 512) (λ s h. h.rule.size) b.supplements
-    (recursion_from_All (SupplementFits (length b.codes)) b.supplements book.supplements_fit))))
-    (all-map (λ i. nodes i.rule ≤ 512) construct_item (filter (λ c. is_within c.from c.until day) b.constructs)
-    (all_filtered (λ c. nodes (construct_item c).rule ≤ 512) (λ c. is_within c.from c.until day) b.constructs
-    (all_weaker (ConstructFits (length b.codes)) (λ c. nodes (construct_item c).rule ≤ 512) (λ c h. demand_nodes (length b.codes) c.demand h.demand) b.constructs
-    (recursion_from_All (ConstructFits (length b.codes)) b.constructs book.constructs_fit))))
-
-few_rules : (b : Contents) (day : ℕ) → IsBook b → length (rule_items b day) ≤ 16000
+few_rules : (b : Contents) (day : ℕ) → IsBook b → variables_of (rule_items b day) ≤ 512 * 16000
 few_rules b day book =
+    let n : ℕ = length b.codes in
+    let supplements = variables_below (λ (s : Supplement). is_within s.from s.until day) supplement_item b.supplements
+    (all_weaker (SupplementFits n) (λ s. connectives s.rule ≤ 512) (λ s h. omega (arith, connectives_below s.rule, h.rule.size)) b.supplements (recursion_from_All (SupplementFits n) b.supplements book.supplements_fit)) in
+    let constructs = variables_below (λ (c : Construct). is_within c.from c.until day) construct_item b.constructs
+    (all_weaker (ConstructFits n) (λ c. connectives (construct_item c).rule ≤ 512) (λ c h. demand_item_below n c.demand h.demand) b.constructs (recursion_from_All (ConstructFits n) b.constructs book.constructs_fit)) in
     omega (
       arith,
-      length-append (map supplement_item (filter (λ s. is_within s.from s.until day) b.supplements)) (map construct_item (filter (λ c. is_within c.from c.until day) b.constructs)),
-      length-map (filter (λ (s : Supplement). is_within s.from s.until day) b.supplements) supplement_item,
-      length-map (filter (λ (c : Construct). is_within c.from c.until day) b.constructs) construct_item,
-      length-filter_below (λ (s : Supplement). is_within s.from s.until day) b.supplements,
-      length-filter_below (λ (c : Construct). is_within c.from c.until day) b.constructs,
+      variables_of-append (map supplement_item (filter (λ s. is_within s.from s.until day) b.supplements)) (map construct_item (filter (λ c. is_within c.from c.until day) b.constructs)),
+      supplements,
+      constructs,
       book.supplements_limit,
       constructs_below b book,
     )
+
+-- with other variables for their codes they take as many
+connectives_renamed : (numbers : List ℕ) (f : Rule) → connectives (with_places numbers f) ≡ connectives f
+connectives_renamed numbers (code place) = elim (cases_option (slice_get numbers place)) [ inl none ↦ rw none refl | inr some ↦ rw some.1 refl ]
+connectives_renamed numbers (negation f) = connectives_renamed numbers f
+connectives_renamed numbers (both f g) = omega (arith, connectives_renamed numbers f, connectives_renamed numbers g)
+connectives_renamed numbers (either f g) = omega (arith, connectives_renamed numbers f, connectives_renamed numbers g)
+connectives_renamed numbers always = refl
+connectives_renamed numbers never = refl
+
+variables_renamed : (numbers : List ℕ) (is : List Item) → variables_of (map (renamed_item numbers) is) ≡ variables_of is
+variables_renamed numbers [] = refl
+variables_renamed numbers (i ∷ is) = omega (arith, connectives_renamed numbers i.rule, variables_renamed numbers is)
 
 nodes_at : (n m : ℕ) (vs : List Variant) (k : ℕ) → AllByRecursion (VariantFits n m) vs → nodes (option_map_or (λ v. v.rule) (slice_get vs k) never) ≤ 512
 nodes_at n m [] k h = omega arith
 nodes_at n m (v ∷ vs) zero h = h.0.rule.size
 nodes_at n m (v ∷ vs) (suc k) h = nodes_at n m vs k h.1
 
-usage_nodes : (b : Contents) → IsBook b → (variant : ℕ) → nodes (usage b variant) ≤ 512
-usage_nodes b book variant =
-    nodes_at (length b.codes) (length b.positions) b.variants variant (recursion_from_All (VariantFits (length b.codes) (length b.positions)) b.variants book.variants_fit)
+usage_few : (b : Contents) → IsBook b → (variant : ℕ) → connectives (usage b variant) ≤ 512
+usage_few b book variant =
+    omega (arith, connectives_below (usage b variant), nodes_at (length b.codes) (length b.positions) b.variants variant (recursion_from_All (VariantFits (length b.codes) (length b.positions)) b.variants book.variants_fit))
 
-small_usages : (b : Contents) → IsBook b → (ks : List ℕ) → AreSmall (map (usage_item b) ks)
-small_usages b book [] = tt
-small_usages b book (k ∷ ks) = (omega (arith, connectives_below (usage b k), usage_nodes b book k), small_usages b book ks)
+few_made : (rule : ℕ → Rule) → ((k : ℕ) → connectives (rule k) ≤ 512) → (ks : List ℕ) → variables_of (map (λ k. free_item (rule k)) ks) ≤ 512 * length ks
+few_made rule few [] = omega arith
+few_made rule few (k ∷ ks) = omega (arith, few k, few_made rule few ks)
 
-small_all_usages : (b : Contents) → IsBook b → (cs : List Choice) → AreSmall (usage_items b cs)
-small_all_usages b book [] = tt
-small_all_usages b book (c ∷ cs) = all-append _ (map (usage_item b) c.variants) (usage_items b cs) (small_usages b book c.variants) (small_all_usages b book cs)
+usage_items_are : (b : Contents) (cs : List Choice) → usage_items b cs ≡ map (usage_item b) (flat_map (λ c. c.variants) cs)
+usage_items_are b [] = refl
+usage_items_are b (c ∷ cs) = rw (usage_items_are b cs, map-append) refl
 
-small_renamed_usages : (numbers : List ℕ) (b : Contents) → IsBook b → (ks : List ℕ) → AreSmall (renamed_usage_items numbers b ks)
-small_renamed_usages numbers b book [] = tt
-small_renamed_usages numbers b book (k ∷ ks) = (
-  omega (arith, connectives_below (renamed_usage numbers b k), nodes-with_leaves (renamed numbers) (usage b k), usage_nodes b book k),
-  small_renamed_usages numbers b book ks,
-)
+-- a position has at most 200 variants
+few_active : (b : Contents) (day : ℕ) → IsBook b → (place : ℕ) (p : Position) → length (active_of b day place p) ≤ 200
+few_active b day book place p = cond_both (is_active_position day p) _ _ (λ (ks : List ℕ). length ks ≤ 200) (λ _. active_below b day book place) (λ _. omega arith)
 
 few_variants : (b : Contents) (day i : ℕ) → IsBook b → (ps : List Position) → length (flat_map (λ c. c.variants) (choices_from i b day ps)) ≤ 200 * length ps
 few_variants b day i book [] = omega arith
 few_variants b day i book (p ∷ ps) =
-    let own : Choice = record { position = i; mandatory = p.mandatory; variants = active_variants b day i } in
-    elim (cases_Bool (is_active_position day p)) [
-      | inl e ↦
-          omega (
-            arith,
-            ap (λ (cs : List Choice). length (flat_map (λ c. c.variants) cs)) (cond-true (is_active_position day p) (own ∷ choices_from (suc i) b day ps) (choices_from (suc i) b day ps) e),
-            length-append (active_variants b day i) (flat_map (λ c. c.variants) (choices_from (suc i) b day ps)),
-            active_below b day book i,
-            few_variants b day (suc i) book ps,
-          )
-      | inr e ↦
-          omega (
-            arith,
-            ap (λ (cs : List Choice). length (flat_map (λ c. c.variants) cs)) (cond-false (is_active_position day p) (own ∷ choices_from (suc i) b day ps) (choices_from (suc i) b day ps) e),
-            few_variants b day (suc i) book ps,
-          )
-    ]
-
-few_day_variants : (b : Contents) (day : ℕ) → IsBook b → length (day_variants b day) ≤ 1000000
-few_day_variants b day book = omega (arith, few_variants b day 0 book b.positions, book.positions_limit)
-
-length-usage_items : (b : Contents) (cs : List Choice) → length (usage_items b cs) ≡ length (flat_map (λ c. c.variants) cs)
-length-usage_items b [] = refl
-length-usage_items b (c ∷ cs) =
     omega (
       arith,
-      length-append (map (usage_item b) c.variants) (usage_items b cs),
-      length-append c.variants (flat_map (λ d. d.variants) cs),
-      length-map c.variants (usage_item b),
-      length-usage_items b cs,
+      ap length (first_and_rest b day i p ps),
+      length-append (active_of b day i p) (flat_map (λ c. c.variants) (choices_from (suc i) b day ps)),
+      few_active b day book i p,
+      few_variants b day (suc i) book ps,
     )
 
-pub few_first : (b : Contents) (day : ℕ) → IsBook b → variables_of (items b day) ≤ 512 * 1016000
+few_usages : (b : Contents) (day : ℕ) → IsBook b → (rule : ℕ → Rule) → ((k : ℕ) → connectives (rule k) ≤ 512) → variables_of (map (λ k. free_item (rule k)) (day_variants b day)) ≤ 512 * 1000000
+few_usages b day book rule few = omega (arith, few_made rule few (day_variants b day), few_variants b day 0 book b.positions, book.positions_limit)
+
+few_first : (b : Contents) (day : ℕ) → IsBook b → variables_of (items b day) ≤ 512 * 1016000
 few_first b day book =
     omega (
       arith,
       variables_of-append (rule_items b day) (usage_items b (choices b day)),
-      small_variables (rule_items b day) (small_from_nodes (rule_items b day) (rule_nodes b day book)),
       few_rules b day book,
-      small_variables (usage_items b (choices b day)) (small_all_usages b book (choices b day)),
-      length-usage_items b (choices b day),
-      few_day_variants b day book,
+      ap variables_of (usage_items_are b (choices b day)),
+      few_usages b day book (usage b) (usage_few b book),
     )
 
 absent_none : (vs : List ℕ) → variables_of (map absent_item vs) ≡ 0
 absent_none [] = refl
 absent_none (v ∷ vs) = omega (arith, absent_none vs)
 
-pub few_renamed_rules : (numbers : List ℕ) (b : Contents) (day : ℕ) → IsBook b → variables_of (map (renamed_item numbers) (rule_items b day)) ≤ 512 * 16000
-few_renamed_rules numbers b day book =
+few_second : (numbers : List ℕ) (b : Contents) (day : ℕ) → IsBook b
+    → variables_of (map (renamed_item numbers) (rule_items b day) ++ renamed_usage_items numbers b (day_variants b day)) ≤ 512 * 1016000
+few_second numbers b day book =
     omega (
       arith,
-      small_variables (map (renamed_item numbers) (rule_items b day)) (small_from_nodes (map (renamed_item numbers) (rule_items b day)) (nodes_renamed numbers (rule_items b day) (rule_nodes b day book))),
-      length-map (rule_items b day) (renamed_item numbers),
+      variables_of-append (map (renamed_item numbers) (rule_items b day)) (renamed_usage_items numbers b (day_variants b day)),
+      variables_renamed numbers (rule_items b day),
       few_rules b day book,
-    )
-
-pub few_renamed_usages : (numbers : List ℕ) (b : Contents) (day : ℕ) → IsBook b → variables_of (renamed_usage_items numbers b (day_variants b day)) ≤ 512 * 1000000
-few_renamed_usages numbers b day book =
-    let item : ℕ → Item = λ v. free_item (renamed_usage numbers b v) in
-    omega (
-      arith,
-      small_variables (renamed_usage_items numbers b (day_variants b day)) (small_renamed_usages numbers b book (day_variants b day)),
-      length-map (day_variants b day) item,
-      few_day_variants b day book,
+      few_usages b day book (renamed_usage numbers b) (λ k. omega (arith, connectives_renamed numbers (usage b k), usage_few b book k)),
     )
 
 pub further_below : (first second : List (List ℕ)) → further first second ≤ length second
@@ -212,11 +154,9 @@ joint_variables_fit first second day one other =
       arith,
       variables_of-append (absent_items first second) (items first day ++ second_items first second day),
       variables_of-append (items first day) (second_items first second day),
-      variables_of-append (map (renamed_item (numbers_of first.codes second.codes)) (rule_items second day)) (renamed_usage_items (numbers_of first.codes second.codes) second (day_variants second day)),
       absent_none (alone first.codes second.codes),
       few_first first day one,
-      few_renamed_rules (numbers_of first.codes second.codes) second day other,
-      few_renamed_usages (numbers_of first.codes second.codes) second day other,
+      few_second (numbers_of first.codes second.codes) second day other,
       further_below first.codes second.codes,
       one.codes_limit,
       other.codes_limit,
@@ -284,10 +224,6 @@ module _ (first second : Contents) (day : ℕ) (one : IsBook first) (other : IsB
 abbrev pub LiteralsBelow : ℕ → List ℕ → Type 0
 LiteralsBelow top ls = AllByRecursion (λ l. l < 2 * top) ls
 
-lits_more : (k top : ℕ) → k ≤ top → (ls : List ℕ) → LiteralsBelow k ls → LiteralsBelow top ls
-lits_more k top more [] below = tt
-lits_more k top more (l ∷ ls) below = let one : l < 2 * k = below.0 in (omega arith, lits_more k top more ls below.1)
-
 any_below : (v l top : ℕ) (ls : List ℕ) → l < 2 * top → LiteralsBelow top ls → v + length ls ≤ top → AreBelow (2 * top) (any_clauses v l ls)
 any_below v l top [] low below room = tt
 any_below v l top (k ∷ ks) low below room =
@@ -351,13 +287,10 @@ with_below b top us key below =
     (all_filtered (λ u. u.literal < 2 * top) (λ u. is_same_use (part_use b u.variant) key) us below)
 
 at_below : (b : Contents) (top : ℕ) (id : List ℕ) (us : List Usage) → UsagesBelow top us → UsagesBelow top (usages_at b id us)
-at_below b top id us below = by (position_place b id) refl
-  where
-    by : (o : Option ℕ) → position_place b id ≡ o → UsagesBelow top (usages_at b id us)
-    by None is = subst (UsagesBelow top) (sym (ap (λ o. option_map_or (λ place. usages_in b place us) o []) is)) tt
-    by (Some place) is =
-        subst (UsagesBelow top) (sym (ap (λ o. option_map_or (λ at. usages_in b at us) o []) is))
-        (all_filtered (λ u. u.literal < 2 * top) (λ u. is_variant_of b place u.variant) us below)
+at_below b top id us below = elim (cases_option (position_place b id)) [
+  | inl none ↦ rw none tt
+  | inr some ↦ rw some.1 (all_filtered (λ u. u.literal < 2 * top) (λ u. is_variant_of b some.0 u.variant) us below)
+]
 
 keys_literals_below : (first : Contents) (us : List Usage) (second : Contents) (ws : List Usage) (top : ℕ) → UsagesBelow top us → UsagesBelow top ws → (ks : List PartUse)
     → KeysBelow top (map (key_literals first us second ws) ks)
@@ -407,44 +340,25 @@ goal_below first second day ps at within =
     goals_below (joint_variables first second day) (searched_variables first second day ps) (place_keys first second day ps) at
     (omega (arith, length-map ps (λ (q : Place). asked_keys first second day q.id))) (omega arith)
 
--- few variables of a position: in each book it has at most 200 variants
-
-few_active : (b : Contents) (day : ℕ) → IsBook b → (place : ℕ) (p : Position) → length (active_of b day place p) ≤ 200
-few_active b day book place p = by (is_active_position day p) refl
-  where
-    by : (t : Bool) → is_active_position day p ≡ t → length (active_of b day place p) ≤ 200
-    by true is = omega (arith, ap length (cond-true (is_active_position day p) (active_variants b day place) [] is), active_below b day book place)
-    by false is = omega (arith, ap length (cond-false (is_active_position day p) (active_variants b day place) [] is))
-
-few_on : (b : Contents) (day : ℕ) → IsBook b → (place : ℕ) → length (variants_on b day place) ≤ 200
-few_on b day book place = by (slice_get b.positions place) refl
-  where
-    by : (o : Option Position) → slice_get b.positions place ≡ o → length (variants_on b day place) ≤ 200
-    by None is = let none : length (variants_on b day place) ≡ 0 = ap (λ o. length (option_map_or (active_of b day place) o [])) is in omega (arith, none)
-    by (Some p) is =
-        let one : length (variants_on b day place) ≡ length (active_of b day place p) = ap (λ o. length (option_map_or (active_of b day place) o [])) is in
-        omega (arith, one, few_active b day book place p)
+-- few variables of a position
 
 few_at : (b : Contents) (day : ℕ) → IsBook b → (id : List ℕ) → length (variants_at b day id) ≤ 200
-few_at b day book id = by (position_place b id) refl
-  where
-    by : (o : Option ℕ) → position_place b id ≡ o → length (variants_at b day id) ≤ 200
-    by None is = let none : length (variants_at b day id) ≡ 0 = ap (λ o. length (option_map_or (variants_on b day) o [])) is in omega (arith, none)
-    by (Some place) is =
-        let one : length (variants_at b day id) ≡ length (variants_on b day place) = ap (λ o. length (option_map_or (variants_on b day) o [])) is in
-        omega (arith, one, few_on b day book place)
+few_at b day book id = elim (cases_option (position_place b id)) [
+  | inl none ↦ rw none (omega arith)
+  | inr some ↦ elim (cases_option (slice_get b.positions some.0)) [
+    | inl gone ↦ rw (some.1, gone) (omega arith)
+    | inr there ↦ rw (some.1, there.1) (few_active b day book some.0 there.0)
+  ]
+]
 
-few_usages : (b : Contents) (day : ℕ) → IsBook b → (id : List ℕ) (us : List Usage) → map (λ (u : Usage). u.variant) us ≡ day_variants b day → length (usages_at b id us) ≤ 200
-few_usages b day book id us variants =
+few_by_id : (b : Contents) (day : ℕ) → IsBook b → (id : List ℕ) (us : List Usage) → map (λ (u : Usage). u.variant) us ≡ day_variants b day → length (usages_at b id us) ≤ 200
+few_by_id b day book id us variants =
     omega (arith, ap length (variants_by_id b day id us variants), length-map (usages_at b id us) (λ (u : Usage). u.variant), few_at b day book id)
 
 few_new : (seen ks : List PartUse) → length (new_keys seen ks) ≤ length ks
 few_new seen [] = omega arith
-few_new seen (k ∷ ks) = by (list_any (λ p. is_same_use k p) seen) refl (few_new seen ks) (few_new (seen ++ k ∷ []) ks)
-  where
-    by : (t : Bool) → list_any (λ p. is_same_use k p) seen ≡ t → length (new_keys seen ks) ≤ length ks → length (new_keys (seen ++ k ∷ []) ks) ≤ length ks → length (new_keys seen (k ∷ ks)) ≤ length (k ∷ ks)
-    by true is without_it with_it = omega (arith, ap length (cond-true (list_any (λ p. is_same_use k p) seen) (new_keys seen ks) (k ∷ new_keys (seen ++ k ∷ []) ks) is))
-    by false is without_it with_it = omega (arith, ap length (cond-false (list_any (λ p. is_same_use k p) seen) (new_keys seen ks) (k ∷ new_keys (seen ++ k ∷ []) ks) is))
+few_new seen (k ∷ ks) =
+    cond_both (list_any (λ p. is_same_use k p) seen) _ _ (λ (ps : List PartUse). length ps ≤ suc (length ks)) (λ _. omega (arith, few_new seen ks)) (λ _. omega (arith, few_new (seen ++ k ∷ []) ks))
 
 few_joins : (ls : List ℕ) → joins ls ≤ length ls
 few_joins [] = omega arith
@@ -480,8 +394,8 @@ module _ (first second : Contents) (day : ℕ) (one : IsBook first) (other : IsB
   position_few id =
       let us : List Usage = usages_at first id (first_usages first second day) in
       let ws : List Usage = usages_at second id (second_usages first second day) in
-      let own : length us ≤ 200 = few_usages first day one id (first_usages first second day) (first_variants first day (length first.codes) _) in
-      let theirs : length ws ≤ 200 = few_usages second day other id (second_usages first second day) (renamed_variants _ second (length first.codes) _ _) in
+      let own : length us ≤ 200 = few_by_id first day one id (first_usages first second day) (first_variants first day (length first.codes) _) in
+      let theirs : length ws ≤ 200 = few_by_id second day other id (second_usages first second day) (renamed_variants _ second (length first.codes) _ _) in
       omega (arith, few_keys first us second ws own theirs (keys_of (uses first us) (uses second ws)), few_keys_of first us second ws, own, theirs)
 
   pub together_few : (ps : List Place) → together_variables (place_keys first second day ps) ≤ sum_by (λ (p : Place). MOST_OF_POSITION) ps

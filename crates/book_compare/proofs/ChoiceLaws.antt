@@ -1,9 +1,9 @@
 -- Two books choose the same at a position just where they choose it for each key: a released book chooses at most one.
 use Rattle.std.proofs.Common.{◌≡◌, ℕ, ◌≤◌, Bool, true, false, not, ◌&&◌, ◌||◌, List, [], ◌∷◌, ◌++◌, length, map, refl, sym, ap, subst, ◌∙◌, inl, inr, arith, append_assoc, append-nil}
 use Rattle.std.specs.List.{list_any, filter}
-use Rattle.std.proofs.lemmas.Bool.{cases_Bool, cond-true, cond-false, or_parts, or_from, false≢true, true≢false}
+use Rattle.std.proofs.lemmas.Bool.{cases_Bool, or_parts, or_from, false≢true, true≢false}
 use Rattle.std.proofs.lemmas.List.Folds.{list_any-append}
-use Rattle.std.proofs.Math.Bool.{or-false}
+use Rattle.std.proofs.Math.Bool.{or-false, or_assoc}
 use Rattle.book_model.specs.Contents.{Contents}
 use Rattle.clause_pool.specs.Literal.{is_true}
 use Rattle.clausify.specs.declared.usage.Usage.{Usage}
@@ -23,37 +23,22 @@ same_self p = test_from_same p p refl
 seen_then : (k key : PartUse) (seen : List PartUse) → is_same_use k key ≡ true → list_any (λ p. is_same_use k p) seen ≡ true → has_use key seen ≡ true
 seen_then k key [] same there = there
 seen_then k key (p ∷ seen) same there = elim (cases_Bool (is_same_use k p)) [
-  | inl e ↦
-      let p_is : p ≡ key = sym (same_from_test k p e) ∙ same_from_test k key same in
-      ap (λ t. t || has_use key seen) (test_from_same p key p_is)
-  | inr e ↦
-      either_true (is_same_use p key) (has_use key seen)
-      (seen_then k key seen same (sym (ap (λ t. t || list_any (λ q. is_same_use k q) seen) e) ∙ there))
+  | inl e ↦ rw (test_from_same p key (sym (same_from_test k p e) ∙ same_from_test k key same)) refl
+  | inr e ↦ either_true (is_same_use p key) (has_use key seen) (seen_then k key seen same (rw e at there))
 ]
 
 -- all uses are among the keys
 pub all_new : (key : PartUse) (seen xs : List PartUse) → (has_use key seen || has_use key xs) ≡ true → has_use key (seen ++ new_keys seen xs) ≡ true
 all_new key seen [] some = ap (has_use key) (append-nil seen) ∙ sym (or-false (has_use key seen)) ∙ some
-all_new key seen (k ∷ ks) some = by (list_any (λ p. is_same_use k p) seen) refl (all_new key seen ks) (all_new key (seen ++ k ∷ []) ks)
-  where
-    by : (t : Bool) → list_any (λ p. is_same_use k p) seen ≡ t → ((has_use key seen || has_use key ks) ≡ true → has_use key (seen ++ new_keys seen ks) ≡ true)
-        → ((has_use key (seen ++ k ∷ []) || has_use key ks) ≡ true → has_use key ((seen ++ k ∷ []) ++ new_keys (seen ++ k ∷ []) ks) ≡ true)
-        → has_use key (seen ++ new_keys seen (k ∷ ks)) ≡ true
-    by true old without_it with_it =
-        ap (λ (more : List PartUse). has_use key (seen ++ more)) (cond-true (list_any (λ p. is_same_use k p) seen) (new_keys seen ks) (k ∷ new_keys (seen ++ k ∷ []) ks) old)
-        ∙ without_it (elim (cases_Bool (is_same_use k key)) [
-          | inl same ↦ ap (λ t. t || has_use key ks) (seen_then k key seen same old)
-          | inr other ↦ sym (ap (λ t. has_use key seen || (t || has_use key ks)) other) ∙ some
-        ])
-    by false new without_it with_it =
-        ap (λ (more : List PartUse). has_use key (seen ++ more)) (cond-false (list_any (λ p. is_same_use k p) seen) (new_keys seen ks) (k ∷ new_keys (seen ++ k ∷ []) ks) new)
-        ∙ sym (ap (has_use key) (append_assoc seen (k ∷ []) (new_keys (seen ++ k ∷ []) ks)))
-        ∙ with_it (ap (λ t. t || has_use key ks) (list_any-append (λ p. is_same_use p key) seen (k ∷ [])) ∙ regrouped (has_use key seen) (is_same_use k key) (has_use key ks) ∙ some)
-      where
-        regrouped : (s t u : Bool) → ((s || (t || false)) || u) ≡ (s || (t || u))
-        regrouped true t u = refl
-        regrouped false true u = refl
-        regrouped false false u = refl
+all_new key seen (k ∷ ks) some = elim (cases_Bool (list_any (λ p. is_same_use k p) seen)) [
+  | inl old ↦
+      rw old
+      (all_new key seen ks (elim (cases_Bool (is_same_use k key)) [
+        | inl same ↦ rw (seen_then k key seen same old) refl
+        | inr other ↦ rw other at some
+      ]))
+  | inr new ↦ rw (new, ← append_assoc seen (k ∷ []) (new_keys (seen ++ k ∷ []) ks)) (all_new key (seen ++ k ∷ []) ks (rw (list_any-append, or-false, or_assoc) some))
+]
 
 pub first_in_keys : (key : PartUse) (first second : List PartUse) → has_use key first ≡ true → has_use key (keys_of first second) ≡ true
 first_in_keys key first second there =
@@ -66,24 +51,15 @@ second_in_keys key first second there = all_new key (new_keys [] first) second (
 pub literal_use : (b : Contents) (test : ℕ → Bool) (us : List Usage) (key : PartUse) → list_any test (literals_with b us key) ≡ true → has_use key (uses b us) ≡ true
 literal_use b test [] key some = some
 literal_use b test (u ∷ us) key some = elim (cases_Bool (is_same_use (part_use b u.variant) key)) [
-  | inl same ↦ ap (λ t. t || has_use key (uses b us)) same
-  | inr other ↦
-      let rest : List Usage = filter (λ w. is_same_use (part_use b w.variant) key) us in
-      either_true (is_same_use (part_use b u.variant) key) (has_use key (uses b us))
-      (literal_use b test us key (sym (ap (λ (ws : List Usage). list_any test (map (λ (w : Usage). w.literal) ws)) (cond-false (is_same_use (part_use b u.variant) key) (u ∷ rest) rest other)) ∙ some))
+  | inl same ↦ rw same refl
+  | inr other ↦ rw other (literal_use b test us key (rw other at some))
 ]
 
 same_when_alike : (p q : Bool) → ((p && not q) || (not p && q)) ≡ false → p ≡ q
-same_when_alike true true h = refl
-same_when_alike true false h = h
-same_when_alike false true h = sym h
-same_when_alike false false h = refl
+same_when_alike p q h = grind arith
 
 alike_when_same : (p q : Bool) → p ≡ q → ((p && not q) || (not p && q)) ≡ false
-alike_when_same true true h = refl
-alike_when_same true false h = h
-alike_when_same false true h = sym h
-alike_when_same false false h = refl
+alike_when_same p q h = grind arith
 
 -- where the books differ by no key, they choose each alike
 key_alike : (a : ℕ → Bool) (literals : PartUse → KeyLiterals) (key : PartUse) (ks : List PartUse) → list_any (differs a) (map literals ks) ≡ false → has_use key ks ≡ true
@@ -92,10 +68,8 @@ key_alike a literals key [] none there = absurd (false≢true there)
 key_alike a literals key (k ∷ ks) none there =
     let parts = or_parts (differs a (literals k)) (list_any (differs a) (map literals ks)) none in
     elim (cases_Bool (is_same_use k key)) [
-      | inl same ↦
-          subst (λ (p : PartUse). chooses_first a (literals p) ≡ chooses_second a (literals p)) (same_from_test k key same)
-          (same_when_alike (chooses_first a (literals k)) (chooses_second a (literals k)) parts.0)
-      | inr other ↦ key_alike a literals key ks parts.1 (sym (ap (λ t. t || has_use key ks) other) ∙ there)
+      | inl same ↦ rw (← same_from_test k key same) (same_when_alike (chooses_first a (literals k)) (chooses_second a (literals k)) parts.0)
+      | inr other ↦ key_alike a literals key ks parts.1 (rw other at there)
     ]
 
 pub none_differs : (a : ℕ → Bool) (literals : PartUse → KeyLiterals) (ks : List PartUse) → ((key : PartUse) → chooses_first a (literals key) ≡ chooses_second a (literals key))
@@ -107,14 +81,12 @@ none_differs a literals (k ∷ ks) same =
 same_lists : (ps qs : List PartUse) → length ps ≤ 1 → length qs ≤ 1 → ((key : PartUse) → has_use key ps ≡ true → has_use key ps ≡ has_use key qs)
     → ((key : PartUse) → has_use key qs ≡ true → has_use key ps ≡ has_use key qs) → ps ≡ qs
 same_lists [] [] few fewer from_first from_second = refl
-same_lists [] (q ∷ []) few fewer from_first from_second =
-    let there : has_use q (q ∷ []) ≡ true = ap (λ t. t || false) (same_self q) in absurd (false≢true (from_second q there ∙ there))
-same_lists (p ∷ []) [] few fewer from_first from_second =
-    let there : has_use p (p ∷ []) ≡ true = ap (λ t. t || false) (same_self p) in absurd (true≢false (sym there ∙ from_first p there))
+same_lists [] (q ∷ []) few fewer from_first from_second = let there : has_use q (q ∷ []) ≡ true = rw (same_self q) refl in absurd (false≢true (from_second q there ∙ there))
+same_lists (p ∷ []) [] few fewer from_first from_second = let there : has_use p (p ∷ []) ≡ true = rw (same_self p) refl in absurd (true≢false (sym there ∙ from_first p there))
 same_lists (p ∷ []) (q ∷ []) few fewer from_first from_second =
-    let there : has_use p (p ∷ []) ≡ true = ap (λ t. t || false) (same_self p) in
-    let other : (is_same_use q p || false) ≡ true = sym (from_first p there) ∙ there in
-    ap (λ (u : PartUse). u ∷ []) (sym (same_from_test q p (sym (or-false (is_same_use q p)) ∙ other)))
+    let there : has_use p (p ∷ []) ≡ true = rw (same_self p) refl in
+    let other : is_same_use q p ≡ true = sym (or-false (is_same_use q p)) ∙ sym (from_first p there) ∙ there in
+    ap (λ (u : PartUse). u ∷ []) (sym (same_from_test q p other))
 same_lists (p ∷ r ∷ ps) qs few fewer from_first from_second = absurd (omega arith)
 same_lists [] (q ∷ r ∷ qs) few fewer from_first from_second = absurd (omega arith)
 same_lists (p ∷ []) (q ∷ r ∷ qs) few fewer from_first from_second = absurd (omega arith)

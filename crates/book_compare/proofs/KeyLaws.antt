@@ -1,7 +1,9 @@
 -- The clauses of a position: they are satisfied, with the last variable true, where the books differ by some key, and only there.
-use Rattle.std.proofs.Common.{◌≡◌, ℕ, ◌+◌, Bool, true, false, not, ◌&&◌, ◌||◌, List, [], ◌∷◌, ◌++◌, length, map, refl, sym, ap, subst, ◌∙◌, arith, length-append}
+use Rattle.std.proofs.Common.{◌≡◌, ℕ, ◌+◌, Bool, true, false, not, ◌&&◌, ◌||◌, List, [], ◌∷◌, ◌++◌, length, map, refl, sym, ap, subst, ◌∙◌, inl, inr, arith, length-append}
 use Rattle.std.specs.List.{list_any}
-use Rattle.std.proofs.lemmas.Bool.{false≢true}
+use Rattle.std.proofs.Math.Bool.{or_assoc, or-false, or-true}
+use Rattle.std.proofs.lemmas.Bool.{cases_Bool}
+use Rattle.std.proofs.lemmas.List.{length-map}
 use Rattle.pb_base.specs.Rule.{Rule, always, never, holds}
 use Rattle.clause_pool.specs.Literal.{literal, complement, is_true}
 use Rattle.clause_pool.specs.Clause.{clause_of, clause_true, Sat}
@@ -41,21 +43,11 @@ values_last a v (t ∷ ts) us h = subst (λ (w : ℕ). Values a w us) (let e : v
 
 -- one of several literals
 
-or_assoc : (p q r : Bool) → ((p || q) || r) ≡ (p || (q || r))
-or_assoc true q r = refl
-or_assoc false q r = refl
-
-or_nothing : (p : Bool) → p ≡ (p || false)
-or_nothing true = refl
-or_nothing false = refl
-
 any_from_sat : (a : ℕ → Bool) (v l : ℕ) (ls : List ℕ) → Sat (any_clauses v l ls) a → is_true a (any_literal v l ls) ≡ (is_true a l || list_any (is_true a) ls)
-any_from_sat a v l [] sat = or_nothing (is_true a l)
+any_from_sat a v l [] sat = sym (or-false (is_true a l))
 any_from_sat a v l (k ∷ ks) sat =
     let here : a v ≡ (is_true a l || is_true a k) = either_from_sat a v l k (is_true a l) (is_true a k) refl refl (all_first _ (either_clauses v l k) (any_clauses (v + 1) (literal v true) ks) sat) in
-    any_from_sat a (v + 1) (literal v true) ks (all_last _ (either_clauses v l k) (any_clauses (v + 1) (literal v true) ks) sat)
-    ∙ ap (λ t. t || list_any (is_true a) ks) (true_positive a v ∙ here)
-    ∙ or_assoc (is_true a l) (is_true a k) (list_any (is_true a) ks)
+    rw (any_from_sat a (v + 1) (literal v true) ks (all_last _ (either_clauses v l k) (any_clauses (v + 1) (literal v true) ks) sat), true_positive a v, here) (or_assoc (is_true a l) (is_true a k) (list_any (is_true a) ks))
 
 pub either_from_all : (a : ℕ → Bool) (n v : ℕ) (ls : List ℕ) → a n ≡ true → Sat (either_all v ls) a → is_true a (either_literal n v ls) ≡ list_any (is_true a) ls
 either_from_all a n v [] truth sat = true_negative a n ∙ ap not truth
@@ -75,11 +67,7 @@ length-any_values t (u ∷ us) = omega (arith, length-any_values (t || u) us)
 
 length-either_values : (a : ℕ → Bool) (ls : List ℕ) → length (either_values (map (is_true a) ls)) ≡ joins ls
 length-either_values a [] = refl
-length-either_values a (l ∷ ls) = length-any_values (is_true a l) (map (is_true a) ls) ∙ length-truths a ls
-  where
-    length-truths : (a : ℕ → Bool) (ks : List ℕ) → length (map (is_true a) ks) ≡ length ks
-    length-truths a [] = refl
-    length-truths a (k ∷ ks) = omega (arith, length-truths a ks)
+length-either_values a (l ∷ ls) = length-any_values (is_true a l) (map (is_true a) ls) ∙ length-map ls (is_true a)
 
 sat_from_any : (a : ℕ → Bool) (v l : ℕ) (t : Bool) (ls : List ℕ) → is_true a l ≡ t → Values a v (any_values t (map (is_true a) ls)) → Sat (any_clauses v l ls) a
 sat_from_any a v l t [] is values = tt
@@ -142,24 +130,16 @@ pair_true : (a : ℕ → Bool) (v l : ℕ) (p q : Bool) → a v ≡ p → is_tru
 pair_true a v l p q hv hl h = two_true a (literal v false) l (not p) q (true_negative a v ∙ ap not hv) hl ∙ h
 
 lost_first : (p q : Bool) → (not (lost p q) || (p || false)) ≡ true
-lost_first true true = refl
-lost_first true false = refl
-lost_first false q = refl
+lost_first p q = grind arith
 
 lost_second : (p q : Bool) → (not (lost p q) || (not q || false)) ≡ true
-lost_second true true = refl
-lost_second true false = refl
-lost_second false q = refl
+lost_second p q = grind arith
 
 won_first : (p q : Bool) → (not (won p q) || (not p || false)) ≡ true
-won_first true q = refl
-won_first false true = refl
-won_first false false = refl
+won_first p q = grind arith
 
 won_second : (p q : Bool) → (not (won p q) || (q || false)) ≡ true
-won_second true q = refl
-won_second false true = refl
-won_second false false = refl
+won_second p q = grind arith
 
 record KeyValues (a : ℕ → Bool) (v : ℕ) (k : KeyLiterals) : Type 0 where
   one : Values a v (either_values (truths a k.first))
@@ -220,11 +200,8 @@ ways_by_values : (a : ℕ → Bool) (v : ℕ) (ks : List KeyLiterals) → Values
 ways_by_values a v [] values = refl
 ways_by_values a v (k ∷ ks) values =
     let parts : KeyValues a v k = key_parts a v k (values_first a v (key_values a k) (keys_values a ks) values) in
-    let rest : Bool = list_any (is_true a) (ways (v + key_variables k) ks) in
-    ap (λ t. t || (is_true a (literal (won_variable v k) true) || list_any (is_true a) (ways (v + key_variables k) ks))) (true_positive a (lost_variable v k) ∙ parts.is_lost)
-    ∙ ap (λ t. lost (chooses_first a k) (chooses_second a k) || (t || list_any (is_true a) (ways (v + key_variables k) ks))) (true_positive a (won_variable v k) ∙ parts.is_won)
-    ∙ sym (or_assoc (lost (chooses_first a k) (chooses_second a k)) (won (chooses_first a k) (chooses_second a k)) (list_any (is_true a) (ways (v + key_variables k) ks)))
-    ∙ ap (λ t. differs a k || t) (ways_by_values a (v + key_variables k) ks (key_last a v k ks values))
+    rw (true_positive a (lost_variable v k), parts.is_lost, true_positive a (won_variable v k), parts.is_won, ways_by_values a (v + key_variables k) ks (key_last a v k ks values))
+    (sym (or_assoc (lost (chooses_first a k) (chooses_second a k)) (won (chooses_first a k) (chooses_second a k)) (list_any (differs a) ks)))
 
 -- the clauses are satisfied with the last variable true just where the books differ by some key
 abbrev pub position_values : (ℕ → Bool) → List KeyLiterals → List Bool
@@ -242,92 +219,49 @@ answered_by_values a n v ks truth values =
     record {
       satisfied =
           all-append _ (keys_clauses n v ks) (goal_clause v ks ∷ []) (sat_from_keys a n v ks truth keys) (
-            clause_true-clause_of a (literal (v + keys_variables ks) false ∷ ways v ks)
-                ∙ ap (λ t. is_true a (literal (v + keys_variables ks) false) || t) (ways_by_values a v ks keys)
-                ∙ ap (λ t. t || list_any (differs a) ks) (true_negative a (v + keys_variables ks) ∙ ap not last.0)
-                ∙ either_way (list_any (differs a) ks),
+            rw (clause_true-clause_of, ways_by_values a v ks keys, true_negative a (v + keys_variables ks), last.0) (either_way (list_any (differs a) ks)),
             tt,
           );
       assumed = true_positive a (v + keys_variables ks) ∙ last.0;
     }
   where
     either_way : (t : Bool) → (not t || t) ≡ true
-    either_way true = refl
-    either_way false = refl
+    either_way t = grind arith
 
 -- and only there
 
-first_holds : (p q : Bool) → (not true || (p || false)) ≡ true → (not true || (not q || false)) ≡ true → (p && not q) ≡ true
-first_holds true true h k = k
-first_holds true false h k = refl
-first_holds false q h k = h
+decided : (s t p q : Bool) → (not s || (p || false)) ≡ true → (not s || (not q || false)) ≡ true → (not t || (not p || false)) ≡ true → (not t || (q || false)) ≡ true
+    → (s || t) ≡ true → (lost p q || won p q) ≡ true
+decided s t p q first second third fourth some = grind arith
 
 -- a way that is true shows that the books differ by its key
-way_true : (a : ℕ → Bool) (v l k : ℕ) (p q : Bool) → a v ≡ true → is_true a l ≡ p → is_true a k ≡ q
-    → clause_true a (clause_of (literal v false ∷ l ∷ [])) ≡ true → clause_true a (clause_of (literal v false ∷ k ∷ [])) ≡ true → (p && q) ≡ true
-way_true a v l k p q is hl hk one other =
-    both p q (sym (two_true a (literal v false) l (not true) p (true_negative a v ∙ ap not is) hl) ∙ one)
-    (sym (two_true a (literal v false) k (not true) q (true_negative a v ∙ ap not is) hk) ∙ other)
-  where
-    both : (s t : Bool) → (not true || (s || false)) ≡ true → (not true || (t || false)) ≡ true → (s && t) ≡ true
-    both true true h k = refl
-    both true false h k = k
-    both false t h k = h
-
 key_differs : (a : ℕ → Bool) (n v : ℕ) (k : KeyLiterals) → a n ≡ true → Sat (key_clauses n v k) a → (a (lost_variable v k) || a (won_variable v k)) ≡ true → differs a k ≡ true
-key_differs a n v k truth sat some = by (a (lost_variable v k)) (a (won_variable v k)) refl refl some
-  where
-    behind : Sat (either_all (v + joins k.first) k.second ++ (only_clauses (lost_variable v k) (first_literal n v k) (second_literal n v k) ++ not_clauses (won_variable v k) (first_literal n v k) (second_literal n v k))) a
-    behind = all_last _ (either_all v k.first) _ sat
-
-    ends : Sat (only_clauses (lost_variable v k) (first_literal n v k) (second_literal n v k) ++ not_clauses (won_variable v k) (first_literal n v k) (second_literal n v k)) a
-    ends = all_last _ (either_all (v + joins k.first) k.second) _ behind
-
-    l : is_true a (first_literal n v k) ≡ chooses_first a k
-    l = either_from_all a n v k.first truth (all_first _ (either_all v k.first) _ sat)
-
-    r : is_true a (second_literal n v k) ≡ chooses_second a k
-    r = either_from_all a n (v + joins k.first) k.second truth (all_first _ (either_all (v + joins k.first) k.second) _ behind)
-
-    by : (s t : Bool) → a (lost_variable v k) ≡ s → a (won_variable v k) ≡ t → (a (lost_variable v k) || a (won_variable v k)) ≡ true → differs a k ≡ true
-    by true t is_lost is_won h =
-        ap (λ u. u || won (chooses_first a k) (chooses_second a k))
-        (way_true a (lost_variable v k) (first_literal n v k) (complement (second_literal n v k)) (chooses_first a k) (not (chooses_second a k)) is_lost l
-        (is_true-complement a (second_literal n v k) ∙ ap not r) ends.0 ends.1.0)
-    by false true is_lost is_won h =
-        ap (λ u. lost (chooses_first a k) (chooses_second a k) || u)
-        (way_true a (won_variable v k) (complement (first_literal n v k)) (second_literal n v k) (not (chooses_first a k)) (chooses_second a k) is_won
-        (is_true-complement a (first_literal n v k) ∙ ap not l) r ends.1.1.0 ends.1.1.1.0)
-        ∙ last_true (lost (chooses_first a k) (chooses_second a k))
-      where
-        last_true : (u : Bool) → (u || true) ≡ true
-        last_true true = refl
-        last_true false = refl
-    by false false is_lost is_won h = absurd (false≢true (sym (ap (λ s. s || a (won_variable v k)) is_lost ∙ is_won) ∙ h))
+key_differs a n v k truth sat some =
+    let i : ℕ = lost_variable v k in
+    let j : ℕ = won_variable v k in
+    let behind = all_last _ (either_all v k.first) _ sat in
+    let ends = all_last _ (either_all (v + joins k.first) k.second) _ behind in
+    let l : is_true a (first_literal n v k) ≡ chooses_first a k = either_from_all a n v k.first truth (all_first _ (either_all v k.first) _ sat) in
+    let r : is_true a (second_literal n v k) ≡ chooses_second a k = either_from_all a n (v + joins k.first) k.second truth (all_first _ (either_all (v + joins k.first) k.second) _ behind) in
+    let not_l = is_true-complement a (first_literal n v k) ∙ ap not l in
+    let not_r = is_true-complement a (second_literal n v k) ∙ ap not r in
+    decided (a i) (a j) (chooses_first a k) (chooses_second a k)
+    (sym (two_true a (literal i false) (first_literal n v k) _ _ (true_negative a i) l) ∙ ends.0)
+    (sym (two_true a (literal i false) (complement (second_literal n v k)) _ _ (true_negative a i) not_r) ∙ ends.1.0)
+    (sym (two_true a (literal j false) (complement (first_literal n v k)) _ _ (true_negative a j) not_l) ∙ ends.1.1.0)
+    (sym (two_true a (literal j false) (second_literal n v k) _ _ (true_negative a j) r) ∙ ends.1.1.1.0)
+    some
 
 ways_differ : (a : ℕ → Bool) (n v : ℕ) (ks : List KeyLiterals) → a n ≡ true → Sat (keys_clauses n v ks) a → list_any (is_true a) (ways v ks) ≡ true → list_any (differs a) ks ≡ true
 ways_differ a n v [] truth sat some = some
 ways_differ a n v (k ∷ ks) truth sat some =
-    by (a (lost_variable v k) || a (won_variable v k)) refl (ways_differ a n (v + key_variables k) ks truth (all_last _ (key_clauses n v k) (keys_clauses n (v + key_variables k) ks) sat))
-  where
-    rest : Bool
-    rest = list_any (is_true a) (ways (v + key_variables k) ks)
-
-    split : ((a (lost_variable v k) || a (won_variable v k)) || list_any (is_true a) (ways (v + key_variables k) ks)) ≡ true
-    split =
-        or_assoc (a (lost_variable v k)) (a (won_variable v k)) (list_any (is_true a) (ways (v + key_variables k) ks))
-        ∙ ap (λ t. t || (a (won_variable v k) || list_any (is_true a) (ways (v + key_variables k) ks))) (sym (true_positive a (lost_variable v k)))
-        ∙ ap (λ t. is_true a (literal (lost_variable v k) true) || (t || list_any (is_true a) (ways (v + key_variables k) ks))) (sym (true_positive a (won_variable v k)))
-        ∙ some
-
-    by : (t : Bool) → (a (lost_variable v k) || a (won_variable v k)) ≡ t → (list_any (is_true a) (ways (v + key_variables k) ks) ≡ true → list_any (differs a) ks ≡ true)
-        → list_any (differs a) (k ∷ ks) ≡ true
-    by true is later = ap (λ t. t || list_any (differs a) ks) (key_differs a n v k truth (all_first _ (key_clauses n v k) (keys_clauses n (v + key_variables k) ks) sat) is)
-    by false is later = last (differs a k) (later (sym (ap (λ t. t || list_any (is_true a) (ways (v + key_variables k) ks)) is) ∙ split))
-      where
-        last : (u : Bool) → list_any (differs a) ks ≡ true → (u || list_any (differs a) ks) ≡ true
-        last true h = refl
-        last false h = h
+    let split : ((a (lost_variable v k) || a (won_variable v k)) || list_any (is_true a) (ways (v + key_variables k) ks)) ≡ true =
+    rw (or_assoc, ← true_positive a (lost_variable v k), ← true_positive a (won_variable v k)) some in
+    let later = all_last _ (key_clauses n v k) (keys_clauses n (v + key_variables k) ks) sat in
+    elim (cases_Bool (a (lost_variable v k) || a (won_variable v k))) [
+      | inl here ↦ rw (key_differs a n v k truth (all_first _ (key_clauses n v k) (keys_clauses n (v + key_variables k) ks) sat) here) refl
+      | inr none ↦ rw (ways_differ a n (v + key_variables k) ks truth later (rw none at split)) (or-true (differs a k))
+    ]
 
 pub differs_when_answered : (a : ℕ → Bool) (n v : ℕ) (ks : List KeyLiterals) → a n ≡ true → Sat (position_clauses n v ks) a → is_true a (position_goal v ks) ≡ true → list_any (differs a) ks ≡ true
 differs_when_answered a n v ks truth sat assumed =

@@ -1,5 +1,5 @@
 -- How far a loop over keys or positions has come.
-use Rattle.std.proofs.Common.{◌≡◌, ℕ, suc, ◌+◌, ◌<◌, true, false, List, [], ◌∷◌, ◌++◌, length, get_or, map, drop, sym, ap, subst, ◌∙◌, arith, append_assoc, drop-cons}
+use Rattle.std.proofs.Common.{◌≡◌, ℕ, suc, ◌+◌, ◌<◌, true, false, List, [], ◌∷◌, ◌++◌, length, get_or, map, drop, sym, ap, subst, ◌∙◌, arith, append_assoc, drop-cons, refl}
 use Rattle.book_model.specs.Contents.{Contents}
 use Rattle.clause_pool.specs.Clause.{clause_of}
 use Rattle.clause_pool.specs.Literal.{literal}
@@ -23,48 +23,29 @@ pub record KeysLeft (n : ℕ) (start now : Asking) (all rest : List KeyLiterals)
 
 pub keys_step : (n : ℕ) (start now more : Asking) (all rest : List KeyLiterals) (k : KeyLiterals) → KeysLeft n start now all (k ∷ rest) → TakesKey n now more k → KeysLeft n start more all rest
 keys_step n start now more all rest k left made = record {
-  clauses =
-      ap (λ (cs : List (List ℕ)). cs ++ keys_clauses n more.next rest) made.clauses
-      ∙ ap (λ (v : ℕ). (now.pool.clauses ++ key_clauses n now.next k) ++ keys_clauses n v rest) made.next
-      ∙ append_assoc now.pool.clauses (key_clauses n now.next k) (keys_clauses n (now.next + key_variables k) rest)
-      ∙ left.clauses;
+  clauses = rw (made.clauses, made.next, append_assoc) left.clauses;
   next = omega (arith, made.next, left.next);
-  ways =
-      ap (λ (ls : List ℕ). ls ++ ways more.next rest) made.ways
-      ∙ ap (λ (v : ℕ). (now.ways.items ++ ways now.next (k ∷ [])) ++ ways v rest) made.next
-      ∙ append_assoc now.ways.items (ways now.next (k ∷ [])) (ways (now.next + key_variables k) rest)
-      ∙ left.ways;
+  ways = rw (made.ways, made.next, append_assoc) left.ways;
 }
 
 -- all clauses of a position, made one after the other, where no way was there before
 module _ (n : ℕ) (old start made new : Asking) (ks : List KeyLiterals) (pool : start.pool.clauses ≡ old.pool.clauses) (begins : start.next ≡ old.next) (none : start.ways.items ≡ []) (takes : TakesKeys n start made ks) where
   next_is : made.next ≡ old.next + keys_variables ks
-  next_is = takes.next ∙ ap (λ (v : ℕ). v + keys_variables ks) begins
-
-  ways_are : made.ways.items ≡ ways old.next ks
-  ways_are = takes.ways ∙ ap (λ (ls : List ℕ). ls ++ ways start.next ks) none ∙ ap (λ (v : ℕ). ways v ks) begins
+  next_is = rw begins at takes.next
 
   pub position_asked : (l : ℕ) → l ≡ literal made.next true → l ≡ position_goal old.next ks
-  position_asked l is = is ∙ ap (λ (v : ℕ). literal v true) next_is
+  position_asked l is = rw next_is at is
 
   pub position_taken : new.pool.clauses ≡ made.pool.clauses ++ clause_of (literal made.next false ∷ made.ways.items) ∷ [] → new.next ≡ made.next + 1 → TakesPosition n old new ks
   position_taken clauses next = record {
-    clauses =
-        clauses ∙ ap (λ (cs : List (List ℕ)). cs ++ clause_of (literal made.next false ∷ made.ways.items) ∷ []) takes.clauses
-        ∙ ap (λ (v : ℕ). (start.pool.clauses ++ keys_clauses n start.next ks) ++ clause_of (literal v false ∷ made.ways.items) ∷ []) next_is
-        ∙ ap (λ (ls : List ℕ). (start.pool.clauses ++ keys_clauses n start.next ks) ++ clause_of (literal (old.next + keys_variables ks) false ∷ ls) ∷ []) ways_are
-        ∙ ap (λ (v : ℕ). (start.pool.clauses ++ keys_clauses n v ks) ++ goal_clause old.next ks ∷ []) begins
-        ∙ ap (λ (cs : List (List ℕ)). (cs ++ keys_clauses n old.next ks) ++ goal_clause old.next ks ∷ []) pool
-        ∙ append_assoc old.pool.clauses (keys_clauses n old.next ks) (goal_clause old.next ks ∷ []);
+    clauses = rw (clauses, takes.clauses, takes.ways, next_is, none, begins, pool, append_assoc) refl;
     next = omega (arith, next, next_is);
   }
 
 -- the keys of a position, by the usages that were found
 pub keys_found : (first second : Contents) (day : ℕ) (id : List ℕ) (joint : Joint) (own other : List Usage) → IsJoint first second day joint → own ≡ usages_at first id joint.first.items
     → other ≡ usages_at second id joint.second.items → keys_literals first own second other ≡ asked_keys first second day id
-keys_found first second day id joint own other is own_is other_is =
-    ap (λ (us : List Usage). keys_literals first us second other) (own_is ∙ ap (usages_at first id) is.first_usages)
-    ∙ ap (λ (ws : List Usage). keys_literals first (usages_at first id (first_usages first second day)) second ws) (other_is ∙ ap (usages_at second id) is.second_usages)
+keys_found first second day id joint own other is own_is other_is = rw (own_is, other_is, is.first_usages, is.second_usages) refl
 
 -- several positions
 pub record PlacesLeft (first second : Contents) (day : ℕ) (start now : Asking) (goals : List ℕ) (all rest : List Place) : Type 0 where
@@ -77,22 +58,10 @@ places_step : (first second : Contents) (day : ℕ) (start now more : Asking) (g
     → TakesPosition (length first.codes) now more (asked_keys first second day p.id) → l ≡ position_goal now.next (asked_keys first second day p.id) → pushed ≡ goals ++ l ∷ []
     → PlacesLeft first second day start more pushed all rest
 places_step first second day start now more goals pushed l all rest p left made lit push =
-    let n : ℕ = length first.codes in
-    let ks : List KeyLiterals = asked_keys first second day p.id in
-    let kss : List (List KeyLiterals) = place_keys first second day rest in
     record {
-      clauses =
-          ap (λ (cs : List (List ℕ)). cs ++ together_clauses n more.next kss) made.clauses
-          ∙ ap (λ (v : ℕ). (now.pool.clauses ++ position_clauses n now.next ks) ++ together_clauses n v kss) made.next
-          ∙ append_assoc now.pool.clauses (position_clauses n now.next ks) (together_clauses n (now.next + position_variables ks) kss)
-          ∙ left.clauses;
+      clauses = rw (made.clauses, made.next, append_assoc) left.clauses;
       next = omega (arith, made.next, left.next);
-      goals_left =
-          ap (λ (gs : List ℕ). gs ++ together_goals more.next kss) push
-          ∙ ap (λ (v : ℕ). (goals ++ l ∷ []) ++ together_goals v kss) made.next
-          ∙ append_assoc goals (l ∷ []) (together_goals (now.next + position_variables ks) kss)
-          ∙ ap (λ (g : ℕ). goals ++ g ∷ together_goals (now.next + position_variables ks) kss) lit
-          ∙ left.goals_left;
+      goals_left = rw (push, made.next, append_assoc, lit) left.goals_left;
     }
 
 pub places_loop : (first second : Contents) (day : ℕ) (start now more : Asking) (goals pushed : List ℕ) (l : ℕ) (ps : List Place) (i : ℕ) (p : Place) → i < length ps → p ≡ get_or ps i p
@@ -100,7 +69,7 @@ pub places_loop : (first second : Contents) (day : ℕ) (start now more : Asking
     → l ≡ position_goal now.next (asked_keys first second day p.id) → pushed ≡ goals ++ l ∷ [] → PlacesLeft first second day start more pushed ps (drop (i + 1) ps)
 places_loop first second day start now more goals pushed l ps i p within read left made lit push =
     places_step first second day start now more goals pushed l ps (drop (i + 1) ps) p
-    (subst (λ (qs : List Place). PlacesLeft first second day start now goals ps qs) (read_at ps i p within read) left) made lit push
+    (let split = read_at ps i p within read in rw split at left) made lit push
 
 -- all of them, behind the clauses of the books
 pub record IsCodedOf (first second : Contents) (day : ℕ) (ps : List Place) (coded : Coded) : Type 0 where
@@ -113,15 +82,11 @@ pub coded_made : (first second : Contents) (day : ℕ) (joint : Joint) (begun ma
     → goals ≡ together_goals begun.next (place_keys first second day ps) → coded.pool.clauses ≡ made.pool.clauses → coded.vars ≡ made.next → coded.goals.items ≡ goals
     → IsCodedOf first second day ps coded
 coded_made first second day joint begun made ps goals coded is pool next takes goals_are clauses vars all =
-    let n : ℕ = length first.codes in
-    let kss : List (List KeyLiterals) = place_keys first second day ps in
     let begins : begun.next ≡ joint_variables first second day = next ∙ is.variables in
     record {
-      clauses =
-          clauses ∙ takes.clauses ∙ ap (λ (cs : List (List ℕ)). cs ++ together_clauses n begun.next kss) (pool ∙ is.clauses)
-          ∙ ap (λ (v : ℕ). joint_clauses first second day ++ together_clauses n v kss) begins;
-      variables = vars ∙ takes.next ∙ ap (λ (v : ℕ). v + together_variables kss) begins;
-      goals = all ∙ goals_are ∙ ap (λ (v : ℕ). together_goals v kss) begins;
+      clauses = rw (clauses, takes.clauses, pool, is.clauses, begins) refl;
+      variables = rw (vars, takes.next, begins) refl;
+      goals = rw (all, goals_are, begins) refl;
     }
 
 -- a loop over keys
@@ -129,11 +94,6 @@ pub keys_loop : (n : ℕ) (start now more : Asking) (first : Contents) (us : Lis
     → KeysLeft n start now (map (key_literals first us second ws) keys) (map (key_literals first us second ws) (drop i keys)) → (one other : List ℕ) → one ≡ literals_with first us key → other ≡ literals_with second ws key
     → TakesKey n now more (key_of one other) → KeysLeft n start more (map (key_literals first us second ws) keys) (map (key_literals first us second ws) (drop (i + 1) keys))
 keys_loop n start now more first us second ws keys i key within read left one other one_is other_is made =
-    let next : suc i ≡ i + 1 = omega arith in
-    let rest : drop i keys ≡ key ∷ drop (i + 1) keys =
-    drop-cons keys i key within ∙ ap (λ (k : PartUse). k ∷ drop (suc i) keys) (sym read) ∙ ap (λ (k : ℕ). key ∷ drop k keys) next in
-    let here : key_of one other ≡ key_literals first us second ws key =
-    ap (λ (ls : List ℕ). key_of ls other) one_is ∙ ap (λ (ls : List ℕ). key_of (literals_with first us key) ls) other_is in
-    keys_step n start now more (map (key_literals first us second ws) keys) (map (key_literals first us second ws) (drop (i + 1) keys)) (key_literals first us second ws key)
-    (subst (λ (ks : List PartUse). KeysLeft n start now (map (key_literals first us second ws) keys) (map (key_literals first us second ws) ks)) rest left)
-    (subst (TakesKey n now more) here made)
+    let split = read_at keys i key within read in
+    keys_step n start now more (map (key_literals first us second ws) keys) (map (key_literals first us second ws) (drop (i + 1) keys)) (key_literals first us second ws key) (rw split at left)
+    (rw (one_is, other_is) at made)

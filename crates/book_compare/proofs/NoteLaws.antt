@@ -38,20 +38,14 @@ use Rattle.book_compare.specs.declared.place.Place.{Place}
 use Rattle.book_compare.proofs.ChoiceLaws.{same_when_none, none_when_same}
 use Rattle.book_compare.proofs.JointLaws.{lift_common, alone_false, first_good, first_right, second_good, second_right}
 use Rattle.book_compare.proofs.KeyLaws.{Values, constant, values_from_names, chooses_first, chooses_second, lost, won, truths, values_of, key_values, differs, keys_values, position_values}
-use Rattle.book_compare.proofs.NumberLaws.{missing_below}
+use Rattle.book_compare.proofs.NumberLaws.{cases_option, missing_below}
 use Rattle.book_compare.proofs.PickLaws.{picked_distinct, named-picked, picked_named, picked_in_other}
 use Rattle.book_compare.proofs.TogetherLaws.{together_values, sat_from_together, goal_by_values, differs_together, keys_there}
 use Rattle.book_compare.proofs.UsageLaws.{has_use, first_variants, renamed_variants, chosen_by_key}
 
 -- at most one part stands at each position
 few_at : (b : Contents) (day : ℕ) (id : List ℕ) (x : List Bool) → AreFew b day x → length (chosen b day id x) ≤ 1
-few_at b day id x few = by (position_place b id) refl
-  where
-    by : (o : Option ℕ) → position_place b id ≡ o → length (chosen b day id x) ≤ 1
-    by None is = let none : length (chosen b day id x) ≡ 0 = ap (λ o. length (option_map_or (chosen_at b day x) o [])) is in omega (arith, none)
-    by (Some place) is =
-        let one : length (chosen b day id x) ≡ length (chosen_at b day x place) = ap (λ o. length (option_map_or (chosen_at b day x) o [])) is in
-        omega (arith, one, few_chosen b day x place few)
+few_at b day id x few = elim (cases_option (position_place b id)) [ inl none ↦ rw none (omega arith) | inr some ↦ rw some.1 (few_chosen b day x some.0 few) ]
 
 few_chosen_in : (b : Contents) (day : ℕ) (id : List ℕ) (x : List Bool) → IsOfTerm b day → is_good b day x ≡ true → length (chosen b day id x) ≤ 1
 few_chosen_in b day id x term good = few_at b day id x (few_from_sound b day x (term.releasable.sound day term.first term.last x good))
@@ -166,32 +160,21 @@ SameOnKeys a c ks = AllByRecursion (λ k. SameOn a c k.first × SameOn a c k.sec
 
 -- the same truths have the same values
 same_key_values : (a c : ℕ → Bool) (k : KeyLiterals) → SameOn a c k.first → SameOn a c k.second → key_values a k ≡ key_values c k
-same_key_values a c k one other =
-    ap (λ (ts : List Bool). values_of ts (truths a k.second) (chooses_first a k) (chooses_second a k)) (same_truths a c k.first one)
-    ∙ ap (λ (ts : List Bool). values_of (truths c k.first) ts (chooses_first a k) (chooses_second a k)) (same_truths a c k.second other)
-    ∙ ap (λ (p : Bool). values_of (truths c k.first) (truths c k.second) p (chooses_second a k)) (same_any a c k.first one)
-    ∙ ap (λ (q : Bool). values_of (truths c k.first) (truths c k.second) (chooses_first c k) q) (same_any a c k.second other)
+same_key_values a c k one other = rw (same_truths a c k.first one, same_truths a c k.second other, same_any a c k.first one, same_any a c k.second other) refl
 
 same_keys_values : (a c : ℕ → Bool) (ks : List KeyLiterals) → SameOnKeys a c ks → keys_values a ks ≡ keys_values c ks
 same_keys_values a c [] same = refl
-same_keys_values a c (k ∷ ks) same =
-    ap (λ (ts : List Bool). ts ++ keys_values a ks) (same_key_values a c k same.0.0 same.0.1)
-    ∙ ap (λ (ts : List Bool). key_values c k ++ ts) (same_keys_values a c ks same.1)
+same_keys_values a c (k ∷ ks) same = rw (same_key_values a c k same.0.0 same.0.1, same_keys_values a c ks same.1) refl
 
 same_differs : (a c : ℕ → Bool) (k : KeyLiterals) → SameOn a c k.first → SameOn a c k.second → differs a k ≡ differs c k
-same_differs a c k one other =
-    ap (λ (p : Bool). lost p (chooses_second a k) || won p (chooses_second a k)) (same_any a c k.first one)
-    ∙ ap (λ (q : Bool). lost (chooses_first c k) q || won (chooses_first c k) q) (same_any a c k.second other)
+same_differs a c k one other = rw (same_any a c k.first one, same_any a c k.second other) refl
 
 same_any_differs : (a c : ℕ → Bool) (ks : List KeyLiterals) → SameOnKeys a c ks → list_any (differs a) ks ≡ list_any (differs c) ks
 same_any_differs a c [] same = refl
-same_any_differs a c (k ∷ ks) same =
-    ap (λ t. t || list_any (differs a) ks) (same_differs a c k same.0.0 same.0.1) ∙ ap (λ t. differs c k || t) (same_any_differs a c ks same.1)
+same_any_differs a c (k ∷ ks) same = rw (same_differs a c k same.0.0 same.0.1, same_any_differs a c ks same.1) refl
 
 same_position_values : (a c : ℕ → Bool) (ks : List KeyLiterals) → SameOnKeys a c ks → position_values a ks ≡ position_values c ks
-same_position_values a c ks same =
-    ap (λ (ts : List Bool). ts ++ list_any (differs a) ks ∷ []) (same_keys_values a c ks same)
-    ∙ ap (λ (t : Bool). keys_values c ks ++ t ∷ []) (same_any_differs a c ks same)
+same_position_values a c ks same = rw (same_keys_values a c ks same, same_any_differs a c ks same) refl
 
 abbrev SameOnUsages : (ℕ → Bool) → (ℕ → Bool) → List Usage → Type 0
 SameOnUsages a c us = AllByRecursion (λ u. is_true a u.literal ≡ is_true c u.literal) us
@@ -201,13 +184,10 @@ both_right b x a c [] one other = tt
 both_right b x a c (u ∷ us) one other = (one.0 ∙ sym other.0, both_right b x a c us one.1 other.1)
 
 same_at : (b : Contents) (id : List ℕ) (a c : ℕ → Bool) (us : List Usage) → SameOnUsages a c us → SameOnUsages a c (usages_at b id us)
-same_at b id a c us same = by (position_place b id) refl
-  where
-    by : (o : Option ℕ) → position_place b id ≡ o → SameOnUsages a c (usages_at b id us)
-    by None is = subst (SameOnUsages a c) (sym (ap (λ o. option_map_or (λ place. usages_in b place us) o []) is)) tt
-    by (Some place) is =
-        subst (SameOnUsages a c) (sym (ap (λ o. option_map_or (λ at. usages_in b at us) o []) is))
-        (all_filtered (λ u. is_true a u.literal ≡ is_true c u.literal) (λ u. is_variant_of b place u.variant) us same)
+same_at b id a c us same = elim (cases_option (position_place b id)) [
+  | inl none ↦ rw none tt
+  | inr some ↦ rw some.1 (all_filtered (λ u. is_true a u.literal ≡ is_true c u.literal) (λ u. is_variant_of b some.0 u.variant) us same)
+]
 
 same_with : (b : Contents) (a c : ℕ → Bool) (us : List Usage) (key : PartUse) → SameOnUsages a c us → SameOn a c (literals_with b us key)
 same_with b a c us key same =
@@ -273,9 +253,7 @@ module _ (first second : Contents) (day : ℕ) (books : AreBooks first second da
 
     same_together : (qs : List Place) → together_values c (place_keys first second day qs) ≡ together_values a (place_keys first second day qs)
     same_together [] = refl
-    same_together (q ∷ qs) =
-        ap (λ (ts : List Bool). ts ++ together_values c (place_keys first second day qs)) (same_position_values c a (asked_keys first second day q.id) (same_keys q.id))
-        ∙ ap (λ (ts : List Bool). position_values a (asked_keys first second day q.id) ++ ts) (same_together qs)
+    same_together (q ∷ qs) = rw (same_position_values c a (asked_keys first second day q.id) (same_keys q.id), same_together qs) refl
 
     values : Values c (joint_variables first second day) (together_values c (place_keys first second day ps))
     values =
@@ -311,7 +289,5 @@ pub left_alone : (first second : Contents) (day budget : ℕ) (p : Place) (learn
     → IsSpent (searched_variables first second day (p ∷ [])) (searched_clauses first second day (p ∷ [])) (goal_at first second day (p ∷ []) 0 ∷ []) budget learnt → IsLeft first second day budget p.id learnt
 left_alone first second day budget p learnt spent =
     let variables : searched_variables first second day (p ∷ []) ≡ asked_variables first second day p.id = omega arith in
-    let clauses : searched_clauses first second day (p ∷ []) ≡ asked_clauses first second day p.id =
-    ap (λ (cs : List (List ℕ)). joint_clauses first second day ++ cs) (append-nil (position_clauses (length first.codes) (joint_variables first second day) (asked_keys first second day p.id))) in
-    subst (λ (n : ℕ). IsSpent n (asked_clauses first second day p.id) (asked_goal first second day p.id ∷ []) budget learnt) variables
-    (subst (λ (cs : List (List ℕ)). IsSpent (searched_variables first second day (p ∷ [])) cs (asked_goal first second day p.id ∷ []) budget learnt) clauses spent)
+    let clauses = append-nil (position_clauses (length first.codes) (joint_variables first second day) (asked_keys first second day p.id)) in
+    rw (variables, clauses) at spent

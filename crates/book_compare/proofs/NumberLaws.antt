@@ -1,9 +1,9 @@
 -- The variables of the second book's codes: which of them are true over a set of names that are all codes of the first book.
-use Rattle.std.proofs.Common.{◌≡◌, ℕ, zero, suc, ◌+◌, ◌<◌, ◌≤◌, Bool, true, false, cond, List, [], ◌∷◌, Option, Some, None, length, refl, sym, ap, subst, ◌∙◌, inl, inr, arith}
+use Rattle.std.proofs.Common.{◌≡◌, ℕ, zero, suc, ◌+◌, ◌<◌, ◌≤◌, Bool, true, false, List, [], ◌∷◌, Option, Some, None, length, refl, sym, ap, subst, ◌∙◌, ◌⊎◌, inl, inr, arith}
 use Rattle.std.specs.List.{slice_get, list_any, filter, AllByRecursion}
 use Rattle.std.specs.Option.{option_map_or, is_none}
 use Rattle.std.specs.Cmp.Lexicographic.{bytes_decides}
-use Rattle.std.proofs.lemmas.Bool.{cases_Bool, true≢false, or_from}
+use Rattle.std.proofs.lemmas.Bool.{cases_Bool, cond_both, true≢false}
 use Rattle.std.proofs.lemmas.Iterator.Adapters.{position_from-zero}
 use Rattle.std.proofs.lemmas.Option.{slice_get_within}
 use Rattle.pb_base.specs.Names.{same_name, place_in}
@@ -22,46 +22,21 @@ not_there codes c none = none_found (same_name c) 0 codes (sym (position_from-ze
 pub not_named : (codes names : List (List ℕ)) (c : List ℕ) → AreNamed codes names → list_any (same_name c) codes ≡ false → list_any (same_name c) names ≡ false
 not_named codes [] c are out = refl
 not_named codes (n ∷ names) c are out = elim (cases_Bool (same_name c n)) [
-  | inl same ↦
-      let is : c ≡ n = (bytes_decides c n).0 same in
-      absurd (true≢false (sym are.0 ∙ ap (λ (m : List ℕ). list_any (same_name m) codes) (sym is) ∙ out))
-  | inr other ↦ or_from (same_name c n) (list_any (same_name c) names) other (not_named codes names c are.1 out)
+  | inl same ↦ let is = (bytes_decides c n).0 same in absurd (true≢false (sym are.0 ∙ rw is at out))
+  | inr other ↦ rw other (not_named codes names c are.1 out)
 ]
 
-pub numbers_shared : (next : ℕ) (first : List (List ℕ)) (c : List ℕ) (cs : List (List ℕ)) (place : ℕ) → place_in first c ≡ Some place
-    → numbers_from next first (c ∷ cs) ≡ place ∷ numbers_from next first cs
-numbers_shared next first c cs place is = ap (λ o. option_map_or (λ p. p ∷ numbers_from next first cs) o (next ∷ numbers_from (next + 1) first cs)) is
-
-pub numbers_added : (next : ℕ) (first : List (List ℕ)) (c : List ℕ) (cs : List (List ℕ)) → place_in first c ≡ None
-    → numbers_from next first (c ∷ cs) ≡ next ∷ numbers_from (next + 1) first cs
-numbers_added next first c cs is = ap (λ o. option_map_or (λ p. p ∷ numbers_from next first cs) o (next ∷ numbers_from (next + 1) first cs)) is
-
-pub further_shared : (first : List (List ℕ)) (c : List ℕ) (cs : List (List ℕ)) (place : ℕ) → place_in first c ≡ Some place → further first (c ∷ cs) ≡ further first cs
-further_shared first c cs place is =
-    let rest : List (List ℕ) = filter (λ d. is_none (place_in first d)) cs in
-    ap (λ o. length (cond (is_none o) (c ∷ rest) rest)) is
-
-pub further_added : (first : List (List ℕ)) (c : List ℕ) (cs : List (List ℕ)) → place_in first c ≡ None → further first (c ∷ cs) ≡ suc (further first cs)
-further_added first c cs is =
-    let rest : List (List ℕ) = filter (λ d. is_none (place_in first d)) cs in
-    ap (λ o. length (cond (is_none o) (c ∷ rest) rest)) is
-
-added_shared : (next : ℕ) (first : List (List ℕ)) (c : List ℕ) (cs : List (List ℕ)) (place : ℕ) → place_in first c ≡ Some place
-    → added_from next first (c ∷ cs) ≡ added_from next first cs
-added_shared next first c cs place is = ap (λ o. cond (is_none o) (next ∷ added_from (next + 1) first cs) (added_from next first cs)) is
-
-added_added : (next : ℕ) (first : List (List ℕ)) (c : List ℕ) (cs : List (List ℕ)) → place_in first c ≡ None
-    → added_from next first (c ∷ cs) ≡ next ∷ added_from (next + 1) first cs
-added_added next first c cs is = ap (λ o. cond (is_none o) (next ∷ added_from (next + 1) first cs) (added_from next first cs)) is
+-- it is there, or it isn't
+pub cases_option : {A : Type 0} (o : Option A) → (o ≡ None) ⊎ ((x : A) × (o ≡ Some x))
+cases_option None = inl refl
+cases_option (Some x) = inr (x, refl)
 
 pub length-numbers_from : (next : ℕ) (first cs : List (List ℕ)) → length (numbers_from next first cs) ≡ length cs
 length-numbers_from next first [] = refl
-length-numbers_from next first (c ∷ cs) = by (place_in first c) refl (length-numbers_from next first cs) (length-numbers_from (next + 1) first cs)
-  where
-    by : (o : Option ℕ) → place_in first c ≡ o → length (numbers_from next first cs) ≡ length cs → length (numbers_from (next + 1) first cs) ≡ length cs
-        → length (numbers_from next first (c ∷ cs)) ≡ length (c ∷ cs)
-    by (Some place) is here later = ap length (numbers_shared next first c cs place is) ∙ ap suc here
-    by None is here later = ap length (numbers_added next first c cs is) ∙ ap suc later
+length-numbers_from next first (c ∷ cs) = elim (cases_option (place_in first c)) [
+  | inl none ↦ rw none (ap suc (length-numbers_from (next + 1) first cs))
+  | inr some ↦ rw some.1 (ap suc (length-numbers_from next first cs))
+]
 
 -- where a name stands, it is in range
 pub place_within : (codes : List (List ℕ)) (c : List ℕ) (place : ℕ) → place_in codes c ≡ Some place → place < length codes
@@ -74,48 +49,30 @@ all_more m k more (n ∷ ns) h = let below : n < m = h.0 in (omega arith, all_mo
 
 pub numbers_below : (next : ℕ) (first cs : List (List ℕ)) → length first ≤ next → AllByRecursion (λ n. n < next + further first cs) (numbers_from next first cs)
 numbers_below next first [] behind = tt
-numbers_below next first (c ∷ cs) behind = by (place_in first c) refl (numbers_below next first cs behind) (numbers_below (next + 1) first cs (omega arith))
-  where
-    by : (o : Option ℕ) → place_in first c ≡ o → AllByRecursion (λ n. n < next + further first cs) (numbers_from next first cs)
-        → AllByRecursion (λ n. n < next + 1 + further first cs) (numbers_from (next + 1) first cs) → AllByRecursion (λ n. n < next + further first (c ∷ cs)) (numbers_from next first (c ∷ cs))
-    by (Some place) is here later =
-        let within : place < length first = place_within first c place is in
-        let same : further first (c ∷ cs) ≡ further first cs = further_shared first c cs place is in
-        subst (λ (ns : List ℕ). AllByRecursion (λ n. n < next + further first (c ∷ cs)) ns) (sym (numbers_shared next first c cs place is))
-        (omega (arith, within, behind), all_more (next + further first cs) (next + further first (c ∷ cs)) (omega (arith, same)) (numbers_from next first cs) here)
-    by None is here later =
-        let more : further first (c ∷ cs) ≡ suc (further first cs) = further_added first c cs is in
-        subst (λ (ns : List ℕ). AllByRecursion (λ n. n < next + further first (c ∷ cs)) ns) (sym (numbers_added next first c cs is))
-        (omega (arith, more), all_more (next + 1 + further first cs) (next + further first (c ∷ cs)) (omega (arith, more)) (numbers_from (next + 1) first cs) later)
+numbers_below next first (c ∷ cs) behind = elim (cases_option (place_in first c)) [
+  | inl none ↦ rw none (omega arith, all_more (next + 1 + further first cs) _ (omega arith) (numbers_from (next + 1) first cs) (numbers_below (next + 1) first cs (omega arith)))
+  | inr some ↦ rw some.1 (omega (arith, place_within first c some.0 some.1), numbers_below next first cs behind)
+]
 
 -- each of the variables of codes that only the second book has
 pub added_at : (P : ℕ → Type 0) (next : ℕ) (first cs : List (List ℕ)) → AllByRecursion P (added_from next first cs) → (k : ℕ) → k < further first cs → P (next + k)
 added_at P next first [] h k within = absurd (omega arith)
-added_at P next first (c ∷ cs) h k within = by (place_in first c) refl (λ all. added_at P next first cs all k) (λ all j. added_at P (next + 1) first cs all j) k within
+added_at P next first (c ∷ cs) h k within = elim (cases_Bool (is_none (place_in first c))) [
+  | inl none ↦ first_or k (rw none at h) (rw none at within) (λ all. added_at P (next + 1) first cs all)
+  | inr some ↦ added_at P next first cs (rw some at h) k (rw some at within)
+]
   where
-    by : (o : Option ℕ) → place_in first c ≡ o → (AllByRecursion P (added_from next first cs) → k < further first cs → P (next + k))
-        → (AllByRecursion P (added_from (next + 1) first cs) → (j : ℕ) → j < further first cs → P (next + 1 + j)) → (j : ℕ) → j < further first (c ∷ cs) → P (next + k)
-    by (Some place) is here later j inside =
-        here (subst (AllByRecursion P) (added_shared next first c cs place is) h) (omega (arith, within, further_shared first c cs place is))
-    by None is here later j inside = first_or k within
-      where
-        all : AllByRecursion P (next ∷ added_from (next + 1) first cs)
-        all = subst (AllByRecursion P) (added_added next first c cs is) h
-
-        first_or : (i : ℕ) → i < further first (c ∷ cs) → P (next + i)
-        first_or zero low = subst P (let e : next ≡ next + 0 = omega arith in e) all.0
-        first_or (suc i) low = subst P (let e : next + 1 + i ≡ next + suc i = omega arith in e) (later all.1 i (omega (arith, low, further_added first c cs is)))
+    first_or : (i : ℕ) → AllByRecursion P (next ∷ added_from (next + 1) first cs) → i < suc (further first cs)
+        → (AllByRecursion P (added_from (next + 1) first cs) → (j : ℕ) → j < further first cs → P (next + 1 + j)) → P (next + i)
+    first_or zero all low later = subst P (omega arith) all.0
+    first_or (suc i) all low later = subst P (let e : next + 1 + i ≡ next + suc i = omega arith in e) (later all.1 i (omega arith))
 
 pub all_added : (P : ℕ → Type 0) (next : ℕ) (first cs : List (List ℕ)) → ((k : ℕ) → P (next + k)) → AllByRecursion P (added_from next first cs)
 all_added P next first [] each = tt
 all_added P next first (c ∷ cs) each =
-    by (place_in first c) refl (all_added P next first cs each)
-    (all_added P (next + 1) first cs (λ k. subst P (let e : next + suc k ≡ next + 1 + k = omega arith in e) (each (suc k))))
-  where
-    by : (o : Option ℕ) → place_in first c ≡ o → AllByRecursion P (added_from next first cs) → AllByRecursion P (added_from (next + 1) first cs) → AllByRecursion P (added_from next first (c ∷ cs))
-    by (Some place) is here later = subst (AllByRecursion P) (sym (added_shared next first c cs place is)) here
-    by None is here later =
-        subst (AllByRecursion P) (sym (added_added next first c cs is)) (subst P (let e : next + 0 ≡ next = omega arith in e) (each 0), later)
+    cond_both (is_none (place_in first c)) _ _ (AllByRecursion P)
+    (λ _. (subst P (omega arith) (each 0), all_added P (next + 1) first cs (λ k. subst P (omega arith) (each (suc k)))))
+    (λ _. all_added P next first cs each)
 
 -- over a set that has the named codes of the first book, and none that only the second has, each code of the second is present
 -- where it is named
@@ -126,60 +83,38 @@ module _ (first names : List (List ℕ)) (z : List Bool) (are : AreNamed first n
   pub number_has : (next : ℕ) (cs : List (List ℕ)) → AllByRecursion (λ v. has z v ≡ false) (added_from next first cs) → (j number : ℕ)
       → slice_get (numbers_from next first cs) j ≡ Some number → has z number ≡ has (named cs names) j
   number_has next [] gone j number is = cc
-  number_has next (c ∷ cs) gone j number is = by (place_in first c) refl (λ all. number_has next cs all) (λ all. number_has (next + 1) cs all) j is
-    where
-      by : (o : Option ℕ) → place_in first c ≡ o
-          → (AllByRecursion (λ v. has z v ≡ false) (added_from next first cs) → (k n : ℕ) → slice_get (numbers_from next first cs) k ≡ Some n → has z n ≡ has (named cs names) k)
-          → (AllByRecursion (λ v. has z v ≡ false) (added_from (next + 1) first cs) → (k n : ℕ) → slice_get (numbers_from (next + 1) first cs) k ≡ Some n → has z n ≡ has (named cs names) k)
-          → (k : ℕ) → slice_get (numbers_from next first (c ∷ cs)) k ≡ Some number → has z number ≡ has (named (c ∷ cs) names) k
-      by (Some place) found here later k at = shared k (sym (ap (λ (ns : List ℕ). slice_get ns k) (numbers_shared next first c cs place found)) ∙ at)
-        where
-          shared : (i : ℕ) → slice_get (place ∷ numbers_from next first cs) i ≡ Some number → has z number ≡ has (named (c ∷ cs) names) i
-          shared zero is = let e : place ≡ number = cc in ap (has z) (sym e) ∙ shared_at c place found
-          shared (suc i) is = here (subst (AllByRecursion (λ v. has z v ≡ false)) (added_shared next first c cs place found) gone) i number is
-      by None found here later k at = added k (sym (ap (λ (ns : List ℕ). slice_get ns k) (numbers_added next first c cs found)) ∙ at)
-        where
-          all : AllByRecursion (λ v. has z v ≡ false) (next ∷ added_from (next + 1) first cs)
-          all = subst (AllByRecursion (λ v. has z v ≡ false)) (added_added next first c cs found) gone
-
-          added : (i : ℕ) → slice_get (next ∷ numbers_from (next + 1) first cs) i ≡ Some number → has z number ≡ has (named (c ∷ cs) names) i
-          added zero is = let e : next ≡ number = cc in ap (has z) (sym e) ∙ all.0 ∙ sym (not_named first names c are (not_there first c found))
-          added (suc i) is = later all.1 i number is
+  number_has next (c ∷ cs) gone zero number is = elim (cases_option (place_in first c)) [
+    | inl none ↦
+        let e = rw none at is in let all = rw none at gone in
+        ap (has z) (let own : number ≡ next = cc in own) ∙ all.0 ∙ sym (not_named first names c are (not_there first c none))
+    | inr some ↦ let e = rw some.1 at is in ap (has z) (let own : number ≡ some.0 = cc in own) ∙ shared_at c some.0 some.1
+  ]
+  number_has next (c ∷ cs) gone (suc j) number is = elim (cases_option (place_in first c)) [
+    | inl none ↦ let all = rw none at gone in number_has (next + 1) cs all.1 j number (rw none at is)
+    | inr some ↦ number_has next cs (rw some.1 at gone) j number (rw some.1 at is)
+  ]
 
 -- the codes of the first book that the second lacks are absent where all names are the second's
 pub missing_absent : (second names : List (List ℕ)) (z : List Bool) → AreNamed second names → (i : ℕ) (cs : List (List ℕ))
     → ((j : ℕ) (c : List ℕ) → slice_get cs j ≡ Some c → has z (i + j) ≡ list_any (same_name c) names) → AllByRecursion (λ v. has z v ≡ false) (missing_from i second cs)
 missing_absent second names z are i [] each = tt
 missing_absent second names z are i (c ∷ cs) each =
-    by (place_in second c) refl (missing_absent second names z are (i + 1) cs (λ j d is. let e : i + 1 + j ≡ i + suc j = omega arith in ap (has z) e ∙ each (suc j) d is))
-  where
-    by : (o : Option ℕ) → place_in second c ≡ o → AllByRecursion (λ v. has z v ≡ false) (missing_from (i + 1) second cs) → AllByRecursion (λ v. has z v ≡ false) (missing_from i second (c ∷ cs))
-    by (Some place) is later =
-        subst (AllByRecursion (λ v. has z v ≡ false)) (sym (ap (λ o. cond (is_none o) (i ∷ missing_from (i + 1) second cs) (missing_from (i + 1) second cs)) is)) later
-    by None is later =
-        let here : i + 0 ≡ i = omega arith in
-        subst (AllByRecursion (λ v. has z v ≡ false)) (sym (ap (λ o. cond (is_none o) (i ∷ missing_from (i + 1) second cs) (missing_from (i + 1) second cs)) is))
-        (sym (ap (has z) here) ∙ each 0 c refl ∙ not_named second names c are (not_there second c is), later)
+    let later = missing_absent second names z are (i + 1) cs (λ j d is. let e : i + 1 + j ≡ i + suc j = omega arith in ap (has z) e ∙ each (suc j) d is) in
+    elim (cases_option (place_in second c)) [
+      | inl none ↦ let here : i + 0 ≡ i = omega arith in rw none (sym (ap (has z) here) ∙ each 0 c refl ∙ not_named second names c are (not_there second c none), later)
+      | inr some ↦ rw some.1 later
+    ]
 
 -- all of these variables are below m
 pub missing_below : (m i : ℕ) (second cs : List (List ℕ)) → i + length cs ≤ m → AllByRecursion (λ v. v < m) (missing_from i second cs)
 missing_below m i second [] low = tt
-missing_below m i second (c ∷ cs) low = by (is_none (place_in second c)) refl (missing_below m (i + 1) second cs (omega arith))
-  where
-    by : (t : Bool) → is_none (place_in second c) ≡ t → AllByRecursion (λ v. v < m) (missing_from (i + 1) second cs) → AllByRecursion (λ v. v < m) (missing_from i second (c ∷ cs))
-    by true is later = subst (AllByRecursion (λ v. v < m)) (sym (ap (λ t. cond t (i ∷ missing_from (i + 1) second cs) (missing_from (i + 1) second cs)) is)) (omega (arith, low), later)
-    by false is later = subst (AllByRecursion (λ v. v < m)) (sym (ap (λ t. cond t (i ∷ missing_from (i + 1) second cs) (missing_from (i + 1) second cs)) is)) later
+missing_below m i second (c ∷ cs) low =
+    let later = missing_below m (i + 1) second cs (omega arith) in
+    cond_both (is_none (place_in second c)) _ _ (AllByRecursion (λ v. v < m)) (λ _. (omega arith, later)) (λ _. later)
 
 pub added_below : (next : ℕ) (first cs : List (List ℕ)) → AllByRecursion (λ v. v < next + further first cs) (added_from next first cs)
 added_below next first [] = tt
-added_below next first (c ∷ cs) = by (place_in first c) refl (added_below next first cs) (added_below (next + 1) first cs)
-  where
-    by : (o : Option ℕ) → place_in first c ≡ o → AllByRecursion (λ v. v < next + further first cs) (added_from next first cs)
-        → AllByRecursion (λ v. v < next + 1 + further first cs) (added_from (next + 1) first cs) → AllByRecursion (λ v. v < next + further first (c ∷ cs)) (added_from next first (c ∷ cs))
-    by (Some place) is here later =
-        subst (AllByRecursion (λ v. v < next + further first (c ∷ cs))) (sym (added_shared next first c cs place is))
-        (all_more (next + further first cs) (next + further first (c ∷ cs)) (omega (arith, further_shared first c cs place is)) (added_from next first cs) here)
-    by None is here later =
-        let more : further first (c ∷ cs) ≡ suc (further first cs) = further_added first c cs is in
-        subst (AllByRecursion (λ v. v < next + further first (c ∷ cs))) (sym (added_added next first c cs is))
-        (omega (arith, more), all_more (next + 1 + further first cs) (next + further first (c ∷ cs)) (omega (arith, more)) (added_from (next + 1) first cs) later)
+added_below next first (c ∷ cs) = elim (cases_Bool (is_none (place_in first c))) [
+  | inl none ↦ rw none (omega arith, all_more (next + 1 + further first cs) _ (omega arith) (added_from (next + 1) first cs) (added_below (next + 1) first cs))
+  | inr some ↦ rw some (added_below next first cs)
+]

@@ -1,9 +1,10 @@
 -- The names of the codes in a set: they are distinct, they are codes, and they name the set.
-use Rattle.std.proofs.Common.{◌≡◌, ℕ, zero, suc, ◌+◌, ◌<◌, Bool, true, false, ◌||◌, cond, List, [], ◌∷◌, ◌++◌, Option, Some, None, length, get_or, refl, sym, ap, subst, ◌∙◌, inl, inr, arith}
+use Rattle.std.proofs.Common.{◌≡◌, ℕ, zero, suc, ◌+◌, ◌<◌, Bool, true, false, ◌||◌, cond, List, [], ◌∷◌, ◌++◌, Option, Some, None, length, get_or, refl, sym, ap, subst, ◌∙◌, inl, inr, arith, ext_get_or}
+use Rattle.std.proofs.lemmas.List.{length-map}
 use Rattle.std.specs.List.{list_any, slice_get, AllByRecursion, IsDistinct}
 use Rattle.std.specs.Option.{is_none}
 use Rattle.std.specs.Cmp.Lexicographic.{nat_list_eq_equiv}
-use Rattle.std.proofs.lemmas.Bool.{cases_Bool, cond-true, cond-false, or_from}
+use Rattle.std.proofs.lemmas.Bool.{cases_Bool, cond_both, or_from}
 use Rattle.std.proofs.lemmas.Map.Keys.{IsDistinct-head, IsDistinct-tail}
 use Rattle.std.proofs.lemmas.Option.{slice_get-get_or}
 use Rattle.pb_base.specs.Names.{same_name, place_in}
@@ -14,31 +15,26 @@ use Rattle.pb_base.proofs.NamedSets.{code_at_place, has-named}
 use Rattle.book_compare.specs.Common.{AreNamed}
 use Rattle.book_compare.specs.Numbering.{missing_from}
 use Rattle.book_compare.specs.Picked.{picked_from, picked}
+use Rattle.book_compare.proofs.NumberLaws.{cases_option}
 
 pub either_true : (t u : Bool) → u ≡ true → (t || u) ≡ true
 either_true true u h = refl
 either_true false u h = h
 
-picked_with : (i : ℕ) (x : List Bool) (c : List ℕ) (cs : List (List ℕ)) → has x i ≡ true → picked_from i x (c ∷ cs) ≡ c ∷ picked_from (i + 1) x cs
-picked_with i x c cs is = ap (λ (ns : List (List ℕ)). ns ++ picked_from (i + 1) x cs) (cond-true (has x i) (c ∷ []) [] is)
-
-picked_without : (i : ℕ) (x : List Bool) (c : List ℕ) (cs : List (List ℕ)) → has x i ≡ false → picked_from i x (c ∷ cs) ≡ picked_from (i + 1) x cs
-picked_without i x c cs is = ap (λ (ns : List (List ℕ)). ns ++ picked_from (i + 1) x cs) (cond-false (has x i) (c ∷ []) [] is)
-
 -- what is apart from all codes is apart from those picked
 apart_picked : (name : List ℕ) (i : ℕ) (x : List Bool) (cs : List (List ℕ)) → AllByRecursion (λ c. same_name name c ≡ false) cs → AllByRecursion (λ c. same_name name c ≡ false) (picked_from i x cs)
 apart_picked name i x [] apart = tt
 apart_picked name i x (c ∷ cs) apart = elim (cases_Bool (has x i)) [
-  | inl is ↦ subst (AllByRecursion (λ d. same_name name d ≡ false)) (sym (picked_with i x c cs is)) (apart.0, apart_picked name (i + 1) x cs apart.1)
-  | inr is ↦ subst (AllByRecursion (λ d. same_name name d ≡ false)) (sym (picked_without i x c cs is)) (apart_picked name (i + 1) x cs apart.1)
+  | inl is ↦ rw is (apart.0, apart_picked name (i + 1) x cs apart.1)
+  | inr is ↦ rw is (apart_picked name (i + 1) x cs apart.1)
 ]
 
 pub picked_distinct : (i : ℕ) (x : List Bool) (cs : List (List ℕ)) → IsDistinct same_name cs → IsDistinct same_name (picked_from i x cs)
 unfolding IsDistinct
 picked_distinct i x [] apart = tt
 picked_distinct i x (c ∷ cs) apart = elim (cases_Bool (has x i)) [
-  | inl is ↦ subst (IsDistinct same_name) (sym (picked_with i x c cs is)) (apart_picked c (i + 1) x cs apart.0, picked_distinct (i + 1) x cs apart.1)
-  | inr is ↦ subst (IsDistinct same_name) (sym (picked_without i x c cs is)) (picked_distinct (i + 1) x cs apart.1)
+  | inl is ↦ rw is (apart_picked c (i + 1) x cs apart.0, picked_distinct (i + 1) x cs apart.1)
+  | inr is ↦ rw is (picked_distinct (i + 1) x cs apart.1)
 ]
 
 none_of_these : (name : List ℕ) (cs : List (List ℕ)) → AllByRecursion (λ c. same_name name c ≡ false) cs → list_any (same_name name) cs ≡ false
@@ -59,34 +55,30 @@ any_picked i x [] apart j c is = cc
 any_picked i x (d ∷ cs) apart zero c is =
     let same : d ≡ c = cc in
     let here : i ≡ i + 0 = omega arith in
-    subst (λ (name : List ℕ). list_any (same_name name) (picked_from i x (d ∷ cs)) ≡ has x (i + 0)) same
+    rw (← same, ← here)
     (elim (cases_Bool (has x i)) [
-      | inl with_ ↦
-          ap (list_any (same_name d)) (picked_with i x d cs with_) ∙ ap (λ t. t || list_any (same_name d) (picked_from (i + 1) x cs)) (same_self d)
-          ∙ sym with_ ∙ ap (has x) here
-      | inr without ↦
-          ap (list_any (same_name d)) (picked_without i x d cs without)
-          ∙ none_of_these d (picked_from (i + 1) x cs) (apart_picked d (i + 1) x cs (IsDistinct-head same_name d cs apart)) ∙ sym without ∙ ap (has x) here
+      | inl with_ ↦ rw (with_, same_self d) refl
+      | inr without ↦ rw without (none_of_these d (picked_from (i + 1) x cs) (apart_picked d (i + 1) x cs (IsDistinct-head same_name d cs apart)))
     ])
 any_picked i x (d ∷ cs) apart (suc j) c is =
     let there : i + 1 + j ≡ i + suc j = omega arith in
     let later : list_any (same_name c) (picked_from (i + 1) x cs) ≡ has x (i + suc j) = any_picked (i + 1) x cs (IsDistinct-tail same_name d cs apart) j c is ∙ ap (has x) there in
     let other : same_name c d ≡ false = among c d cs j (IsDistinct-head same_name d cs apart) is in
-    elim (cases_Bool (has x i)) [
-      | inl with_ ↦
-          ap (list_any (same_name c)) (picked_with i x d cs with_) ∙ ap (λ t. t || list_any (same_name c) (picked_from (i + 1) x cs)) other ∙ later
-      | inr without ↦ ap (list_any (same_name c)) (picked_without i x d cs without) ∙ later
-    ]
+    elim (cases_Bool (has x i)) [ inl with_ ↦ rw (with_, other) later | inr without ↦ rw without later ]
 
 -- so they name it
 pub named-picked : (codes : List (List ℕ)) (x : List Bool) → IsDistinct same_name codes → (i : ℕ) → i < length codes → has x i ≡ has (named codes (picked codes x)) i
-named-picked codes x apart i within = by (slice_get codes i) refl
-  where
-    by : (o : Option (List ℕ)) → slice_get codes i ≡ o → has x i ≡ has (named codes (picked codes x)) i
-    by (Some c) is =
-        let here : 0 + i ≡ i = omega arith in
-        sym (ap (has x) here) ∙ sym (any_picked 0 x codes apart i c is) ∙ sym (has-named codes (picked codes x) c i is)
-    by None is = let there : slice_get codes i ≡ Some (get_or codes i []) = slice_get-get_or codes i [] within in cc
+named-picked codes x apart i within =
+    let c : List ℕ = get_or codes i [] in
+    let there : slice_get codes i ≡ Some c = slice_get-get_or codes i [] within in
+    let here : 0 + i ≡ i = omega arith in
+    sym (ap (has x) here) ∙ sym (any_picked 0 x codes apart i c there) ∙ sym (has-named codes (picked codes x) c i there)
+
+pub named_own : (codes : List (List ℕ)) (x : List Bool) → length x ≡ length codes → IsDistinct same_name codes → named codes (picked codes x) ≡ x
+named_own codes x counted apart =
+    let own : List (List ℕ) = picked codes x in
+    let long = length-map codes (λ c. list_any (same_name c) own) in
+    ext_get_or false (named codes own) x (long ∙ sym counted) (λ i within. sym (named-picked codes x apart i (omega (arith, within, long))))
 
 named_behind : (c : List ℕ) (codes names : List (List ℕ)) → AreNamed codes names → AreNamed (c ∷ codes) names
 named_behind c codes [] are = tt
@@ -95,15 +87,13 @@ named_behind c codes (name ∷ names) are = (either_true (same_name name c) (lis
 pub picked_named : (i : ℕ) (x : List Bool) (cs : List (List ℕ)) → AreNamed cs (picked_from i x cs)
 picked_named i x [] = tt
 picked_named i x (c ∷ cs) = elim (cases_Bool (has x i)) [
-  | inl is ↦
-      subst (AreNamed (c ∷ cs)) (sym (picked_with i x c cs is))
-      (ap (λ t. t || list_any (same_name c) cs) (same_self c), named_behind c cs (picked_from (i + 1) x cs) (picked_named (i + 1) x cs))
-  | inr is ↦ subst (AreNamed (c ∷ cs)) (sym (picked_without i x c cs is)) (named_behind c cs (picked_from (i + 1) x cs) (picked_named (i + 1) x cs))
+  | inl is ↦ rw is (rw (same_self c) refl, named_behind c cs (picked_from (i + 1) x cs) (picked_named (i + 1) x cs))
+  | inr is ↦ rw is (named_behind c cs (picked_from (i + 1) x cs) (picked_named (i + 1) x cs))
 ]
 
 -- where the codes that another book lacks are absent, they are codes of that book too
-there : (codes : List (List ℕ)) (c : List ℕ) (place : ℕ) → place_in codes c ≡ Some place → list_any (same_name c) codes ≡ true
-there codes c place is = by codes place (code_at_place codes c place is)
+pub code_named : (codes : List (List ℕ)) (c : List ℕ) (place : ℕ) → place_in codes c ≡ Some place → list_any (same_name c) codes ≡ true
+code_named codes c place is = by codes place (code_at_place codes c place is)
   where
     by : (ds : List (List ℕ)) (k : ℕ) → slice_get ds k ≡ Some c → list_any (same_name c) ds ≡ true
     by [] k at = cc
@@ -113,18 +103,9 @@ there codes c place is = by codes place (code_at_place codes c place is)
 pub picked_in_other : (second : List (List ℕ)) (i : ℕ) (x : List Bool) (cs : List (List ℕ)) → AllByRecursion (λ v. has x v ≡ false) (missing_from i second cs)
     → AreNamed second (picked_from i x cs)
 picked_in_other second i x [] gone = tt
-picked_in_other second i x (c ∷ cs) gone = by (place_in second c) refl (picked_in_other second (i + 1) x cs)
-  where
-    by : (o : Option ℕ) → place_in second c ≡ o → (AllByRecursion (λ v. has x v ≡ false) (missing_from (i + 1) second cs) → AreNamed second (picked_from (i + 1) x cs))
-        → AreNamed second (picked_from i x (c ∷ cs))
-    by (Some place) is later =
-        let rest : AllByRecursion (λ v. has x v ≡ false) (missing_from (i + 1) second cs) =
-        subst (AllByRecursion (λ v. has x v ≡ false)) (ap (λ o. cond (is_none o) (i ∷ missing_from (i + 1) second cs) (missing_from (i + 1) second cs)) is) gone in
-        elim (cases_Bool (has x i)) [
-          | inl with_ ↦ subst (AreNamed second) (sym (picked_with i x c cs with_)) (there second c place is, later rest)
-          | inr without ↦ subst (AreNamed second) (sym (picked_without i x c cs without)) (later rest)
-        ]
-    by None is later =
-        let all : AllByRecursion (λ v. has x v ≡ false) (i ∷ missing_from (i + 1) second cs) =
-        subst (AllByRecursion (λ v. has x v ≡ false)) (ap (λ o. cond (is_none o) (i ∷ missing_from (i + 1) second cs) (missing_from (i + 1) second cs)) is) gone in
-        subst (AreNamed second) (sym (picked_without i x c cs all.0)) (later all.1)
+picked_in_other second i x (c ∷ cs) gone = elim (cases_option (place_in second c)) [
+  | inl none ↦ let all = rw none at gone in rw all.0 (picked_in_other second (i + 1) x cs all.1)
+  | inr some ↦
+      let later = picked_in_other second (i + 1) x cs (rw some.1 at gone) in
+      cond_both (has x i) _ _ (λ own. AreNamed second (own ++ picked_from (i + 1) x cs)) (λ _. (code_named second c some.0 some.1, later)) (λ _. later)
+]

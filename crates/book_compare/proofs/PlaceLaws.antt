@@ -1,5 +1,6 @@
 -- The positions that have to be searched, one behind the other.
-use Rattle.std.proofs.Common.{◌≡◌, ℕ, ◌+◌, ◌-◌, ◌<◌, ◌≤◌, List, [], ◌∷◌, ◌++◌, Option, Some, None, true, false, cond, length, get_or, map, take, drop, take-add, refl, sym, ap, subst, ◌∙◌, arith, append_assoc, append-nil}
+use Rattle.std.proofs.Common.{◌≡◌, ℕ, ◌+◌, ◌-◌, ◌<◌, ◌≤◌, List, [], ◌∷◌, ◌++◌, Option, Some, None, true, false, cond, length, get_or, map, take, drop, take-add, refl, sym, ap, subst, ◌∙◌, arith, append_assoc, append-nil, inl, inr}
+use Rattle.book_compare.proofs.NumberLaws.{cases_option}
 use Rattle.std.specs.List.{filter}
 use Rattle.std.specs.Option.{is_none, option_to_list}
 use Rattle.std.proofs.lemmas.List.{take_more}
@@ -24,63 +25,52 @@ module _ (first second : Contents) (day : ℕ) where
       → AddsPlaces first second day (ids ++ id ∷ []) old new
   adds_more ids id old mid new own so_far is_put put = record {
     places = so_far.places ++ own;
-    behind = put ∙ ap (λ (qs : List Place). qs ++ own) so_far.behind ∙ append_assoc old so_far.places own;
+    behind = rw (put, so_far.behind, append_assoc) refl;
     each = parts_more (IsPut first second day) ids id so_far.places own so_far.each is_put;
   }
 
   ids_more : (ps : List Position) (i : ℕ) (p : Position) → i < length ps → p ≡ get_or ps i p → map (λ (q : Position). q.id) (take (i + 1) ps) ≡ map (λ (q : Position). q.id) (take i ps) ++ p.id ∷ []
   ids_more ps i p within read =
-      ap (map (λ (q : Position). q.id)) (take_more ps i p within) ∙ map-append (λ (q : Position). q.id) (take i ps) (get_or ps i p ∷ [])
-      ∙ ap (λ (q : Position). map (λ (r : Position). r.id) (take i ps) ++ q.id ∷ []) (sym read)
+      rw (take_more ps i p within, map-append, ← read) refl
 
   pub first_more : (ps : List Position) (i : ℕ) (p : Position) (old mid new own : List Place) → i < length ps → p ≡ get_or ps i p
       → AddsPlaces first second day (map (λ q. q.id) (take i ps)) old mid → IsPut first second day p.id own → new ≡ mid ++ own
       → AddsPlaces first second day (map (λ q. q.id) (take (i + 1) ps)) old new
   first_more ps i p old mid new own within read so_far is_put put =
-      subst (λ (ids : List (List ℕ)). AddsPlaces first second day ids old new) (sym (ids_more ps i p within read))
+      rw (ids_more ps i p within read)
       (adds_more (map (λ (q : Position). q.id) (take i ps)) p.id old mid new own so_far is_put put)
 
   added_split : (ps : List Position) (i : ℕ) (p : Position) → i < length ps → p ≡ get_or ps i p
       → filter (λ id. is_none (position_place first id)) (map (λ q. q.id) (take (i + 1) ps))
       ≡ filter (λ id. is_none (position_place first id)) (map (λ q. q.id) (take i ps)) ++ cond (is_none (position_place first p.id)) (p.id ∷ []) []
   added_split ps i p within read =
-      ap (filter (λ id. is_none (position_place first id))) (ids_more ps i p within read)
-      ∙ filter-append (λ id. is_none (position_place first id)) (map (λ (q : Position). q.id) (take i ps)) (p.id ∷ [])
+      rw (ids_more ps i p within read) (filter-append (λ id. is_none (position_place first id)) (map (λ (q : Position). q.id) (take i ps)) (p.id ∷ []))
 
   pub added_more : (ps : List Position) (i : ℕ) (p : Position) (old mid new own : List Place) → i < length ps → p ≡ get_or ps i p → is_none (position_place first p.id) ≡ true
       → AddsPlaces first second day (filter (λ id. is_none (position_place first id)) (map (λ q. q.id) (take i ps))) old mid → IsPut first second day p.id own → new ≡ mid ++ own
       → AddsPlaces first second day (filter (λ id. is_none (position_place first id)) (map (λ q. q.id) (take (i + 1) ps))) old new
   added_more ps i p old mid new own within read only so_far is_put put =
-      subst (λ (ids : List (List ℕ)). AddsPlaces first second day ids old new)
-      (sym (added_split ps i p within read ∙ ap (λ t. filter (λ id. is_none (position_place first id)) (map (λ (q : Position). q.id) (take i ps)) ++ cond t (p.id ∷ []) []) only))
+      rw (added_split ps i p within read, only)
       (adds_more (filter (λ id. is_none (position_place first id)) (map (λ (q : Position). q.id) (take i ps))) p.id old mid new own so_far is_put put)
 
   pub added_same : (ps : List Position) (i : ℕ) (p : Position) (old new : List Place) → i < length ps → p ≡ get_or ps i p → is_none (position_place first p.id) ≡ false
       → AddsPlaces first second day (filter (λ id. is_none (position_place first id)) (map (λ q. q.id) (take i ps))) old new
       → AddsPlaces first second day (filter (λ id. is_none (position_place first id)) (map (λ q. q.id) (take (i + 1) ps))) old new
   added_same ps i p old new within read shared so_far =
-      subst (λ (ids : List (List ℕ)). AddsPlaces first second day ids old new)
-      (sym (added_split ps i p within read ∙ ap (λ t. filter (λ id. is_none (position_place first id)) (map (λ (q : Position). q.id) (take i ps)) ++ cond t (p.id ∷ []) []) shared
-      ∙ append-nil (filter (λ id. is_none (position_place first id)) (map (λ (q : Position). q.id) (take i ps)))))
-      so_far
+      rw (added_split ps i p within read, shared, append-nil) so_far
 
   pub added_step : (ps : List Position) (i : ℕ) (p : Position) (old mid new : List Place) (place : Option Place) → i < length ps → p ≡ get_or ps i p
       → AddsPlaces first second day (filter (λ id. is_none (position_place first id)) (map (λ q. q.id) (take i ps))) old mid
       → (position_place first p.id ≡ None → IsPut first second day p.id (option_to_list place)) → ((at : ℕ) → position_place first p.id ≡ Some at → place ≡ None)
       → new ≡ mid ++ option_to_list place → AddsPlaces first second day (filter (λ id. is_none (position_place first id)) (map (λ q. q.id) (take (i + 1) ps))) old new
-  added_step ps i p old mid new place within read so_far added shared put = by (position_place first p.id) refl
-    where
-      by : (o : Option ℕ) → position_place first p.id ≡ o → AddsPlaces first second day (filter (λ id. is_none (position_place first id)) (map (λ q. q.id) (take (i + 1) ps))) old new
-      by None is = added_more ps i p old mid new (option_to_list place) within read (ap is_none is) so_far (added is) put
-      by (Some at) is =
-          let same : new ≡ mid = put ∙ ap (λ (o : Option Place). mid ++ option_to_list o) (shared at is) ∙ append-nil mid in
-          subst (λ (qs : List Place). AddsPlaces first second day (filter (λ id. is_none (position_place first id)) (map (λ q. q.id) (take (i + 1) ps))) old qs) (sym same)
-          (added_same ps i p old mid within read (ap is_none is) so_far)
+  added_step ps i p old mid new place within read so_far added shared put = elim (cases_option (position_place first p.id)) [
+    | inl none ↦ added_more ps i p old mid new (option_to_list place) within read (ap is_none none) so_far (added none) put
+    | inr some ↦ rw (put, shared some.0 some.1, append-nil) (added_same ps i p old mid within read (ap is_none some.1) so_far)
+  ]
 
   pub whole : (start mid all : List Place) → start ≡ [] → AddsPlaces first second day (position_ids first) start mid → AddsPlaces first second day (added_ids first second) mid all → ArePut first second day all
   whole start mid all none one other =
-      subst (ArePut first second day)
-      (sym (other.behind ∙ ap (λ (qs : List Place). qs ++ other.places) (one.behind ∙ ap (λ (qs : List Place). qs ++ one.places) none)))
+      rw (other.behind, one.behind, none)
       (parts-append (IsPut first second day) (position_ids first) (added_ids first second) one.places other.places one.each other.each)
 
   -- the notes on what was searched are those on all positions

@@ -2,9 +2,9 @@
 use Rattle.std.proofs.Common.{◌≡◌, ℕ, suc, ◌+◌, ◌<◌, Bool, true, false, ◌&&◌, ◌||◌, List, [], ◌∷◌, ◌++◌, Option, Some, None, length, get_or, refl, sym, ap, subst, ◌∙◌, inl, inr, arith, All}
 use Rattle.std.specs.List.{list_any, slice_get}
 use Rattle.std.specs.Option.{option_map_or}
-use Rattle.std.proofs.lemmas.Bool.{cases_lt, cond-true, cond-false, false≢true}
+use Rattle.std.proofs.lemmas.Bool.{cases_lt, false≢true}
 use Rattle.std.proofs.lemmas.List.Elements.{All-from_recursion}
-use Rattle.std.proofs.lemmas.Option.{slice_get_within, slice_get-get_or}
+use Rattle.std.proofs.lemmas.Option.{slice_get_within, get_or_from_slice_get}
 use Rattle.pb_base.specs.NamedSet.{named}
 use Rattle.pb_base.specs.Rule.{holds}
 use Rattle.book_model.specs.Contents.{Contents}
@@ -26,6 +26,7 @@ use Rattle.book_compare.specs.Comparing.{AreBooks}
 use Rattle.book_compare.proofs.ChoiceLaws.{none_differs}
 use Rattle.book_compare.proofs.JointLaws.{first_right, second_right, same_truth}
 use Rattle.book_compare.proofs.NoteLaws.{alike_over}
+use Rattle.book_compare.proofs.NumberLaws.{cases_option}
 use Rattle.book_compare.proofs.StepRuns.{filtered_in_range}
 use Rattle.book_compare.proofs.UsageLaws.{true_with, variants_by_id, first_variants, renamed_variants}
 
@@ -40,9 +41,7 @@ same_more numbers first us second ws i before here k u w within own other = elim
 
 read_is : {X : Type 0} (xs : List X) (i : ℕ) (x y : X) → i < length xs → x ≡ get_or xs i x → slice_get xs i ≡ Some y → x ≡ y
 read_is xs i x y within read there =
-    let found : Some (get_or xs i x) ≡ Some y = sym (slice_get-get_or xs i x within) ∙ there in
-    let same : get_or xs i x ≡ y = cc in
-    read ∙ same
+    read ∙ get_or_from_slice_get xs i y x there
 
 pub same_step : (numbers : List ℕ) (first : Contents) (us : List ℕ) (second : Contents) (ws : List ℕ) (i u w : ℕ) → i < length us → i < length ws → u ≡ get_or us i u → w ≡ get_or ws i w
     → AreSameBelow numbers first us second ws i → IsSameUsage numbers first second u w → AreSameBelow numbers first us second ws (i + 1)
@@ -61,20 +60,14 @@ same_any numbers first second x y key truth [] (w ∷ ws) count each = absurd (o
 same_any numbers first second x y key truth (u ∷ us) [] count each = absurd (omega (arith, count))
 same_any numbers first second x y key truth (u ∷ us) (w ∷ ws) count each =
     let here : IsSameUsage numbers first second u w = each 0 u w refl refl in
-    ap (λ p. (is_same_use p key && holds (usage first u) x) || list_any (λ k. is_same_use (part_use first k) key && holds (usage first k) x) us) here.part
-    ∙ ap (λ t. (is_same_use (part_use second w) key && t) || list_any (λ k. is_same_use (part_use first k) key && holds (usage first k) x) us) (truth u w here.rule)
-    ∙ ap (λ t. (is_same_use (part_use second w) key && holds (usage second w) y) || t)
-    (same_any numbers first second x y key truth us ws (omega (arith, count)) (λ k v t own other. each (suc k) v t own other))
+    rw (here.part, truth u w here.rule, same_any numbers first second x y key truth us ws (omega (arith, count)) (λ k v t own other. each (suc k) v t own other)) refl
 
 -- the literals of a position's usages are the truth of theirs
 right_at : (b : Contents) (id : List ℕ) (x : List Bool) (a : ℕ → Bool) (us : List Usage) → AllRight b x a us → AllRight b x a (usages_at b id us)
-right_at b id x a us right = by (position_place b id) refl
-  where
-    by : (o : Option ℕ) → position_place b id ≡ o → AllRight b x a (usages_at b id us)
-    by None is = subst (AllRight b x a) (sym (ap (λ o. option_map_or (λ place. usages_in b place us) o []) is)) tt
-    by (Some place) is =
-        subst (AllRight b x a) (sym (ap (λ o. option_map_or (λ at. usages_in b at us) o []) is))
-        (all_filtered (λ u. is_true a u.literal ≡ holds (usage b u.variant) x) (λ u. is_variant_of b place u.variant) us right)
+right_at b id x a us right = elim (cases_option (position_place b id)) [
+  | inl none ↦ rw none tt
+  | inr some ↦ rw some.1 (all_filtered (λ u. is_true a u.literal ≡ holds (usage b u.variant) x) (λ u. is_variant_of b some.0 u.variant) us right)
+]
 
 module _ (first second : Contents) (day : ℕ) (id : List ℕ) (books : AreBooks first second day)
     (same : AreSameUsages (numbers_of first.codes second.codes) first (variants_at first day id) second (variants_at second day id)) where
@@ -100,10 +93,7 @@ module _ (first second : Contents) (day : ℕ) (id : List ℕ) (books : AreBooks
 pub alike_when : (first second : Contents) (day : ℕ) (id : List ℕ) (numbers own other : List ℕ) → AreBooks first second day → numbers ≡ numbers_of first.codes second.codes
     → own ≡ variants_at first day id → other ≡ variants_at second day id → AreSameUsages numbers first own second other → AreAlike first second day id
 alike_when first second day id numbers own other books are own_is other_is same =
-    alike_when_same first second day id books
-    (subst (λ (ns : List ℕ). AreSameUsages ns first (variants_at first day id) second (variants_at second day id)) are
-    (subst (λ (us : List ℕ). AreSameUsages numbers first us second (variants_at second day id)) own_is
-    (subst (λ (ws : List ℕ). AreSameUsages numbers first own second ws) other_is same)))
+    alike_when_same first second day id books (rw (are, own_is, other_is) at same)
 
 -- the active variants of a position, by what is found
 pub at_place : (b : Contents) (day : ℕ) (id : List ℕ) (place : ℕ) → position_place b id ≡ Some place → variants_at b day id ≡ variants_on b day place
@@ -113,22 +103,16 @@ pub at_none : (b : Contents) (day : ℕ) (id : List ℕ) → position_place b id
 at_none b day id is = ap (λ o. option_map_or (variants_on b day) o []) is
 
 pub on_active : (b : Contents) (day place : ℕ) → option_map_or (is_active_position day) (slice_get b.positions place) false ≡ true → variants_on b day place ≡ active_variants b day place
-on_active b day place active = by (slice_get b.positions place) refl
-  where
-    by : (o : Option Position) → slice_get b.positions place ≡ o → variants_on b day place ≡ active_variants b day place
-    by None is = absurd (false≢true (sym (ap (λ o. option_map_or (is_active_position day) o false) is) ∙ active))
-    by (Some p) is =
-        ap (λ o. option_map_or (active_of b day place) o []) is
-        ∙ cond-true (is_active_position day p) (active_variants b day place) [] (sym (ap (λ o. option_map_or (is_active_position day) o false) is) ∙ active)
+on_active b day place active = elim (cases_option (slice_get b.positions place)) [
+  | inl none ↦ absurd (false≢true (rw none at active))
+  | inr some ↦ rw (some.1, (rw some.1 at active)) refl
+]
 
 pub on_passive : (b : Contents) (day place : ℕ) → option_map_or (is_active_position day) (slice_get b.positions place) false ≡ false → variants_on b day place ≡ []
-on_passive b day place passive = by (slice_get b.positions place) refl
-  where
-    by : (o : Option Position) → slice_get b.positions place ≡ o → variants_on b day place ≡ []
-    by None is = ap (λ o. option_map_or (active_of b day place) o []) is
-    by (Some p) is =
-        ap (λ o. option_map_or (active_of b day place) o []) is
-        ∙ cond-false (is_active_position day p) (active_variants b day place) [] (sym (ap (λ o. option_map_or (is_active_position day) o false) is) ∙ passive)
+on_passive b day place passive = elim (cases_option (slice_get b.positions place)) [
+  | inl none ↦ rw none refl
+  | inr some ↦ rw (some.1, (rw some.1 at passive)) refl
+]
 
 pub active_within : (b : Contents) (day place : ℕ) → All (λ v. v < length b.variants) (active_variants b day place)
 active_within b day place = All-from_recursion (λ v. v < length b.variants) (active_variants b day place) (filtered_in_range b day (variants_of place b.variants))

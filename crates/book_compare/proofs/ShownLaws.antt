@@ -19,7 +19,7 @@ use Rattle.book_compare.specs.Numbering.{numbers_of, missing_from, added_from}
 use Rattle.book_compare.specs.Picked.{picked}
 use Rattle.book_compare.specs.Shown.{same_uses, are_absent, other_set, is_common, is_other, shows}
 use Rattle.book_compare.proofs.NumberLaws.{length-numbers_from, all_added, number_has, missing_absent}
-use Rattle.book_compare.proofs.PickLaws.{picked_distinct, named-picked, picked_named, picked_in_other}
+use Rattle.book_compare.proofs.PickLaws.{picked_distinct, named-picked, picked_named, picked_in_other, named_own}
 
 same_uses_self : (ps : List PartUse) → same_uses ps ps ≡ true
 same_uses_self [] = refl
@@ -97,17 +97,15 @@ module _ (first second : Contents) (day : ℕ) (id : List ℕ) (x : List Bool) (
     abbrev own : List (List ℕ)
     own = picked first.codes x
 
-    named_own : named first.codes own ≡ x
-    named_own =
-        ext_get_or false (named first.codes own) x (length-map first.codes (λ c. list_any (same_name c) own) ∙ sym counted)
-        (λ i within. sym (named-picked first.codes x apart i (omega (arith, within, length-map first.codes (λ c. list_any (same_name c) own)))))
+    named_x : named first.codes own ≡ x
+    named_x = named_own first.codes x counted apart
 
     pub shown_where_differs : DiffersWith first second day id (picked first.codes x) → shows first second day id x ≡ true
-    shown_where_differs with_ = shown_by own with_.common.in_first named_own with_.common with_.differ
+    shown_where_differs with_ = shown_by own with_.common.in_first named_x with_.common with_.differ
 
     pub differs_where_shown : shows first second day id x ≡ true → DiffersWith first second day id (picked first.codes x)
     differs_where_shown shown =
-        let other : named second.codes own ≡ y = other_is own (picked_named 0 x first.codes) named_own in
+        let other : named second.codes own ≡ y = other_is own (picked_named 0 x first.codes) named_x in
         let parts = and_parts (is_common first second day x) (is_other first second day id x) shown in
         let common = and_parts (are_absent (missing_from 0 second.codes first.codes) x) (is_good first day x && is_good second day y) parts.0 in
         let good = and_parts (is_good first day x) (is_good second day y) common.1 in
@@ -116,12 +114,12 @@ module _ (first second : Contents) (day : ℕ) (id : List ℕ) (x : List Bool) (
             distinct = picked_distinct 0 x first.codes apart;
             in_first = picked_named 0 x first.codes;
             in_second = picked_in_other second.codes 0 x first.codes (absent_by_test x (missing_from 0 second.codes first.codes) common.0);
-            good_in_first = ap (is_good first day) named_own ∙ good.0;
+            good_in_first = ap (is_good first day) named_x ∙ good.0;
             good_in_second = ap (is_good second day) other ∙ good.1;
           };
           differ = λ same.
               uses_differ (chosen first day id x) (chosen second day id y) (not_false (same_uses (chosen first day id x) (chosen second day id y)) parts.1)
-              (ap (chosen first day id) (sym named_own) ∙ same ∙ ap (chosen second day id) other);
+              (ap (chosen first day id) (sym named_x) ∙ same ∙ ap (chosen second day id) other);
         }
 
 pub alike_where_none : (first second : Contents) (day : ℕ) (id : List ℕ) → ((x : List Bool) → length x ≡ length first.codes → shows first second day id x ≡ false) → AreAlike first second day id

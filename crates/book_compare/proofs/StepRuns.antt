@@ -1,10 +1,10 @@
 -- One step of a loop over codes or positions.
-use Rattle.std.proofs.Common.{◌≡◌, ℕ, suc, ◌+◌, ◌<◌, true, false, cond, List, [], ◌∷◌, ◌++◌, Option, Some, None, length, get_or, map, drop, refl, sym, ap, subst, ◌∙◌, inl, inr, arith, append_assoc, append-nil, drop-cons}
+use Rattle.std.proofs.Common.{◌≡◌, ℕ, suc, ◌+◌, ◌<◌, true, false, List, [], ◌∷◌, ◌++◌, Option, Some, None, length, get_or, map, drop, refl, sym, ap, subst, ◌∙◌, inl, inr, arith, append_assoc, append-nil, add-one, drop-cons}
 use Rattle.std.specs.List.{slice_get, filter, flat_map, list_any, All, AllByRecursion}
 use Rattle.std.specs.Option.{is_none, option_map_or}
-use Rattle.std.proofs.lemmas.Bool.{cases_Bool, cond-true, cond-false, false≢true}
+use Rattle.std.proofs.lemmas.Bool.{cases_Bool, cond_both, false≢true}
 use Rattle.std.proofs.lemmas.List.Elements.{All-from_recursion}
-use Rattle.std.proofs.lemmas.Option.{slice_get-get_or, slice_get_within}
+use Rattle.std.proofs.lemmas.Option.{slice_get-get_or, slice_get_within, get_or_from_slice_get}
 use Rattle.pb_base.specs.Names.{place_in}
 use Rattle.book_model.specs.Activity.{is_within}
 use Rattle.book_model.specs.Contents.{Contents}
@@ -25,26 +25,20 @@ use Rattle.pb_base.specs.Rule.{Rule}
 use Rattle.book_compare.specs.Asked.{uses, new_keys, literals_with}
 use Rattle.book_compare.specs.JointItems.{absent_item, day_variants, renamed_usage, renamed_usage_items, renamed_usages}
 use Rattle.book_compare.specs.Numbering.{numbers_from, further, missing_from, added_from}
-use Rattle.book_compare.proofs.NumberLaws.{numbers_shared, numbers_added, further_shared, further_added}
+use Rattle.book_compare.proofs.NumberLaws.{cases_option}
 
--- what is left from a place on, by what stands there
+-- what is left from a place on, by the item that was read there
+pub read_at : {X : Type 0} (xs : List X) (i : ℕ) (x : X) → i < length xs → x ≡ get_or xs i x → drop i xs ≡ x ∷ drop (i + 1) xs
+read_at {X} xs i x within read = rw (add-one, drop-cons xs i x within, ← read) refl
+
+-- and by what stands there
 pub dropped : {X : Type 0} (xs : List X) (i : ℕ) (x : X) → slice_get xs i ≡ Some x → drop i xs ≡ x ∷ drop (i + 1) xs
-dropped {X} xs i x there =
-    let within : i < length xs = slice_get_within xs i x there in
-    let found : Some (get_or xs i x) ≡ Some x = sym (slice_get-get_or xs i x within) ∙ there in
-    let same : get_or xs i x ≡ x = cc in
-    let next : suc i ≡ i + 1 = omega arith in
-    drop-cons xs i x within ∙ ap (λ (y : X). y ∷ drop (suc i) xs) same ∙ ap (λ (k : ℕ). x ∷ drop k xs) next
+dropped xs i x there = read_at xs i x (slice_get_within xs i x there) (sym (get_or_from_slice_get xs i x x there))
 
 -- one more item
 pub item_more : (start m more : Encoder) (all rest : List Item) (i : Item) → ItemsLeft start m all (i ∷ rest) → EncodesItem m more i → ItemsLeft start more all rest
 item_more start m more all rest i left made = record {
-  clauses =
-      ap (λ (cs : List (List ℕ)). cs ++ item_clauses start.truth more.next rest) made.clauses
-      ∙ ap (λ (t : ℕ). (m.pool.clauses ++ own_clauses t m.next i) ++ item_clauses start.truth more.next rest) left.truth
-      ∙ ap (λ (v : ℕ). (m.pool.clauses ++ own_clauses start.truth m.next i) ++ item_clauses start.truth v rest) made.next
-      ∙ append_assoc m.pool.clauses (own_clauses start.truth m.next i) (item_clauses start.truth (m.next + connectives i.rule) rest)
-      ∙ left.clauses;
+  clauses = rw (made.clauses, left.truth, made.next, append_assoc) left.clauses;
   next = omega (arith, made.next, left.next);
   truth = made.truth ∙ left.truth;
   first = made.first ∙ left.first;
@@ -53,173 +47,96 @@ item_more start m more all rest i left made = record {
 -- a code of the first book
 module _ (start m : Encoder) (all : List Item) (second cs : List (List ℕ)) (i : ℕ) (c : List ℕ) (there : slice_get cs i ≡ Some c)
     (left : ItemsLeft start m all (map absent_item (missing_from i second (drop i cs)))) where
-  abbrev rest : List ℕ
-  rest = missing_from (i + 1) second (drop (i + 1) cs)
-
-  missing_split : missing_from i second (drop i cs) ≡ cond (is_none (place_in second c)) (i ∷ rest) rest
-  missing_split = ap (missing_from i second) (dropped cs i c there)
-
   pub missing_more : (more : Encoder) → is_none (place_in second c) ≡ true → EncodesItem m more (absent_item i) → ItemsLeft start more all (map absent_item (missing_from (i + 1) second (drop (i + 1) cs)))
-  missing_more more none made =
-      item_more start m more all (map absent_item rest) (absent_item i)
-      (subst (λ (vs : List ℕ). ItemsLeft start m all (map absent_item vs)) (missing_split ∙ ap (λ t. cond t (i ∷ rest) rest) none) left) made
+  missing_more more none made = item_more start m more all _ (absent_item i) (let split = dropped cs i c there in rw (split, none) at left) made
 
   pub missing_passed : is_none (place_in second c) ≡ false → ItemsLeft start m all (map absent_item (missing_from (i + 1) second (drop (i + 1) cs)))
-  missing_passed some = subst (λ (vs : List ℕ). ItemsLeft start m all (map absent_item vs)) (missing_split ∙ ap (λ t. cond t (i ∷ rest) rest) some) left
+  missing_passed some = let split = dropped cs i c there in rw (split, some) at left
 
 -- a code of the second book
 module _ (start m : Encoder) (all : List Item) (next : ℕ) (first cs : List (List ℕ)) (i : ℕ) (c : List ℕ) (there : slice_get cs i ≡ Some c)
     (left : ItemsLeft start m all (map absent_item (added_from next first (drop i cs)))) where
-  abbrev later : List ℕ
-  later = added_from (next + 1) first (drop (i + 1) cs)
-
-  abbrev same : List ℕ
-  same = added_from next first (drop (i + 1) cs)
-
-  added_split : added_from next first (drop i cs) ≡ cond (is_none (place_in first c)) (next ∷ later) same
-  added_split = ap (added_from next first) (dropped cs i c there)
-
   pub added_more : (more : Encoder) → is_none (place_in first c) ≡ true → EncodesItem m more (absent_item next) → ItemsLeft start more all (map absent_item (added_from (next + 1) first (drop (i + 1) cs)))
-  added_more more none made =
-      item_more start m more all (map absent_item later) (absent_item next)
-      (subst (λ (vs : List ℕ). ItemsLeft start m all (map absent_item vs)) (added_split ∙ ap (λ t. cond t (next ∷ later) same) none) left) made
+  added_more more none made = item_more start m more all _ (absent_item next) (let split = dropped cs i c there in rw (split, none) at left) made
 
   pub added_passed : is_none (place_in first c) ≡ false → ItemsLeft start m all (map absent_item (added_from next first (drop (i + 1) cs)))
-  added_passed some = subst (λ (vs : List ℕ). ItemsLeft start m all (map absent_item vs)) (added_split ∙ ap (λ t. cond t (next ∷ later) same) some) left
+  added_passed some = let split = dropped cs i c there in rw (split, some) at left
 
 -- the variable of a code of the second book
 module _ (next : ℕ) (first cs : List (List ℕ)) (i : ℕ) (c : List ℕ) (numbers more all : List ℕ) (there : slice_get cs i ≡ Some c)
     (left : numbers ++ numbers_from next first (drop i cs) ≡ all) where
   pub shared_more : (place : ℕ) → place_in first c ≡ Some place → more ≡ numbers ++ place ∷ [] → more ++ numbers_from next first (drop (i + 1) cs) ≡ all
-  shared_more place is pushed =
-      ap (λ (ns : List ℕ). ns ++ numbers_from next first (drop (i + 1) cs)) pushed
-      ∙ append_assoc numbers (place ∷ []) (numbers_from next first (drop (i + 1) cs))
-      ∙ ap (λ (ns : List ℕ). numbers ++ ns) (sym (ap (numbers_from next first) (dropped cs i c there) ∙ numbers_shared next first c (drop (i + 1) cs) place is))
-      ∙ left
+  shared_more place is pushed = let split = dropped cs i c there in rw (pushed, append_assoc) (rw (split, is) at left)
 
   pub new_more : place_in first c ≡ None → more ≡ numbers ++ next ∷ [] → more ++ numbers_from (next + 1) first (drop (i + 1) cs) ≡ all
-  new_more is pushed =
-      ap (λ (ns : List ℕ). ns ++ numbers_from (next + 1) first (drop (i + 1) cs)) pushed
-      ∙ append_assoc numbers (next ∷ []) (numbers_from (next + 1) first (drop (i + 1) cs))
-      ∙ ap (λ (ns : List ℕ). numbers ++ ns) (sym (ap (numbers_from next first) (dropped cs i c there) ∙ numbers_added next first c (drop (i + 1) cs) is))
-      ∙ left
+  new_more is pushed = let split = dropped cs i c there in rw (pushed, append_assoc) (rw (split, is) at left)
 
 pub shared_further : (first cs : List (List ℕ)) (i : ℕ) (c : List ℕ) (place : ℕ) → slice_get cs i ≡ Some c → place_in first c ≡ Some place → further first (drop i cs) ≡ further first (drop (i + 1) cs)
-shared_further first cs i c place there is = ap (further first) (dropped cs i c there) ∙ further_shared first c (drop (i + 1) cs) place is
+shared_further first cs i c place there is = rw (dropped cs i c there, is) refl
 
 pub new_further : (first cs : List (List ℕ)) (i : ℕ) (c : List ℕ) → slice_get cs i ≡ Some c → place_in first c ≡ None → further first (drop i cs) ≡ suc (further first (drop (i + 1) cs))
-new_further first cs i c there is = ap (further first) (dropped cs i c there) ∙ further_added first c (drop (i + 1) cs) is
+new_further first cs i c there is = rw (dropped cs i c there, is) refl
 
 -- the variants of a position
 module _ (b : Contents) (day : ℕ) (ps : List Position) (i : ℕ) (p : Position) (variants all : List ℕ) (within : i < length ps) (read : p ≡ get_or ps i p)
     (left : variants ++ flat_map (λ (c : Choice). c.variants) (choices_from i b day (drop i ps)) ≡ all) where
   pub taken_more : (more : List ℕ) → is_within p.from p.until day ≡ true → more ≡ variants ++ active_variants b day i
       → more ++ flat_map (λ (c : Choice). c.variants) (choices_from (i + 1) b day (drop (i + 1) ps)) ≡ all
-  taken_more more active pushed =
-      ap (λ (vs : List ℕ). vs ++ flat_map (λ (c : Choice). c.variants) (choices_from (i + 1) b day (drop (i + 1) ps))) pushed
-      ∙ append_assoc variants (active_variants b day i) (flat_map (λ (c : Choice). c.variants) (choices_from (i + 1) b day (drop (i + 1) ps)))
-      ∙ ap (λ (cs : List Choice). variants ++ flat_map (λ (c : Choice). c.variants) cs) (sym (choices_taken b day ps i p within read active))
-      ∙ left
+  taken_more more active pushed = rw (pushed, append_assoc) (rw (choices_taken b day ps i p within read active) at left)
 
   pub passed_more : is_within p.from p.until day ≡ false → variants ++ flat_map (λ (c : Choice). c.variants) (choices_from (i + 1) b day (drop (i + 1) ps)) ≡ all
-  passed_more passive =
-      ap (λ (cs : List Choice). variants ++ flat_map (λ (c : Choice). c.variants) cs) (sym (choices_passed b day ps i p within read passive)) ∙ left
+  passed_more passive = rw (choices_passed b day ps i p within read passive) at left
 
 -- active variants are variants
 active_in_range : (b : Contents) (day k : ℕ) → is_active_variant b day k ≡ true → k < length b.variants
-active_in_range b day k active = by (slice_get b.variants k) refl
-  where
-    by : (o : Option Variant) → slice_get b.variants k ≡ o → k < length b.variants
-    by (Some v) is = slice_get_within b.variants k v is
-    by None is = absurd (false≢true (sym (ap (λ o. option_map_or (λ (v : Variant). is_within v.from v.until day) o false) is) ∙ active))
+active_in_range b day k active = elim (cases_option (slice_get b.variants k)) [
+  | inl none ↦ absurd (false≢true (rw none at active))
+  | inr some ↦ slice_get_within b.variants k some.0 some.1
+]
 
 pub filtered_in_range : (b : Contents) (day : ℕ) (ks : List ℕ) → AllByRecursion (λ k. k < length b.variants) (filter (is_active_variant b day) ks)
 filtered_in_range b day [] = tt
 filtered_in_range b day (k ∷ ks) = elim (cases_Bool (is_active_variant b day k)) [
-  | inl active ↦
-      subst (AllByRecursion (λ j. j < length b.variants)) (sym (cond-true (is_active_variant b day k) (k ∷ filter (is_active_variant b day) ks) (filter (is_active_variant b day) ks) active))
-      (active_in_range b day k active, filtered_in_range b day ks)
-  | inr passive ↦
-      subst (AllByRecursion (λ j. j < length b.variants)) (sym (cond-false (is_active_variant b day k) (k ∷ filter (is_active_variant b day) ks) (filter (is_active_variant b day) ks) passive))
-      (filtered_in_range b day ks)
+  | inl active ↦ rw active (active_in_range b day k active, filtered_in_range b day ks)
+  | inr passive ↦ rw passive (filtered_in_range b day ks)
 ]
 
 choices_in_range : (b : Contents) (day i : ℕ) (ps : List Position) → AllByRecursion (λ k. k < length b.variants) (flat_map (λ (c : Choice). c.variants) (choices_from i b day ps))
 choices_in_range b day i [] = tt
-choices_in_range b day i (p ∷ ps) = elim (cases_Bool (is_within p.from p.until day)) [
-  | inl active ↦
-      subst (λ (cs : List Choice). AllByRecursion (λ k. k < length b.variants) (flat_map (λ (c : Choice). c.variants) cs))
-      (sym (cond-true (is_within p.from p.until day) (record { position = i; mandatory = p.mandatory; variants = active_variants b day i } ∷ choices_from (suc i) b day ps) (choices_from (suc i) b day ps) active))
-      (all-append _ (active_variants b day i) (flat_map (λ (c : Choice). c.variants) (choices_from (suc i) b day ps)) (filtered_in_range b day (variants_of i b.variants)) (choices_in_range b day (suc i) ps))
-  | inr passive ↦
-      subst (λ (cs : List Choice). AllByRecursion (λ k. k < length b.variants) (flat_map (λ (c : Choice). c.variants) cs))
-      (sym (cond-false (is_within p.from p.until day) (record { position = i; mandatory = p.mandatory; variants = active_variants b day i } ∷ choices_from (suc i) b day ps) (choices_from (suc i) b day ps) passive))
-      (choices_in_range b day (suc i) ps)
-]
+choices_in_range b day i (p ∷ ps) =
+    cond_both (is_within p.from p.until day) _ _ (λ (cs : List Choice). AllByRecursion (λ k. k < length b.variants) (flat_map (λ (c : Choice). c.variants) cs))
+    (λ _. all-append _ (active_variants b day i) _ (filtered_in_range b day (variants_of i b.variants)) (choices_in_range b day (suc i) ps))
+    (λ _. choices_in_range b day (suc i) ps)
 
 pub day_variants_in_range : (b : Contents) (day : ℕ) → All (λ v. v < length b.variants) (day_variants b day)
 day_variants_in_range b day = All-from_recursion (λ v. v < length b.variants) (day_variants b day) (choices_in_range b day 0 b.positions)
 
--- what is left from a place on, by the item that was read there
-pub read_at : {X : Type 0} (xs : List X) (i : ℕ) (x : X) → i < length xs → x ≡ get_or xs i x → drop i xs ≡ x ∷ drop (i + 1) xs
-read_at {X} xs i x within read =
-    let next : suc i ≡ i + 1 = omega arith in
-    drop-cons xs i x within ∙ ap (λ (y : X). y ∷ drop (suc i) xs) (sym read) ∙ ap (λ (k : ℕ). x ∷ drop k xs) next
-
 -- a number that was read with another in its place where there is none
 pub read_zero : (xs : List ℕ) (i : ℕ) → i < length xs → get_or xs i 0 ≡ get_or xs i (get_or xs i 0)
-read_zero xs i within =
-    let one : slice_get xs i ≡ Some (get_or xs i 0) = slice_get-get_or xs i 0 within in
-    let other : slice_get xs i ≡ Some (get_or xs i (get_or xs i 0)) = slice_get-get_or xs i (get_or xs i 0) within in
-    let both : Some (get_or xs i 0) ≡ Some (get_or xs i (get_or xs i 0)) = sym one ∙ other in
-    cc
+read_zero xs i within = sym (get_or_from_slice_get xs i (get_or xs i 0) _ (slice_get-get_or xs i 0 within))
 
 -- the literals of the usages with a key
 module _ (b : Contents) (key : PartUse) (us : List Usage) (i : ℕ) (u : Usage) (lits all : List ℕ) (within : i < length us) (read : u ≡ get_or us i u)
     (left : lits ++ literals_with b (drop i us) key ≡ all) where
-  with_split : literals_with b (drop i us) key
-      ≡ map (λ (w : Usage). w.literal) (cond (is_same_use (part_use b u.variant) key) (u ∷ filter (λ w. is_same_use (part_use b w.variant) key) (drop (i + 1) us)) (filter (λ w. is_same_use (part_use b w.variant) key) (drop (i + 1) us)))
-  with_split = ap (λ (ws : List Usage). literals_with b ws key) (read_at us i u within read)
-
   pub with_more : (more : List ℕ) → is_same_use (part_use b u.variant) key ≡ true → more ≡ lits ++ u.literal ∷ [] → more ++ literals_with b (drop (i + 1) us) key ≡ all
-  with_more more same pushed =
-      ap (λ (ls : List ℕ). ls ++ literals_with b (drop (i + 1) us) key) pushed
-      ∙ append_assoc lits (u.literal ∷ []) (literals_with b (drop (i + 1) us) key)
-      ∙ ap (λ (ls : List ℕ). lits ++ ls) (sym (with_split ∙ ap (λ t. map (λ (w : Usage). w.literal) (cond t (u ∷ filter (λ w. is_same_use (part_use b w.variant) key) (drop (i + 1) us)) (filter (λ w. is_same_use (part_use b w.variant) key) (drop (i + 1) us)))) same))
-      ∙ left
+  with_more more same pushed = let split = read_at us i u within read in rw (pushed, append_assoc) (rw (split, same) at left)
 
   pub with_other : is_same_use (part_use b u.variant) key ≡ false → lits ++ literals_with b (drop (i + 1) us) key ≡ all
-  with_other other =
-      ap (λ (ls : List ℕ). lits ++ ls) (sym (with_split ∙ ap (λ t. map (λ (w : Usage). w.literal) (cond t (u ∷ filter (λ w. is_same_use (part_use b w.variant) key) (drop (i + 1) us)) (filter (λ w. is_same_use (part_use b w.variant) key) (drop (i + 1) us)))) other))
-      ∙ left
+  with_other other = let split = read_at us i u within read in rw (split, other) at left
 
 -- the keys that are not there yet
 module _ (b : Contents) (us : List Usage) (i : ℕ) (u : Usage) (k : PartUse) (keys all : List PartUse) (within : i < length us) (read : u ≡ get_or us i u) (is : k ≡ part_use b u.variant)
     (left : keys ++ new_keys keys (uses b (drop i us)) ≡ all) where
-  keys_split : new_keys keys (uses b (drop i us))
-      ≡ cond (list_any (λ p. is_same_use k p) keys) (new_keys keys (uses b (drop (i + 1) us))) (k ∷ new_keys (keys ++ k ∷ []) (uses b (drop (i + 1) us)))
-  keys_split =
-      ap (λ (ws : List Usage). new_keys keys (uses b ws)) (read_at us i u within read)
-      ∙ ap (λ (q : PartUse). cond (list_any (λ p. is_same_use q p) keys) (new_keys keys (uses b (drop (i + 1) us))) (q ∷ new_keys (keys ++ q ∷ []) (uses b (drop (i + 1) us)))) (sym is)
-
   pub key_more : (more : List PartUse) → list_any (λ p. is_same_use k p) keys ≡ false → more ≡ keys ++ k ∷ [] → more ++ new_keys more (uses b (drop (i + 1) us)) ≡ all
-  key_more more new pushed =
-      ap (λ (ks : List PartUse). ks ++ new_keys ks (uses b (drop (i + 1) us))) pushed
-      ∙ append_assoc keys (k ∷ []) (new_keys (keys ++ k ∷ []) (uses b (drop (i + 1) us)))
-      ∙ ap (λ (ks : List PartUse). keys ++ ks)
-      (sym (keys_split ∙ ap (λ t. cond t (new_keys keys (uses b (drop (i + 1) us))) (k ∷ new_keys (keys ++ k ∷ []) (uses b (drop (i + 1) us)))) new))
-      ∙ left
+  key_more more new pushed = let split = read_at us i u within read in rw (pushed, append_assoc) (rw (split, ← is, new) at left)
 
   pub key_seen : list_any (λ p. is_same_use k p) keys ≡ true → keys ++ new_keys keys (uses b (drop (i + 1) us)) ≡ all
-  key_seen seen =
-      ap (λ (ks : List PartUse). keys ++ ks)
-      (sym (keys_split ∙ ap (λ t. cond t (new_keys keys (uses b (drop (i + 1) us))) (k ∷ new_keys (keys ++ k ∷ []) (uses b (drop (i + 1) us)))) seen))
-      ∙ left
+  key_seen seen = let split = read_at us i u within read in rw (split, ← is, seen) at left
 
 -- a formula of which nothing is claimed
 free_made : (m more : Encoder) (f : Rule) → Encodes m more (formula_clauses m.truth m.next f) (connectives f) → EncodesItem m more (free_item f)
 free_made m more f made = record {
-  clauses = made.clauses ∙ ap (λ (cs : List (List ℕ)). m.pool.clauses ++ cs) (sym (append-nil (formula_clauses m.truth m.next f)));
+  clauses = rw append-nil made.clauses;
   next = made.next;
   truth = made.truth;
   first = made.first;
@@ -229,22 +146,16 @@ free_made m more f made = record {
 module _ (numbers : List ℕ) (b : Contents) (start m more : Encoder) (ks : List ℕ) (i k : ℕ) (f : Rule) (within : i < length ks) (read : k ≡ get_or ks i k) (rule : f ≡ renamed_usage numbers b k)
     (made : Encodes m more (formula_clauses m.truth m.next f) (connectives f)) where
   own_made : Encodes m more (formula_clauses m.truth m.next (renamed_usage numbers b k)) (connectives (renamed_usage numbers b k))
-  own_made = subst (λ (g : Rule). Encodes m more (formula_clauses m.truth m.next g) (connectives g)) rule made
+  own_made = rw rule at made
 
   pub usage_made : ItemsLeft start m (renamed_usage_items numbers b ks) (renamed_usage_items numbers b (drop i ks)) → ItemsLeft start more (renamed_usage_items numbers b ks) (renamed_usage_items numbers b (drop (i + 1) ks))
   usage_made left =
       item_more start m more (renamed_usage_items numbers b ks) (renamed_usage_items numbers b (drop (i + 1) ks)) (free_item (renamed_usage numbers b k))
-      (subst (λ (vs : List ℕ). ItemsLeft start m (renamed_usage_items numbers b ks) (renamed_usage_items numbers b vs)) (read_at ks i k within read) left)
+      (let split = read_at ks i k within read in rw split at left)
       (free_made m more (renamed_usage numbers b k) own_made)
 
   pub usage_pushed : (us pushed all : List Usage) (l : ℕ) → m.truth ≡ start.truth → l ≡ formula_literal m.truth m.next f → pushed ≡ us ++ record { variant = k; literal = l } ∷ []
       → us ++ renamed_usages numbers b start.truth m.next (drop i ks) ≡ all → pushed ++ renamed_usages numbers b start.truth more.next (drop (i + 1) ks) ≡ all
   usage_pushed us pushed all l truth lit is left =
-      let named : l ≡ formula_literal start.truth m.next (renamed_usage numbers b k) =
-      lit ∙ ap (λ (n : ℕ). formula_literal n m.next f) truth ∙ ap (formula_literal start.truth m.next) rule in
-      ap (λ (ws : List Usage). ws ++ renamed_usages numbers b start.truth more.next (drop (i + 1) ks)) is
-      ∙ ap (λ (v : ℕ). (us ++ record { variant = k; literal = l } ∷ []) ++ renamed_usages numbers b start.truth v (drop (i + 1) ks)) own_made.next
-      ∙ append_assoc us (record { variant = k; literal = l } ∷ []) (renamed_usages numbers b start.truth (m.next + connectives (renamed_usage numbers b k)) (drop (i + 1) ks))
-      ∙ ap (λ (j : ℕ). us ++ record { variant = k; literal = j } ∷ renamed_usages numbers b start.truth (m.next + connectives (renamed_usage numbers b k)) (drop (i + 1) ks)) named
-      ∙ ap (λ (vs : List ℕ). us ++ renamed_usages numbers b start.truth m.next vs) (sym (read_at ks i k within read))
-      ∙ left
+      let split = read_at ks i k within read in
+      rw (is, own_made.next, append_assoc, lit, truth, rule) (rw split at left)

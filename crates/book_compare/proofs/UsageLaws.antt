@@ -2,7 +2,7 @@
 use Rattle.std.proofs.Common.{◌≡◌, ℕ, zero, suc, ◌+◌, ◌<◌, Bool, true, false, ◌&&◌, ◌||◌, ◌==◌, List, [], ◌∷◌, ◌++◌, Option, Some, None, map, refl, sym, ap, subst, ◌∙◌, inl, inr, arith, append-nil}
 use Rattle.std.specs.List.{filter, flat_map, list_any, slice_get, AllByRecursion}
 use Rattle.std.specs.Option.{option_map_or}
-use Rattle.std.proofs.lemmas.Bool.{cases_Bool, cond-true, cond-false, eq-eqb, ne_eqb, cases_eq}
+use Rattle.std.proofs.lemmas.Bool.{cases_Bool, cond_both, eq-eqb, ne_eqb, cases_eq}
 use Rattle.std.proofs.lemmas.List.Elements.{filter-append}
 use Rattle.pb_base.specs.Rule.{holds, never}
 use Rattle.book_model.specs.Activity.{is_within}
@@ -26,6 +26,8 @@ use Rattle.book_compare.specs.Asked.{is_variant_of, usages_in, usages_at, litera
 use Rattle.book_compare.specs.Same.{active_of, variants_on, variants_at}
 use Rattle.book_compare.specs.JointItems.{day_variants, renamed_usages, renamed_usage}
 use Rattle.std.proofs.lemmas.List.{map-append}
+use Rattle.std.proofs.Math.Bool.{and-true, and-false}
+use Rattle.book_compare.proofs.NumberLaws.{cases_option}
 
 -- the variants of usages
 
@@ -36,9 +38,7 @@ variants_of_usages b n v (k ∷ ks) = ap (λ (vs : List ℕ). k ∷ vs) (variant
 variants_of_all : (b : Contents) (n v : ℕ) (cs : List Choice) → map (λ (u : Usage). u.variant) (all_usages b n v cs) ≡ flat_map (λ c. c.variants) cs
 variants_of_all b n v [] = refl
 variants_of_all b n v (c ∷ cs) =
-    map-append (λ (u : Usage). u.variant) (usages_from b n v c.variants) (all_usages b n (v + variables_of (map (usage_item b) c.variants)) cs)
-    ∙ ap (λ (ks : List ℕ). ks ++ map (λ (u : Usage). u.variant) (all_usages b n (v + variables_of (map (usage_item b) c.variants)) cs)) (variants_of_usages b n v c.variants)
-    ∙ ap (λ (ks : List ℕ). c.variants ++ ks) (variants_of_all b n (v + variables_of (map (usage_item b) c.variants)) cs)
+    rw (map-append, variants_of_usages b n v c.variants, variants_of_all b n (v + variables_of (map (usage_item b) c.variants)) cs) refl
 
 pub first_variants : (b : Contents) (day n v : ℕ) → map (λ (u : Usage). u.variant) (all_usages b n v (choices b day)) ≡ day_variants b day
 first_variants b day n v = variants_of_all b n v (choices b day)
@@ -52,12 +52,8 @@ renamed_variants numbers b n v (k ∷ ks) = ap (λ (vs : List ℕ). k ∷ vs) (r
 filter-map : {X Y : Type 0} (p : Y → Bool) (f : X → Y) (xs : List X) → map f (filter (λ x. p (f x)) xs) ≡ filter p (map f xs)
 filter-map p f [] = refl
 filter-map {X} {Y} p f (x ∷ xs) = elim (cases_Bool (p (f x))) [
-  | inl e ↦
-      ap (map f) (cond-true (p (f x)) (x ∷ filter (λ y. p (f y)) xs) (filter (λ y. p (f y)) xs) e) ∙ ap (λ (zs : List Y). f x ∷ zs) (filter-map p f xs)
-      ∙ sym (cond-true (p (f x)) (f x ∷ filter p (map f xs)) (filter p (map f xs)) e)
-  | inr e ↦
-      ap (map f) (cond-false (p (f x)) (x ∷ filter (λ y. p (f y)) xs) (filter (λ y. p (f y)) xs) e) ∙ filter-map p f xs
-      ∙ sym (cond-false (p (f x)) (f x ∷ filter p (map f xs)) (filter p (map f xs)) e)
+  | inl e ↦ rw e (ap (λ (zs : List Y). f x ∷ zs) (filter-map p f xs))
+  | inr e ↦ rw e (filter-map p f xs)
 ]
 
 -- each place that is listed for a position is that of one of its variants
@@ -68,13 +64,8 @@ listed b place i (v ∷ vs) there =
     let later = listed b place (suc i) vs (λ k w is. let e : i + suc k ≡ suc i + k = omega arith in sym (ap (slice_get b.variants) e) ∙ there (suc k) w is) in
     let here : i + 0 ≡ i = omega arith in
     elim (cases_eq v.position place) [
-      | inl e ↦
-          subst (AllByRecursion (λ at. (w : Variant) × (slice_get b.variants at ≡ Some w) × (w.position ≡ place)))
-          (sym (cond-true (v.position == place) (i ∷ variants_from (suc i) place vs) (variants_from (suc i) place vs) (eq-eqb v.position place e)))
-          ((v, sym (ap (slice_get b.variants) here) ∙ there 0 v refl, e), later)
-      | inr e ↦
-          subst (AllByRecursion (λ at. (w : Variant) × (slice_get b.variants at ≡ Some w) × (w.position ≡ place)))
-          (sym (cond-false (v.position == place) (i ∷ variants_from (suc i) place vs) (variants_from (suc i) place vs) (ne_eqb v.position place e))) later
+      | inl e ↦ rw (eq-eqb v.position place e) ((v, sym (ap (slice_get b.variants) here) ∙ there 0 v refl, e), later)
+      | inr e ↦ rw (ne_eqb v.position place e) later
     ]
 
 abbrev AllAt : Contents → ℕ → List ℕ → Type 0
@@ -87,46 +78,25 @@ active_at b day place =
 
 own_kept : (b : Contents) (place : ℕ) (ks : List ℕ) → AllAt b place ks → filter (is_variant_of b place) ks ≡ ks
 own_kept b place [] at = refl
-own_kept b place (k ∷ ks) at =
-    cond-true (is_variant_of b place k) (k ∷ filter (is_variant_of b place) ks) (filter (is_variant_of b place) ks)
-    (ap (λ o. option_map_or (λ v. v.position == place) o false) at.0.1 ∙ eq-eqb at.0.0.position place at.0.2)
-    ∙ ap (λ (zs : List ℕ). k ∷ zs) (own_kept b place ks at.1)
+own_kept b place (k ∷ ks) at = rw (at.0.1, eq-eqb at.0.0.position place at.0.2) (ap (λ (zs : List ℕ). k ∷ zs) (own_kept b place ks at.1))
 
 other_left : (b : Contents) (place other : ℕ) (ks : List ℕ) → (other ≡ place → ⊥) → AllAt b other ks → filter (is_variant_of b place) ks ≡ []
 other_left b place other [] apart at = refl
 other_left b place other (k ∷ ks) apart at =
-    cond-false (is_variant_of b place k) (k ∷ filter (is_variant_of b place) ks) (filter (is_variant_of b place) ks)
-    (ap (λ o. option_map_or (λ v. v.position == place) o false) at.0.1 ∙ ne_eqb at.0.0.position place (λ same. apart (sym at.0.2 ∙ same)))
-    ∙ other_left b place other ks apart at.1
+    rw (at.0.1, ne_eqb at.0.0.position place (λ same. apart (sym at.0.2 ∙ same))) (other_left b place other ks apart at.1)
 
-first_and_rest : (b : Contents) (day i : ℕ) (p : Position) (ps : List Position)
+pub first_and_rest : (b : Contents) (day i : ℕ) (p : Position) (ps : List Position)
     → flat_map (λ c. c.variants) (choices_from i b day (p ∷ ps)) ≡ active_of b day i p ++ flat_map (λ c. c.variants) (choices_from (suc i) b day ps)
-first_and_rest b day i p ps = by (is_active_position day p) refl
-  where
-    by : (t : Bool) → is_active_position day p ≡ t
-        → flat_map (λ c. c.variants) (choices_from i b day (p ∷ ps)) ≡ active_of b day i p ++ flat_map (λ c. c.variants) (choices_from (suc i) b day ps)
-    by true is =
-        ap (flat_map (λ (c : Choice). c.variants)) (cond-true (is_active_position day p) (record { position = i; mandatory = p.mandatory; variants = active_variants b day i } ∷ choices_from (suc i) b day ps) (choices_from (suc i) b day ps) is)
-        ∙ ap (λ (ks : List ℕ). ks ++ flat_map (λ c. c.variants) (choices_from (suc i) b day ps)) (sym (cond-true (is_active_position day p) (active_variants b day i) [] is))
-    by false is =
-        ap (flat_map (λ (c : Choice). c.variants)) (cond-false (is_active_position day p) (record { position = i; mandatory = p.mandatory; variants = active_variants b day i } ∷ choices_from (suc i) b day ps) (choices_from (suc i) b day ps) is)
-        ∙ ap (λ (ks : List ℕ). ks ++ flat_map (λ c. c.variants) (choices_from (suc i) b day ps)) (sym (cond-false (is_active_position day p) (active_variants b day i) [] is))
+first_and_rest b day i p ps = elim (cases_Bool (is_active_position day p)) [ inl is ↦ rw is refl | inr is ↦ rw is refl ]
 
 active_of_at : (b : Contents) (day i : ℕ) (p : Position) → AllAt b i (active_of b day i p)
-active_of_at b day i p = by (is_active_position day p) refl
-  where
-    by : (t : Bool) → is_active_position day p ≡ t → AllAt b i (active_of b day i p)
-    by true is = subst (AllAt b i) (sym (cond-true (is_active_position day p) (active_variants b day i) [] is)) (active_at b day i)
-    by false is = subst (AllAt b i) (sym (cond-false (is_active_position day p) (active_variants b day i) [] is)) tt
+active_of_at b day i p = cond_both (is_active_position day p) _ _ (AllAt b i) (λ _. active_at b day i) (λ _. tt)
 
 none_behind : (b : Contents) (day place i : ℕ) (ps : List Position) → place < i → filter (is_variant_of b place) (flat_map (λ c. c.variants) (choices_from i b day ps)) ≡ []
 none_behind b day place i [] before = refl
 none_behind b day place i (p ∷ ps) before =
-    ap (filter (is_variant_of b place)) (first_and_rest b day i p ps)
-    ∙ filter-append (is_variant_of b place) (active_of b day i p) (flat_map (λ c. c.variants) (choices_from (suc i) b day ps))
-    ∙ ap (λ (ks : List ℕ). ks ++ filter (is_variant_of b place) (flat_map (λ c. c.variants) (choices_from (suc i) b day ps)))
-    (other_left b place i (active_of b day i p) (λ same. omega (arith, same, before)) (active_of_at b day i p))
-    ∙ none_behind b day place (suc i) ps (omega (arith, before))
+    rw (first_and_rest b day i p ps, filter-append, other_left b place i (active_of b day i p) (λ same. omega (arith, same, before)) (active_of_at b day i p))
+    (none_behind b day place (suc i) ps (omega (arith, before)))
 
 variants_here : (b : Contents) (day i k : ℕ) (ps : List Position) (p : Position) → slice_get ps k ≡ Some p
     → filter (is_variant_of b (i + k)) (flat_map (λ c. c.variants) (choices_from i b day ps)) ≡ active_of b day (i + k) p
@@ -134,44 +104,24 @@ variants_here b day i k [] p is = cc
 variants_here b day i zero (q ∷ ps) p is =
     let same : q ≡ p = cc in
     let here : i ≡ i + zero = omega arith in
-    subst (λ place. filter (is_variant_of b place) (flat_map (λ c. c.variants) (choices_from i b day (q ∷ ps))) ≡ active_of b day place p) here
-    (ap (filter (is_variant_of b i)) (first_and_rest b day i q ps)
-    ∙ filter-append (is_variant_of b i) (active_of b day i q) (flat_map (λ c. c.variants) (choices_from (suc i) b day ps))
-    ∙ ap (λ (ks : List ℕ). ks ++ filter (is_variant_of b i) (flat_map (λ c. c.variants) (choices_from (suc i) b day ps))) (own_kept b i (active_of b day i q) (active_of_at b day i q))
-    ∙ ap (λ (ks : List ℕ). active_of b day i q ++ ks) (none_behind b day i (suc i) ps (omega arith))
-    ∙ append-nil (active_of b day i q)
-    ∙ ap (active_of b day i) same)
+    rw (← here, first_and_rest b day i q ps, filter-append, own_kept b i (active_of b day i q) (active_of_at b day i q), none_behind b day i (suc i) ps (omega arith), append-nil, same) refl
 variants_here b day i (suc k) (q ∷ ps) p is =
     let there : suc i + k ≡ i + suc k = omega arith in
-    ap (filter (is_variant_of b (i + suc k))) (first_and_rest b day i q ps)
-    ∙ filter-append (is_variant_of b (i + suc k)) (active_of b day i q) (flat_map (λ c. c.variants) (choices_from (suc i) b day ps))
-    ∙ ap (λ (ks : List ℕ). ks ++ filter (is_variant_of b (i + suc k)) (flat_map (λ c. c.variants) (choices_from (suc i) b day ps)))
-    (other_left b (i + suc k) i (active_of b day i q) (λ same. omega (arith, same)) (active_of_at b day i q))
-    ∙ subst (λ place. filter (is_variant_of b place) (flat_map (λ c. c.variants) (choices_from (suc i) b day ps)) ≡ active_of b day place p) there
+    rw (first_and_rest b day i q ps, filter-append, other_left b (i + suc k) i (active_of b day i q) (λ same. omega (arith, same)) (active_of_at b day i q), ← there)
     (variants_here b day (suc i) k ps p is)
 
 pub variants_there : (b : Contents) (day place : ℕ) (p : Position) (us : List Usage) → map (λ (u : Usage). u.variant) us ≡ day_variants b day → slice_get b.positions place ≡ Some p
     → map (λ (u : Usage). u.variant) (usages_in b place us) ≡ active_of b day place p
 variants_there b day place p us variants is =
     let here : 0 + place ≡ place = omega arith in
-    filter-map (is_variant_of b place) (λ (u : Usage). u.variant) us
-    ∙ ap (filter (is_variant_of b place)) variants
-    ∙ subst (λ at. filter (is_variant_of b at) (flat_map (λ c. c.variants) (choices_from 0 b day b.positions)) ≡ active_of b day at p) here (variants_here b day 0 place b.positions p is)
+    rw (filter-map (is_variant_of b place) (λ (u : Usage). u.variant) us, variants, ← here) (variants_here b day 0 place b.positions p is)
 
 -- the same by the id of the position
 pub variants_by_id : (b : Contents) (day : ℕ) (id : List ℕ) (us : List Usage) → map (λ (u : Usage). u.variant) us ≡ day_variants b day → map (λ (u : Usage). u.variant) (usages_at b id us) ≡ variants_at b day id
-variants_by_id b day id us variants = by (position_place b id) refl
-  where
-    by : (o : Option ℕ) → position_place b id ≡ o → map (λ (u : Usage). u.variant) (usages_at b id us) ≡ variants_at b day id
-    by None is =
-        ap (λ o. map (λ (u : Usage). u.variant) (option_map_or (λ place. usages_in b place us) o [])) is
-        ∙ sym (ap (λ o. option_map_or (variants_on b day) o []) is)
-    by (Some place) is =
-        let found : IsPositionOf b id place = position_found b id place is in
-        ap (λ o. map (λ (u : Usage). u.variant) (option_map_or (λ at. usages_in b at us) o [])) is
-        ∙ variants_there b day place found.position us variants found.there
-        ∙ sym (ap (λ o. option_map_or (active_of b day place) o []) found.there)
-        ∙ sym (ap (λ o. option_map_or (variants_on b day) o []) is)
+variants_by_id b day id us variants = elim (cases_option (position_place b id)) [
+  | inl none ↦ rw none refl
+  | inr some ↦ let found = position_found b id some.0 some.1 in rw (some.1, found.there) (variants_there b day some.0 found.position us variants found.there)
+]
 
 -- what is chosen, by key
 
@@ -179,98 +129,40 @@ abbrev pub has_use : PartUse → List PartUse → Bool
 has_use key uses = list_any (λ p. is_same_use p key) uses
 
 selected_when : (b : Contents) (day : ℕ) (x : List Bool) (k : ℕ) → is_selected_at b day x k ≡ (is_active_variant b day k && holds (usage b k) x)
-selected_when b day x k = by (slice_get b.variants k) refl
-  where
-    by : (o : Option Variant) → slice_get b.variants k ≡ o → is_selected_at b day x k ≡ (is_active_variant b day k && holds (usage b k) x)
-    by (Some v) is =
-        ap (λ o. option_map_or (is_selected day x) o false) is
-        ∙ sym (ap (λ o. option_map_or (λ (w : Variant). is_within w.from w.until day) o false && holds (option_map_or (λ (w : Variant). w.rule) o never) x) is)
-    by None is =
-        ap (λ o. option_map_or (is_selected day x) o false) is
-        ∙ sym (ap (λ o. option_map_or (λ (w : Variant). is_within w.from w.until day) o false && holds (option_map_or (λ (w : Variant). w.rule) o never) x) is)
+selected_when b day x k = elim (cases_option (slice_get b.variants k)) [ inl none ↦ rw none refl | inr some ↦ rw some.1 refl ]
 
 -- over the variants of which these are the active ones
 chosen_with : (b : Contents) (day : ℕ) (x : List Bool) (key : PartUse) (ks : List ℕ)
     → list_any (λ k. is_same_use (part_use b k) key && holds (usage b k) x) (filter (is_active_variant b day) ks) ≡ has_use key (map (part_use b) (filter (is_selected_at b day x) ks))
 chosen_with b day x key [] = refl
-chosen_with b day x key (k ∷ ks) = by (is_active_variant b day k) (holds (usage b k) x) refl refl (chosen_with b day x key ks)
-  where
-    by : (t h : Bool) → is_active_variant b day k ≡ t → holds (usage b k) x ≡ h
-        → list_any (λ j. is_same_use (part_use b j) key && holds (usage b j) x) (filter (is_active_variant b day) ks) ≡ has_use key (map (part_use b) (filter (is_selected_at b day x) ks))
-        → list_any (λ j. is_same_use (part_use b j) key && holds (usage b j) x) (filter (is_active_variant b day) (k ∷ ks)) ≡ has_use key (map (part_use b) (filter (is_selected_at b day x) (k ∷ ks)))
-    by true true active true_ later =
-        ap (list_any (λ j. is_same_use (part_use b j) key && holds (usage b j) x)) (cond-true (is_active_variant b day k) (k ∷ (filter (is_active_variant b day) ks)) (filter (is_active_variant b day) ks) active)
-        ∙ ap (λ s. (is_same_use (part_use b k) key && s) || list_any (λ j. is_same_use (part_use b j) key && holds (usage b j) x) (filter (is_active_variant b day) ks)) true_
-        ∙ ap (λ s. s || list_any (λ j. is_same_use (part_use b j) key && holds (usage b j) x) (filter (is_active_variant b day) ks)) (and_true (is_same_use (part_use b k) key))
-        ∙ ap (λ s. is_same_use (part_use b k) key || s) later
-        ∙ sym (ap (λ (ps : List ℕ). has_use key (map (part_use b) ps)) (cond-true (is_selected_at b day x k) (k ∷ (filter (is_selected_at b day x) ks)) (filter (is_selected_at b day x) ks) (selected_when b day x k ∙ ap (λ s. s && holds (usage b k) x) active ∙ true_)))
-      where
-        and_true : (s : Bool) → (s && true) ≡ s
-        and_true true = refl
-        and_true false = refl
-    by true false active false_ later =
-        ap (list_any (λ j. is_same_use (part_use b j) key && holds (usage b j) x)) (cond-true (is_active_variant b day k) (k ∷ (filter (is_active_variant b day) ks)) (filter (is_active_variant b day) ks) active)
-        ∙ ap (λ s. (is_same_use (part_use b k) key && s) || list_any (λ j. is_same_use (part_use b j) key && holds (usage b j) x) (filter (is_active_variant b day) ks)) false_
-        ∙ ap (λ s. s || list_any (λ j. is_same_use (part_use b j) key && holds (usage b j) x) (filter (is_active_variant b day) ks)) (and_false (is_same_use (part_use b k) key))
-        ∙ later
-        ∙ sym (ap (λ (ps : List ℕ). has_use key (map (part_use b) ps)) (cond-false (is_selected_at b day x k) (k ∷ (filter (is_selected_at b day x) ks)) (filter (is_selected_at b day x) ks) (selected_when b day x k ∙ ap (λ s. s && holds (usage b k) x) active ∙ false_)))
-      where
-        and_false : (s : Bool) → (s && false) ≡ false
-        and_false true = refl
-        and_false false = refl
-    by false h passive is later =
-        ap (list_any (λ j. is_same_use (part_use b j) key && holds (usage b j) x)) (cond-false (is_active_variant b day k) (k ∷ (filter (is_active_variant b day) ks)) (filter (is_active_variant b day) ks) passive)
-        ∙ later
-        ∙ sym (ap (λ (ps : List ℕ). has_use key (map (part_use b) ps)) (cond-false (is_selected_at b day x k) (k ∷ (filter (is_selected_at b day x) ks)) (filter (is_selected_at b day x) ks) (selected_when b day x k ∙ ap (λ s. s && holds (usage b k) x) passive)))
+chosen_with b day x key (k ∷ ks) = elim (cases_Bool (is_active_variant b day k)) [
+  | inl active ↦ elim (cases_Bool (holds (usage b k) x)) [
+    | inl met ↦ rw (selected_when b day x k, active, met, and-true, chosen_with b day x key ks) refl
+    | inr unmet ↦ rw (selected_when b day x k, active, unmet, and-false) (chosen_with b day x key ks)
+  ]
+  | inr passive ↦ rw (selected_when b day x k, passive) (chosen_with b day x key ks)
+]
 
 -- over usages whose literals are the truth of their formulas
 pub true_with : (b : Contents) (x : List Bool) (a : ℕ → Bool) (key : PartUse) (us : List Usage) → AllRight b x a us
     → list_any (is_true a) (literals_with b us key) ≡ list_any (λ k. is_same_use (part_use b k) key && holds (usage b k) x) (map (λ (u : Usage). u.variant) us)
 true_with b x a key [] right = refl
-true_with b x a key (u ∷ us) right = by (is_same_use (part_use b u.variant) key) refl (true_with b x a key us right.1)
-  where
-    by : (t : Bool) → is_same_use (part_use b u.variant) key ≡ t
-        → list_any (is_true a) (literals_with b us key) ≡ list_any (λ k. is_same_use (part_use b k) key && holds (usage b k) x) (map (λ (w : Usage). w.variant) us)
-        → list_any (is_true a) (literals_with b (u ∷ us) key) ≡ list_any (λ k. is_same_use (part_use b k) key && holds (usage b k) x) (map (λ (w : Usage). w.variant) (u ∷ us))
-    by true same later =
-        ap (λ (ws : List Usage). list_any (is_true a) (map (λ (w : Usage). w.literal) ws)) (cond-true (is_same_use (part_use b u.variant) key) (u ∷ (filter (λ w. is_same_use (part_use b w.variant) key) us)) (filter (λ w. is_same_use (part_use b w.variant) key) us) same)
-        ∙ ap (λ s. s || list_any (is_true a) (literals_with b us key)) right.0
-        ∙ ap (λ s. holds (usage b u.variant) x || s) later
-        ∙ sym (ap (λ s. (s && holds (usage b u.variant) x) || list_any (λ k. is_same_use (part_use b k) key && holds (usage b k) x) (map (λ (w : Usage). w.variant) us)) same)
-    by false same later =
-        ap (λ (ws : List Usage). list_any (is_true a) (map (λ (w : Usage). w.literal) ws)) (cond-false (is_same_use (part_use b u.variant) key) (u ∷ (filter (λ w. is_same_use (part_use b w.variant) key) us)) (filter (λ w. is_same_use (part_use b w.variant) key) us) same)
-        ∙ later
-        ∙ sym (ap (λ s. (s && holds (usage b u.variant) x) || list_any (λ k. is_same_use (part_use b k) key && holds (usage b k) x) (map (λ (w : Usage). w.variant) us)) same)
+true_with b x a key (u ∷ us) right = elim (cases_Bool (is_same_use (part_use b u.variant) key)) [
+  | inl same ↦ rw (same, right.0, true_with b x a key us right.1) refl
+  | inr other ↦ rw (other, true_with b x a key us right.1) refl
+]
 
 -- all of it
 pub chosen_by_key : (b : Contents) (day : ℕ) (x : List Bool) (a : ℕ → Bool) (id : List ℕ) (us : List Usage) (key : PartUse) → AllRight b x a us
     → map (λ (u : Usage). u.variant) us ≡ day_variants b day → list_any (is_true a) (literals_with b (usages_at b id us) key) ≡ has_use key (chosen b day id x)
-chosen_by_key b day x a id us key right variants = by (position_place b id) refl
-  where
-    by : (o : Option ℕ) → position_place b id ≡ o → list_any (is_true a) (literals_with b (usages_at b id us) key) ≡ has_use key (chosen b day id x)
-    by None is =
-        ap (λ o. list_any (is_true a) (literals_with b (option_map_or (λ place. usages_in b place us) o []) key)) is
-        ∙ sym (ap (has_use key) (chosen_none b day id x is))
-    by (Some place) is =
-        let found : IsPositionOf b id place = position_found b id place is in
-        ap (λ o. list_any (is_true a) (literals_with b (option_map_or (λ at. usages_in b at us) o []) key)) is
-        ∙ true_with b x a key (usages_in b place us) (all_filtered (λ u. is_true a u.literal ≡ holds (usage b u.variant) x) (λ u. is_variant_of b place u.variant) us right)
-        ∙ ap (list_any (λ k. is_same_use (part_use b k) key && holds (usage b k) x)) (variants_there b day place found.position us variants found.there)
-        ∙ at_position place found.position found.there
-        ∙ sym (ap (has_use key) (chosen_some b day id x place is))
-      where
-        at_position : (at : ℕ) (p : Position) → slice_get b.positions at ≡ Some p
-            → list_any (λ k. is_same_use (part_use b k) key && holds (usage b k) x) (active_of b day at p) ≡ has_use key (chosen_at b day x at)
-        at_position at p there =
-            active_or_not (is_active_position day p) refl
-            ∙ sym (ap (λ o. has_use key (map (part_use b) (option_map_or (selected b day x at) o []))) there)
-          where
-            active_or_not : (t : Bool) → is_active_position day p ≡ t
-                → list_any (λ k. is_same_use (part_use b k) key && holds (usage b k) x) (active_of b day at p) ≡ has_use key (map (part_use b) (selected b day x at p))
-            active_or_not true active =
-                ap (list_any (λ k. is_same_use (part_use b k) key && holds (usage b k) x)) (cond-true (is_active_position day p) (active_variants b day at) [] active)
-                ∙ chosen_with b day x key (variants_of at b.variants)
-                ∙ sym (ap (λ (ks : List ℕ). has_use key (map (part_use b) ks)) (cond-true (is_active_position day p) (selected_of b day x at) [] active))
-            active_or_not false passive =
-                ap (list_any (λ k. is_same_use (part_use b k) key && holds (usage b k) x)) (cond-false (is_active_position day p) (active_variants b day at) [] passive)
-                ∙ sym (ap (λ (ks : List ℕ). has_use key (map (part_use b) ks)) (cond-false (is_active_position day p) (selected_of b day x at) [] passive))
+chosen_by_key b day x a id us key right variants = elim (cases_option (position_place b id)) [
+  | inl none ↦ rw none refl
+  | inr some ↦
+      let found = position_found b id some.0 some.1 in
+      let own : AllRight b x a (usages_in b some.0 us) = all_filtered (λ u. is_true a u.literal ≡ holds (usage b u.variant) x) (λ u. is_variant_of b some.0 u.variant) us right in
+      rw (some.1, true_with b x a key (usages_in b some.0 us) own, variants_there b day some.0 found.position us variants found.there, found.there)
+      (elim (cases_Bool (is_active_position day found.position)) [
+        | inl active ↦ rw active (chosen_with b day x key (variants_of some.0 b.variants))
+        | inr passive ↦ rw passive refl
+      ])
+]

@@ -1,12 +1,13 @@
 -- Questions that don't have to be asked, and what the formulas of the others say.
 use Rattle.std.proofs.Common.{◌≡◌, ℕ, zero, suc, ◌+◌, ◌<◌, ◌^◌, Bool, true, false, not, ◌&&◌, ◌||◌, List, [], ◌∷◌, ◌++◌, Option, Some, None, length, map, take, get_or, refl, sym, ap, subst, ◌∙◌, arith, All, append_assoc}
+use Rattle.clausify.proofs.ListLaws.{all-append}
 use Rattle.std.specs.List.{slice_get, list_any, range_with_len, AllByRecursion}
 use Rattle.std.specs.Option.{option_map, option_map_or, option_to_list, is_none}
-use Rattle.std.proofs.lemmas.Bool.{and_parts, lt-ltb, false≢true}
+use Rattle.std.proofs.lemmas.Bool.{and_parts, lt-ltb, false≢true, or_parts, not-true}
 use Rattle.std.proofs.lemmas.List.Elements.{All-get_or}
 use Rattle.std.proofs.lemmas.List.{length-append, length-map}
 use Rattle.std.proofs.lemmas.List.FromFn.{length-range_with_len, map-range_with_len_more}
-use Rattle.std.proofs.lemmas.Option.{slice_get-get_or, slice_get_within, slice_get_read}
+use Rattle.std.proofs.lemmas.Option.{slice_get-get_or, slice_get_within, slice_get_read, get_or_from_slice_get}
 use Rattle.pb_base.specs.InParts.{InParts}
 use Rattle.pb_base.specs.Leaves.{with_leaves}
 use Rattle.pb_base.specs.NamedSet.{named}
@@ -32,93 +33,45 @@ use Rattle.lost_cars.specs.declared.question.Question.TheVariants.{Fires, Breaks
 use Rattle.lost_cars.proofs.NameLaws.{read_holds, read_fits}
 use Rattle.lost_cars.proofs.ViolationLaws.{unmet_holds, firing_below, unmet_below, firing_small, unmet_small}
 
-where_active : (w p q : Bool) → w ≡ true → (p && not q) ≡ (w && p && not q)
-where_active true p q h = refl
-where_active false p q h = absurd (false≢true h)
-
-where_active_2 : (w m : Bool) → w ≡ true → not m ≡ (w && not m)
-where_active_2 true m h = refl
-where_active_2 false m h = absurd (false≢true h)
-
-unless_active : (w p q : Bool) → w ≡ false → (w && p && not q) ≡ false
-unless_active false p q h = refl
-unless_active true p q h = absurd (false≢true (sym h))
-
-unless_active_2 : (w m : Bool) → w ≡ false → (w && not m) ≡ false
-unless_active_2 false m h = refl
-unless_active_2 true m h = absurd (false≢true (sym h))
-
 pub none_at : {X : Type 0} (p : X → Bool) (xs : List X) (k : ℕ) (x : X) → slice_get xs k ≡ Some x → list_any p xs ≡ false → p x ≡ false
 none_at p [] k x there none = cc
-none_at p (y ∷ ys) zero x there none = let same : y ≡ x = cc in ap p (sym same) ∙ first_false (p y) (list_any p ys) none
-  where
-    first_false : (t u : Bool) → (t || u) ≡ false → t ≡ false
-    first_false false u h = refl
-    first_false true u h = h
-none_at p (y ∷ ys) (suc k) x there none = none_at p ys k x there (later_false (p y) (list_any p ys) none)
-  where
-    later_false : (t u : Bool) → (t || u) ≡ false → u ≡ false
-    later_false false u h = h
-    later_false true u h = absurd (false≢true (sym h))
+none_at p (y ∷ ys) zero x there none = let same : y ≡ x = cc in ap p (sym same) ∙ (or_parts (p y) (list_any p ys) none).0
+none_at p (y ∷ ys) (suc k) x there none = none_at p ys k x there (or_parts (p y) (list_any p ys) none).1
 
 all_there : {X : Type 0} (P : X → Type 0) (xs : List X) (k : ℕ) (x : X) → slice_get xs k ≡ Some x → All P xs → P x
 all_there P xs k x there all =
-    let within : k < length xs = slice_get_within xs k x there in
-    let read : slice_get xs k ≡ Some (get_or xs k x) = slice_get-get_or xs k x within in
-    let same : get_or xs k x ≡ x = cc in
-    subst P same (All-get_or P xs k x within all)
+    subst P (get_or_from_slice_get xs k x x there) (All-get_or P xs k x (slice_get_within xs k x there) all)
 
 pub read_there : {X : Type 0} (xs ys : List X) (k : ℕ) (x : X) → ys ≡ xs → k < length xs → x ≡ get_or ys k x → slice_get xs k ≡ Some x
 read_there xs ys k x same within is = slice_get_read xs (length xs) k x refl within (is ∙ ap (λ zs. get_or zs k x) same)
 
-not_true : (t : Bool) → not t ≡ true → t ≡ false
-not_true true h = sym h
-not_true false h = refl
-
 -- a car fires no active supplementing rule of its book, and breaks no constructibility rule
 closed_of : (b : Contents) (day : ℕ) (x : List Bool) → is_good b day x ≡ true → list_any (fires day x) b.supplements ≡ false
-closed_of b day x good = not_true (list_any (fires day x) b.supplements) (first3 (is_closed b day x) (is_constructible b day x) _ good)
-  where
-    first3 : (p q r : Bool) → (p && q && r) ≡ true → p ≡ true
-    first3 true q r h = refl
-    first3 false q r h = h
+closed_of b day x good = not-true _ (and_parts (is_closed b day x) (is_constructible b day x) (and_parts (is_closed b day x && is_constructible b day x) _ good).0).0
 
 built_of : (b : Contents) (day : ℕ) (x : List Bool) → is_good b day x ≡ true → list_any (breaks day x) b.constructs ≡ false
-built_of b day x good = not_true (list_any (breaks day x) b.constructs) (second3 (is_closed b day x) (is_constructible b day x) _ good)
-  where
-    second3 : (p q r : Bool) → (p && q && r) ≡ true → q ≡ true
-    second3 true true r h = refl
-    second3 true false r h = h
-    second3 false q r h = absurd (false≢true h)
+built_of b day x good = not-true _ (and_parts (is_closed b day x) (is_constructible b day x) (and_parts (is_closed b day x && is_constructible b day x) _ good).0).1
 
 module _ (own other : Contents) (day : ℕ) where
   -- supplementing rules of the other book
   module _ (place : ℕ) (s : Supplement) (there : slice_get other.supplements place ≡ Some s) where
-    lost_there : (names : List (List ℕ)) → is_lost own other day (Fires place) names ≡ fires day (named other.codes names) s
-    lost_there names = ap (λ o. option_map_or (fires day (named other.codes names)) o false) there
-
     pub passive_supplement : is_within s.from s.until day ≡ false → LosesNone own other day (Fires place)
-    passive_supplement off = λ names car. lost_there names ∙ unless_active (is_within s.from s.until day) (holds s.rule (named other.codes names)) (has (named other.codes names) s.code) off
+    passive_supplement off = λ names car. rw (there, off) refl
 
     says_firing : is_within s.from s.until day ≡ true → Says own other day (Fires place) (read_by_own own other (firing s))
-    says_firing on = λ names are.
-        read_holds own.codes other.codes names are (firing s)
-        ∙ where_active (is_within s.from s.until day) (holds s.rule (named other.codes names)) (has (named other.codes names) s.code) on
-        ∙ sym (lost_there names)
+    says_firing on = λ names are. rw (there, on) (read_holds own.codes other.codes names are (firing s))
 
     pub same_supplement : is_within s.from s.until day ≡ true → HasSupplement own day (read_by_own own other (firing s)) → LosesNone own other day (Fires place)
     same_supplement on h = λ names car.
         let x : List Bool = named own.codes names in
-        sym (says_firing on names car.named_there) ∙ ap (λ f. holds f x) h.same
-        ∙ where_active (is_within h.rule.from h.rule.until day) (holds h.rule.rule x) (has x h.rule.code) h.active
-        ∙ none_at (fires day x) own.supplements h.place h.rule h.there (closed_of own day x car.good)
+        sym (says_firing on names car.named_there) ∙ ap (λ f. holds f x) h.same ∙ rw h.active at (none_at (fires day x) own.supplements h.place h.rule h.there (closed_of own day x car.good))
 
     pub ask_firing : IsBook other → is_within s.from s.until day ≡ true → (f : Rule) → f ≡ read_by_own own other (firing s) → IsAsk own other day (Fires place) f
     ask_firing book on f is =
         let fits : SupplementFits (length other.codes) s = all_there (SupplementFits (length other.codes)) other.supplements place s there book.supplements_fit in
-        subst (IsAsk own other day (Fires place)) (sym is)
+        rw is
         (record {
-          is = sym (ap (λ o. option_map_or (λ (t : Supplement). read_by_own own other (firing t)) o never) there);
+          is = rw there refl;
           says = says_firing on;
           fits = record {
             in_range = read_fits own.codes other.codes (length other.codes) (firing s) (firing_below (length other.codes) s fits);
@@ -128,32 +81,24 @@ module _ (own other : Contents) (day : ℕ) where
 
   -- constructibility rules of the other book
   module _ (place : ℕ) (c : Construct) (there : slice_get other.constructs place ≡ Some c) where
-    broken_there : (names : List (List ℕ)) → is_lost own other day (Breaks place) names ≡ breaks day (named other.codes names) c
-    broken_there names = ap (λ o. option_map_or (breaks day (named other.codes names)) o false) there
-
     pub passive_construct : is_within c.from c.until day ≡ false → LosesNone own other day (Breaks place)
-    passive_construct off = λ names car. broken_there names ∙ unless_active_2 (is_within c.from c.until day) (is_met (named other.codes names) c.demand) off
+    passive_construct off = λ names car. rw (there, off) refl
 
     says_unmet : is_within c.from c.until day ≡ true → Says own other day (Breaks place) (read_by_own own other (unmet c.demand))
-    says_unmet on = λ names are.
-        read_holds own.codes other.codes names are (unmet c.demand)
-        ∙ unmet_holds (named other.codes names) c.demand
-        ∙ where_active_2 (is_within c.from c.until day) (is_met (named other.codes names) c.demand) on
-        ∙ sym (broken_there names)
+    says_unmet on = λ names are. rw (there, on) (read_holds own.codes other.codes names are (unmet c.demand) ∙ unmet_holds (named other.codes names) c.demand)
 
     pub same_construct : is_within c.from c.until day ≡ true → HasConstruct own day (read_by_own own other (unmet c.demand)) → LosesNone own other day (Breaks place)
     same_construct on h = λ names car.
         let x : List Bool = named own.codes names in
         sym (says_unmet on names car.named_there) ∙ ap (λ f. holds f x) h.same ∙ unmet_holds x h.rule.demand
-        ∙ where_active_2 (is_within h.rule.from h.rule.until day) (is_met x h.rule.demand) h.active
-        ∙ none_at (breaks day x) own.constructs h.place h.rule h.there (built_of own day x car.good)
+        ∙ rw h.active at (none_at (breaks day x) own.constructs h.place h.rule h.there (built_of own day x car.good))
 
     pub ask_unmet : IsBook other → is_within c.from c.until day ≡ true → (f : Rule) → f ≡ read_by_own own other (unmet c.demand) → IsAsk own other day (Breaks place) f
     ask_unmet book on f is =
         let fits : ConstructFits (length other.codes) c = all_there (ConstructFits (length other.codes)) other.constructs place c there book.constructs_fit in
-        subst (IsAsk own other day (Breaks place)) (sym is)
+        rw is
         (record {
-          is = sym (ap (λ o. option_map_or (λ (t : Construct). read_by_own own other (unmet t.demand)) o never) there);
+          is = rw there refl;
           says = says_unmet on;
           fits = record {
             in_range = read_fits own.codes other.codes (length other.codes) (unmet c.demand) (unmet_below (length other.codes) c.demand fits.demand);
@@ -163,20 +108,21 @@ module _ (own other : Contents) (day : ℕ) where
 
   -- codes of the own book
   module _ (place : ℕ) (name : List ℕ) (there : slice_get own.codes place ≡ Some name) where
-    missed_there : (names : List (List ℕ)) → is_lost own other day (Lacks place) names ≡ is_missed other names name
-    missed_there names = ap (λ o. option_map_or (is_missed other names) o false) there
-
     pub code_there : is_none (place_in other.codes name) ≡ false → LosesNone own other day (Lacks place)
-    code_there some = λ names car. missed_there names ∙ ap (λ t. t && list_any (same_name name) names) some
+    code_there some = λ names car. rw (there, some) refl
 
     pub ask_missed : is_none (place_in other.codes name) ≡ true → (f : Rule) → f ≡ code place → IsAsk own other day (Lacks place) f
     ask_missed none f is =
-        subst (IsAsk own other day (Lacks place)) (sym is)
+        rw is
         (record {
           is = refl;
-          says = λ names are. has-named own.codes names name place there ∙ sym (missed_there names ∙ ap (λ t. t && list_any (same_name name) names) none);
+          says = λ names are. rw (there, none) (has-named own.codes names name place there);
           fits = record { in_range = lt-ltb place (length own.codes) (slice_get_within own.codes place name there); small = omega arith };
         })
+
+-- the formulas that are made
+pub read_made : (own other : Contents) (codes others : List (List ℕ)) (f g : Rule) → codes ≡ own.codes → others ≡ other.codes → g ≡ with_leaves (by_name codes others) f → g ≡ read_by_own own other f
+read_made own other codes others f g are others_are made = rw (are, others_are) at made
 
 -- a rule that was found is there
 pub supplement_found : (own other : Contents) (day : ℕ) (codes others : List (List ℕ)) (rs : List Supplement) (k : ℕ) (s t : Supplement) → codes ≡ own.codes → others ≡ other.codes
@@ -187,7 +133,7 @@ supplement_found own other day codes others rs k s t are others_are same within 
   rule = t;
   there = read_there own.supplements rs k t same (omega (arith, within, ap length same)) read;
   active = active;
-  same = sym (ap (λ (cs : List (List ℕ)). with_leaves (by_name cs others) (firing s)) are ∙ ap (λ (cs : List (List ℕ)). with_leaves (by_name own.codes cs) (firing s)) others_are) ∙ found;
+  same = sym (read_made own other codes others (firing s) _ are others_are refl) ∙ found;
 }
 
 pub construct_found : (own other : Contents) (day : ℕ) (codes others : List (List ℕ)) (rs : List Construct) (k : ℕ) (c t : Construct) → codes ≡ own.codes → others ≡ other.codes
@@ -198,13 +144,8 @@ construct_found own other day codes others rs k c t are others_are same within r
   rule = t;
   there = read_there own.constructs rs k t same (omega (arith, within, ap length same)) read;
   active = active;
-  same = sym (ap (λ (cs : List (List ℕ)). with_leaves (by_name cs others) (unmet c.demand)) are ∙ ap (λ (cs : List (List ℕ)). with_leaves (by_name own.codes cs) (unmet c.demand)) others_are) ∙ found;
+  same = sym (read_made own other codes others (unmet c.demand) _ are others_are refl) ∙ found;
 }
-
--- the formulas that are made
-pub read_made : (own other : Contents) (codes others : List (List ℕ)) (f g : Rule) → codes ≡ own.codes → others ≡ other.codes → g ≡ with_leaves (by_name codes others) f → g ≡ read_by_own own other f
-read_made own other codes others f g are others_are made =
-    made ∙ ap (λ (cs : List (List ℕ)). with_leaves (by_name cs others) f) are ∙ ap (λ (cs : List (List ℕ)). with_leaves (by_name own.codes cs) f) others_are
 
 -- a question that has to be asked, or not, is put
 pub put_ruled : (own other : Contents) (day : ℕ) (q : Question) (o : Option Rule) → IsRuled own other day q o → IsPut own other day q (option_to_list (option_map (ask_with q) o))
@@ -217,10 +158,6 @@ module _ (own other : Contents) where
   fit_from f i zero each = tt
   fit_from f i (suc n) each = (each i (omega arith), fit_from f (i + 1) n (λ k low. each k (omega (arith, low))))
 
-  fit_both : (qs rs : List Question) → AllByRecursion (QuestionFits own other) qs → AllByRecursion (QuestionFits own other) rs → AllByRecursion (QuestionFits own other) (qs ++ rs)
-  fit_both [] rs h k = k
-  fit_both (q ∷ qs) rs h k = (h.0, fit_both qs rs h.1 k)
-
   pub questions_fit : AllByRecursion (QuestionFits own other) (questions own other)
   questions_fit =
       let firing : AllByRecursion (QuestionFits own other) (map (λ p. Fires p) (range_with_len 0 (length other.supplements))) =
@@ -231,18 +168,14 @@ module _ (own other : Contents) where
       fit_from (λ p. Lacks p) 0 (length own.codes) (λ k low. let within : k < length own.codes = omega (arith, low) in within) in
       let fires : List Question = map (λ p. Fires p) (range_with_len 0 (length other.supplements)) in
       let breaks_ : List Question = map (λ p. Breaks p) (range_with_len 0 (length other.constructs)) in
-      fit_both (fires ++ breaks_) (map (λ p. Lacks p) (range_with_len 0 (length own.codes))) (fit_both fires breaks_ firing breaking) lacking
+      all-append _ (fires ++ breaks_) (map (λ p. Lacks p) (range_with_len 0 (length own.codes))) (all-append _ fires breaks_ firing breaking) lacking
 
 -- the questions are put one kind behind the other
 pub questions_put : (own other : Contents) (none first second third : List Question) (n m k : ℕ) → none ≡ [] → first ≡ none ++ map (λ p. Fires p) (range_with_len 0 n)
     → second ≡ first ++ map (λ p. Breaks p) (range_with_len 0 m) → third ≡ second ++ map (λ p. Lacks p) (range_with_len 0 k)
     → n ≡ length other.supplements → m ≡ length other.constructs → k ≡ length own.codes → third ≡ questions own other
 questions_put own other none first second third n m k empty firing breaking lacking rules constructs codes =
-    lacking
-    ∙ ap (λ (qs : List Question). qs ++ map (λ p. Lacks p) (range_with_len 0 k)) (breaking ∙ ap (λ (qs : List Question). qs ++ map (λ p. Breaks p) (range_with_len 0 m)) (firing ∙ ap (λ (qs : List Question). qs ++ map (λ p. Fires p) (range_with_len 0 n)) empty))
-    ∙ ap (λ (a : ℕ). map (λ p. Fires p) (range_with_len 0 a) ++ map (λ p. Breaks p) (range_with_len 0 m) ++ map (λ p. Lacks p) (range_with_len 0 k)) rules
-    ∙ ap (λ (a : ℕ). map (λ p. Fires p) (range_with_len 0 (length other.supplements)) ++ map (λ p. Breaks p) (range_with_len 0 a) ++ map (λ p. Lacks p) (range_with_len 0 k)) constructs
-    ∙ ap (λ (a : ℕ). map (λ p. Fires p) (range_with_len 0 (length other.supplements)) ++ map (λ p. Breaks p) (range_with_len 0 (length other.constructs)) ++ map (λ p. Lacks p) (range_with_len 0 a)) codes
+    rw (lacking, breaking, firing, empty, rules, constructs, codes) refl
 
 -- there are few of them
 pub questions_few : (own other : Contents) → IsBook own → IsBook other → length (questions own other) < 2 ^ 32
@@ -261,5 +194,4 @@ questions_few own other book others =
 pub put_more : (f : ℕ → Question) (old now more : List Question) (n : ℕ) → now ≡ old ++ map f (range_with_len 0 n) → more ≡ now ++ f n ∷ [] → more ≡ old ++ map f (range_with_len 0 (n + 1))
 put_more f old now more n so_far pushed =
     let e : 0 + n ≡ n = omega arith in
-    pushed ∙ ap (λ (qs : List Question). qs ++ f n ∷ []) so_far ∙ append_assoc old (map f (range_with_len 0 n)) (f n ∷ [])
-    ∙ ap (λ (qs : List Question). old ++ qs) (sym (map-range_with_len_more f 0 n n e))
+    rw (pushed, so_far, append_assoc, map-range_with_len_more f 0 n n e) refl

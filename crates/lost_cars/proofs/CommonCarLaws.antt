@@ -1,9 +1,11 @@
 -- The formula of common cars says which cars of the own book are cars of the other, and what an answer to it says.
-use Rattle.std.proofs.Common.{◌≡◌, ℕ, suc, ◌+◌, ◌≤◌, ◌^◌, arith, Bool, true, false, not, ◌&&◌, ◌||◌, ◌==◌, List, [], ◌∷◌, ◌++◌, Option, Some, None, length, map, refl, sym, ap, subst, ◌∙◌}
+use Rattle.std.proofs.Common.{◌≡◌, ℕ, suc, ◌+◌, ◌≤◌, ◌^◌, arith, Bool, true, false, not, ◌&&◌, ◌||◌, ◌==◌, List, [], ◌∷◌, ◌++◌, Option, Some, None, length, map, refl, sym, ap, subst, ◌∙◌, inl, inr}
+use Rattle.book_compare.proofs.PickLaws.{named_own}
 use Rattle.std.specs.Prelude.{Result, Ok, Err, IfOk}
 use Rattle.std.specs.List.{slice_get, slice_index_or, list_any, AllByRecursion, AllZip, IsDistinct}
 use Rattle.std.specs.Option.{option_map_or, is_none}
-use Rattle.std.proofs.lemmas.Bool.{and_parts, and_from, not-true, true≢false}
+use Rattle.std.proofs.lemmas.Bool.{and_parts, and_from, or_parts, not-true, true≢false}
+use Rattle.std.proofs.Math.Bool.{or_assoc, or-false}
 use Rattle.std.proofs.lemmas.List.{length-append, length-map}
 use Rattle.pb_base.specs.InParts.{InParts}
 use Rattle.pb_base.specs.NamedSet.{named}
@@ -16,7 +18,7 @@ use Rattle.rules_met.specs.Met.{IsAnswer, RuleIsSmall}
 use Rattle.rules_met.specs.declared.answer.RuleAnswer.{RuleAnswer}
 use Rattle.rules_met.specs.declared.answer.RuleAnswer.TheVariants.{Met, NotMet, Left}
 use Rattle.book_compare.specs.Picked.{picked}
-use Rattle.book_compare.proofs.NumberLaws.{not_there, not_named}
+use Rattle.book_compare.proofs.NumberLaws.{cases_option, not_there, not_named}
 use Rattle.lost_cars.specs.Asks.{IsPut, ArePut}
 use Rattle.lost_cars.specs.CommonCar.{any_rule_from, none_rule, IsAsked, IsCommonAnswer, IsCommonRule}
 use Rattle.lost_cars.specs.Losses.{IsCar, Says, is_missed, is_lost, lost_rule, questions}
@@ -25,21 +27,13 @@ use Rattle.lost_cars.specs.declared.question.Question.{Question}
 use Rattle.lost_cars.specs.declared.question.Question.TheVariants.{Fires, Breaks, Lacks}
 use Rattle.lost_cars.proofs.AskLaws.{none_at}
 use Rattle.lost_cars.proofs.KeepLaws.{KeepsIt, kept_car}
-use Rattle.lost_cars.proofs.NotedLaws.{car_of_set, named_own}
+use Rattle.lost_cars.proofs.NotedLaws.{car_of_set}
 
 -- ---- the formula
 
 any_holds : (f : Rule) (rs : List Rule) (x : List Bool) → holds (any_rule_from f rs) x ≡ (holds f x || list_any (λ r. holds r x) rs)
-any_holds f [] x = sym (or_false (holds f x))
-  where
-    or_false : (t : Bool) → (t || false) ≡ t
-    or_false true = refl
-    or_false false = refl
-any_holds f (r ∷ rs) x = any_holds (either f r) rs x ∙ or_or (holds f x) (holds r x) (list_any (λ r. holds r x) rs)
-  where
-    or_or : (s t u : Bool) → ((s || t) || u) ≡ (s || (t || u))
-    or_or true t u = refl
-    or_or false t u = refl
+any_holds f [] x = sym (or-false (holds f x))
+any_holds f (r ∷ rs) x = any_holds (either f r) rs x ∙ or_assoc (holds f x) (holds r x) (list_any (λ r. holds r x) rs)
 
 none_holds : (rs : List Rule) (x : List Bool) → holds (none_rule rs) x ≡ not (list_any (λ r. holds r x) rs)
 none_holds rs x = ap not (any_holds never rs x)
@@ -57,10 +51,6 @@ any_more f [] r = refl
 any_more f (s ∷ rs) r = any_more (either f s) rs r
 
 -- ---- what it says of a car
-
-or_parts : (s t : Bool) → (s || t) ≡ false → (s ≡ false) × (t ≡ false)
-or_parts true t h = absurd (true≢false h)
-or_parts false t h = (refl, h)
 
 module _ (own other : Contents) (day : ℕ) (names : List (List ℕ)) (car : IsCar own day names) where
   abbrev x : List Bool
@@ -90,8 +80,7 @@ module _ (own other : Contents) (day : ℕ) (names : List (List ℕ)) (car : IsC
     where
       by : (first rest : List Question) → asked ≡ first ++ rest → IsAsked own other day q first → any_true rest ≡ false → any_true asked ≡ false
       by [] rest is here later = ap any_true is ∙ later
-      by (a ∷ []) rest is here later =
-          ap any_true is ∙ ap (λ t. t || any_true rest) (ap own_true here.0 ∙ here.1 names car.named_there ∙ kept q) ∙ later
+      by (a ∷ []) rest is here later = rw (is, here.0, here.1 names car.named_there, kept q) later
       by (a ∷ b ∷ more) rest is here later = absurd here
 
 -- a car of the other book isn't lost
@@ -109,29 +98,23 @@ module _ (own other : Contents) (day : ℕ) (names : List (List ℕ)) (kept : Is
   none_breaks = not-true (list_any (breaks day y) other.constructs) (and_parts (is_closed other day y) (is_constructible other day y) whole.0).1
 
   pub not_lost : (q : Question) → is_lost own other day q names ≡ false
-  not_lost (Fires place) = by (slice_get other.supplements place) refl
-    where
-      by : (o : Option _) → slice_get other.supplements place ≡ o → is_lost own other day (Fires place) names ≡ false
-      by None is = ap (λ o. option_map_or (fires day y) o false) is
-      by (Some s) is = ap (λ o. option_map_or (fires day y) o false) is ∙ none_at (fires day y) other.supplements place s is none_fires
-  not_lost (Breaks place) = by (slice_get other.constructs place) refl
-    where
-      by : (o : Option _) → slice_get other.constructs place ≡ o → is_lost own other day (Breaks place) names ≡ false
-      by None is = ap (λ o. option_map_or (breaks day y) o false) is
-      by (Some c) is = ap (λ o. option_map_or (breaks day y) o false) is ∙ none_at (breaks day y) other.constructs place c is none_breaks
-  not_lost (Lacks place) = by (slice_get own.codes place) refl
-    where
-      has_code : (name : List ℕ) → is_missed other names name ≡ false
-      has_code name = found (place_in other.codes name) refl
-        where
-          found : (o : Option ℕ) → place_in other.codes name ≡ o → is_missed other names name ≡ false
-          found None is =
-              ap (λ o. is_none o && list_any (same_name name) names) is ∙ not_named other.codes names name kept.named_there (not_there other.codes name is)
-          found (Some k) is = ap (λ o. is_none o && list_any (same_name name) names) is
-
-      by : (o : Option _) → slice_get own.codes place ≡ o → is_lost own other day (Lacks place) names ≡ false
-      by None is = ap (λ o. option_map_or (is_missed other names) o false) is
-      by (Some name) is = ap (λ o. option_map_or (is_missed other names) o false) is ∙ has_code name
+  not_lost (Fires place) = elim (cases_option (slice_get other.supplements place)) [
+    | inl none ↦ rw none refl
+    | inr some ↦ rw some.1 (none_at (fires day y) other.supplements place some.0 some.1 none_fires)
+  ]
+  not_lost (Breaks place) = elim (cases_option (slice_get other.constructs place)) [
+    | inl none ↦ rw none refl
+    | inr some ↦ rw some.1 (none_at (breaks day y) other.constructs place some.0 some.1 none_breaks)
+  ]
+  not_lost (Lacks place) = elim (cases_option (slice_get own.codes place)) [
+    | inl none ↦ rw none refl
+    | inr some ↦
+        let name : List ℕ = some.0 in
+        elim (cases_option (place_in other.codes some.0)) [
+          | inl none ↦ rw (some.1, none) (not_named other.codes names some.0 kept.named_there (not_there other.codes some.0 none))
+          | inr found ↦ rw (some.1, found.1) refl
+        ]
+  ]
 
 -- over cars of the own book, the formula is true just of those that are cars of the other
 abbrev TellsCommon : Contents → Contents → ℕ → Rule → Type 0
@@ -143,10 +126,10 @@ tells_common : (own other : Contents) (day : ℕ) (f : Rule) → IsCommonRule ow
 tells_common own other day f common = λ names car.
     let x : List Bool = named own.codes names in
     let rules : List Rule = map (lost_rule own other) common.asked in
-    let says : holds f x ≡ not (list_any (λ (r : Rule). holds r x) rules) = ap (λ g. holds g x) common.is ∙ none_holds rules x in (
+    let says : holds f x ≡ not (list_any (λ (r : Rule). holds r x) rules) = rw common.is (none_holds rules x) in (
       λ h. kept_car own other day names car
           (none_lost own other day names car (questions own other) common.asked common.are (not-true (list_any (λ (r : Rule). holds r x) rules) (sym says ∙ h))),
-      λ kept. says ∙ ap not (none_true own other day names car (questions own other) common.asked common.are (not_lost own other day names kept)),
+      λ kept. rw (says, none_true own other day names car (questions own other) common.asked common.are (not_lost own other day names kept)) refl,
     )
 
 -- ---- the questions that were put are those that are asked
@@ -179,8 +162,7 @@ module _ (own other : Contents) (day : ℕ) where
       by : (first rest : List Ask) → asks ≡ first ++ rest → IsPut own other day q first → rules_of rest ≡ lost_rules rest → rules_of asks ≡ lost_rules asks
       by [] rest is none later = ap rules_of is ∙ later ∙ sym (ap lost_rules is)
       by (a ∷ []) rest is here later =
-          ap rules_of is ∙ ap (λ (f : Rule). f ∷ rules_of rest) (here.1.is ∙ ap (lost_rule own other) (sym here.0))
-          ∙ ap (λ (fs : List Rule). lost_rule own other a.question ∷ fs) later ∙ sym (ap lost_rules is)
+          rw (is, here.1.is, ← here.0, later) refl
       by (a ∷ b ∷ more) rest is here later = absurd here
 
 -- the formula that is given back
@@ -204,7 +186,7 @@ common_answered own other day budget f (Met x) apart common met =
     let parts = and_parts (is_good own day x) (holds f x) met.1 in
     let names : List (List ℕ) = picked own.codes x in
     let car : IsCar own day names = car_of_set own day x apart parts.0 in
-    (names, record { own_car = car; other_car = (tells_common own other day f common names car).0 (ap (holds f) (named_own own x met.0 apart) ∙ parts.1) })
+    (met.0, record { own_car = car; other_car = (tells_common own other day f common names car).0 (ap (holds f) (named_own own.codes x met.0 apart) ∙ parts.1) })
 common_answered own other day budget f NotMet apart common none = λ names car.
     let x : List Bool = named own.codes names in
     true≢false (sym (and_from (is_good own day x) (holds f x) car.own_car.good ((tells_common own other day f common names car.own_car).1 car.other_car))

@@ -2,7 +2,7 @@
 use Rattle.std.proofs.Common.{◌≡◌, ℕ, zero, suc, ◌+◌, ◌<◌, ◌≤◌, Bool, true, false, ◌&&◌, List, [], ◌∷◌, ◌++◌, length, map, get_or, drop, refl, sym, ap, subst, ◌∙◌, arith, All, append_assoc, append-nil}
 use Rattle.std.specs.List.{list_any, IsDistinct, AllByRecursion, AllZip}
 use Rattle.std.proofs.lemmas.Bool.{and_parts, false_from_ne_true, and_from, true≢false}
-use Rattle.std.proofs.lemmas.List.{drop_more, ext_get_or, length-map}
+use Rattle.std.proofs.lemmas.List.{drop_more, ext_get_or, length-map, drop_all}
 use Rattle.std.proofs.lemmas.List.Elements.{All-from_recursion}
 use Rattle.pb_base.specs.InParts.{InParts}
 use Rattle.pb_base.specs.NamedSet.{named}
@@ -16,7 +16,7 @@ use Rattle.rules_met.specs.declared.answer.RuleAnswer.{RuleAnswer}
 use Rattle.rules_met.specs.declared.answer.RuleAnswer.TheVariants.{Met, NotMet, Left}
 use Rattle.book_compare.specs.Common.{AreNamed}
 use Rattle.book_compare.specs.Picked.{picked}
-use Rattle.book_compare.proofs.PickLaws.{picked_distinct, picked_named, named-picked}
+use Rattle.book_compare.proofs.PickLaws.{picked_distinct, picked_named, named-picked, named_own}
 use Rattle.lost_cars.specs.Losses.{IsCar, is_lost, IsLostBy, LosesNone, IsLossNoted, QuestionFits, Says, cause_of}
 use Rattle.lost_cars.specs.Asks.{IsAsk, IsPut, ArePut}
 use Rattle.lost_cars.specs.Noting.{notes_for, notes_by, AreAnswered}
@@ -24,29 +24,22 @@ use Rattle.lost_cars.specs.declared.asks.Ask.{Ask}
 use Rattle.lost_cars.specs.declared.note.LossNote.{LossNote}
 use Rattle.lost_cars.specs.declared.question.Question.{Question}
 
-drop_past : {X : Type 0} (xs : List X) (i : ℕ) → length xs ≤ i → drop i xs ≡ []
-drop_past [] zero past = refl
-drop_past [] (suc i) past = refl
-drop_past (x ∷ xs) zero past = absurd (omega (arith, past))
-drop_past (x ∷ xs) (suc i) past = drop_past xs i (omega (arith, past))
-
--- a set of a book's codes, by its names
-pub named_own : (b : Contents) (x : List Bool) → length x ≡ length b.codes → IsDistinct same_name b.codes → named b.codes (picked b.codes x) ≡ x
-named_own b x counted apart =
-    let own : List (List ℕ) = picked b.codes x in
-    ext_get_or false (named b.codes own) x (length-map b.codes (λ c. list_any (same_name c) own) ∙ sym counted)
-    (λ i within. sym (named-picked b.codes x apart i (omega (arith, within, length-map b.codes (λ c. list_any (same_name c) own)))))
+-- a good set of a book's codes is a car by its names
+pub car_of_set : (b : Contents) (day : ℕ) (x : List Bool) → IsDistinct same_name b.codes → is_good b day x ≡ true → IsCar b day (picked b.codes x)
+car_of_set b day x apart good = record {
+  distinct = picked_distinct 0 x b.codes apart;
+  named_there = picked_named 0 x b.codes;
+  good = ap (is_good b day) (named_own b.codes x (length_from_good b day x good) apart) ∙ good;
+}
 
 module _ (own other : Contents) (day budget : ℕ) (apart : IsDistinct same_name own.codes) where
   lost_by_set : (q : Question) (f : Rule) (x : List Bool) → IsAsk own other day q f → length x ≡ length own.codes → (is_good own day x && holds f x) ≡ true
       → IsLostBy own other day q (picked own.codes x)
   lost_by_set q f x ask counted shown =
       let parts = and_parts (is_good own day x) (holds f x) shown in
-      let same : named own.codes (picked own.codes x) ≡ x = named_own own x counted apart in
-      let are : AreNamed own.codes (picked own.codes x) = picked_named 0 x own.codes in
       record {
-        car = record { distinct = picked_distinct 0 x own.codes apart; named_there = are; good = ap (is_good own day) same ∙ parts.0 };
-        lost = sym (ask.says (picked own.codes x) are) ∙ ap (holds f) same ∙ parts.1;
+        car = car_of_set own day x apart parts.0;
+        lost = sym (ask.says (picked own.codes x) (picked_named 0 x own.codes)) ∙ ap (holds f) (named_own own.codes x counted apart) ∙ parts.1;
       }
 
   none_lost : (q : Question) (f : Rule) → IsAsk own other day q f → ((x : List Bool) → length x ≡ length own.codes → (is_good own day x && holds f x) ≡ false) → LosesNone own other day q
@@ -61,7 +54,7 @@ module _ (own other : Contents) (day budget : ℕ) (apart : IsDistinct same_name
   noted q f (Met x) ask met = (refl, met.0, lost_by_set q f x ask met.0 met.1)
   noted q f NotMet ask none = none_lost q f ask none
   noted q f Left ask left =
-      (refl, record { says = subst (Says own other day q) ask.is ask.says; left = subst (IsLeftOn own day budget) ask.is left })
+      (refl, record { says = rw ask.is at ask.says; left = rw ask.is at left })
 
   abbrev AreRight : List Ask → List RuleAnswer → Type 0
   AreRight asks answers = AllZip (IsAnswer own day budget) (map (λ (a : Ask). a.rule) asks) answers
@@ -77,16 +70,16 @@ module _ (own other : Contents) (day budget : ℕ) (apart : IsDistinct same_name
     notes_on asks answers,
     refl,
     none,
-    subst (λ (ds : List Ask). InParts (IsLossNoted own other day budget) all (notes_on ds answers)) (sym is) (later answers (subst (λ (ds : List Ask). AreRight ds answers) is right)),
+    rw is (later answers (rw is at right)),
   )
   noted_step q all asks [] (a ∷ []) rest later is here right =
-      let lacking : AreRight (a ∷ rest) [] = subst (λ (ds : List Ask). AreRight ds []) is right in absurd lacking
+      let lacking : AreRight (a ∷ rest) [] = rw is at right in absurd lacking
   noted_step q all asks (answer ∷ answers) (a ∷ []) rest later is here right =
-      let parts : AreRight (a ∷ rest) (answer ∷ answers) = subst (λ (ds : List Ask). AreRight ds (answer ∷ answers)) is right in (
+      let parts : AreRight (a ∷ rest) (answer ∷ answers) = rw is at right in (
         notes_for own other a.question answer,
         notes_on rest answers,
         ap (λ (ds : List Ask). notes_on ds (answer ∷ answers)) is,
-        subst (λ (p : Question). IsLossNoted own other day budget q (notes_for own other p answer)) (sym here.0) (noted q a.rule answer here.1 parts.0),
+        rw here.0 (noted q a.rule answer here.1 parts.0),
         later answers parts.1,
       )
   noted_step q all asks answers (a ∷ b ∷ more) rest later is here right = absurd here
@@ -98,7 +91,7 @@ module _ (own other : Contents) (day budget : ℕ) (apart : IsDistinct same_name
 
   pub all_noted : (all : List Question) (asks : List Ask) (notes : List LossNote) → ArePut own other day all asks
       → AreAnswered own other day budget (map (λ (a : Ask). a.question) asks) (map (λ (a : Ask). a.rule) asks) notes → InParts (IsLossNoted own other day budget) all notes
-  all_noted all asks notes put h = subst (InParts (IsLossNoted own other day budget) all) (sym h.notes_are) (noted_on all asks h.answers put h.right)
+  all_noted all asks notes put h = rw h.notes_are (noted_on all asks h.answers put h.right)
 
 -- a right answer for each
 pub answers_count : (b : Contents) (day budget : ℕ) (fs : List Rule) (answers : List RuleAnswer) → AllZip (IsAnswer b day budget) fs answers → length answers ≡ length fs
@@ -113,29 +106,23 @@ module _ (own other : Contents) (qs : List Question) (answers : List RuleAnswer)
       → more ≡ notes ++ notes_for own other (get_or qs i d) (get_or answers i e) → notes ++ notes_by own other (drop i qs) (drop i answers) ≡ all
       → more ++ notes_by own other (drop (i + 1) qs) (drop (i + 1) answers) ≡ all
   notes_more d e notes more all within own_within is so_far =
-      let here : List LossNote = notes_for own other (get_or qs i d) (get_or answers i e) in
-      let rest : List LossNote = notes_by own other (drop (i + 1) qs) (drop (i + 1) answers) in
-      let next : notes_by own other (drop i qs) (drop i answers) ≡ here ++ rest =
-      ap (λ (ps : List Question). notes_by own other ps (drop i answers)) (drop_more qs i d within)
-      ∙ ap (notes_by own other (get_or qs i d ∷ drop (i + 1) qs)) (drop_more answers i e own_within) in
-      ap (λ (ns : List LossNote). ns ++ rest) is ∙ append_assoc notes here rest ∙ ap (λ (ns : List LossNote). notes ++ ns) (sym next) ∙ so_far
+      rw (is, append_assoc) (rw (drop_more qs i d within, drop_more answers i e own_within) at so_far)
 
   pub notes_ended : (notes all : List LossNote) → length qs ≤ i → notes ++ notes_by own other (drop i qs) (drop i answers) ≡ all → notes ≡ all
   notes_ended notes all past so_far =
-      sym (ap (λ (ps : List Question). notes ++ notes_by own other ps (drop i answers)) (drop_past qs i past) ∙ append-nil notes) ∙ so_far
+      rw (drop_all i qs past, append-nil) at so_far
 
 -- the questions that are put fit, and so do their formulas
 abbrev pub AskedFit : Contents → Contents → List Ask → Type 0
 AskedFit own other ds = AllByRecursion (QuestionFits own other) (map (λ (a : Ask). a.question) ds) × AllByRecursion (RuleIsSmall (length own.codes)) (map (λ (a : Ask). a.rule) ds)
 
 pub put_fit : (own other : Contents) (day : ℕ) (all : List Question) (asks : List Ask) → AllByRecursion (QuestionFits own other) all → ArePut own other day all asks → AskedFit own other asks
-put_fit own other day [] asks fit put = subst (AskedFit own other) (sym put) (tt, tt)
+put_fit own other day [] asks fit put = rw put (tt, tt)
 put_fit own other day (q ∷ all) asks fit put = by put.0 put.1 put.2 put.3 (put_fit own other day all put.1 fit.1 put.4)
   where
     by : (first rest : List Ask) → asks ≡ first ++ rest → IsPut own other day q first → AskedFit own other rest → AskedFit own other asks
-    by [] rest is none later = subst (AskedFit own other) (sym is) later
-    by (a ∷ []) rest is here later =
-        subst (AskedFit own other) (sym is) ((subst (QuestionFits own other) (sym here.0) fit.0, later.0), (here.1.fits, later.1))
+    by [] rest is none later = rw is later
+    by (a ∷ []) rest is here later = rw is ((rw here.0 fit.0, later.0), (here.1.fits, later.1))
     by (a ∷ b ∷ more) rest is h later = absurd h
 
 pub all_fit : (own other : Contents) (day : ℕ) (all : List Question) (asks : List Ask) → AllByRecursion (QuestionFits own other) all → ArePut own other day all asks
@@ -155,11 +142,3 @@ put_count own other day (q ∷ all) asks put = by put.0 put.1 put.2 put.3 (put_c
     by [] rest is none later = let e : length asks ≡ length rest = ap length is in omega (arith, e, later)
     by (a ∷ []) rest is here later = let e : length asks ≡ suc (length rest) = ap length is in omega (arith, e, later)
     by (a ∷ b ∷ more) rest is h later = absurd h
-
--- a good set of a book's codes is a car by its names
-pub car_of_set : (b : Contents) (day : ℕ) (x : List Bool) → IsDistinct same_name b.codes → is_good b day x ≡ true → IsCar b day (picked b.codes x)
-car_of_set b day x apart good = record {
-  distinct = picked_distinct 0 x b.codes apart;
-  named_there = picked_named 0 x b.codes;
-  good = ap (is_good b day) (named_own b x (length_from_good b day x good) apart) ∙ good;
-}

@@ -16,16 +16,13 @@ use Rattle.lost_cars.specs.Violation.{any_from, any_of, two_from, two_of, firing
 pub mapped_more : {X Y : Type 0} (f : X → Y) (xs : List X) (ys : List Y) (i : ℕ) (d : X) (e : Y) → i < length xs → i < length ys → f (get_or xs i d) ≡ get_or ys i e
     → map f (take i xs) ≡ take i ys → map f (take (i + 1) xs) ≡ take (i + 1) ys
 mapped_more {X} {Y} f xs ys i d e within own same so_far =
-    ap (map f) (take_more xs i d within) ∙ map-append f (take i xs) (get_or xs i d ∷ [])
-    ∙ ap (λ (zs : List Y). zs ++ f (get_or xs i d) ∷ []) so_far ∙ ap (λ (y : Y). take i ys ++ y ∷ []) same ∙ sym (take_more ys i e own)
+    rw (take_more xs i d within, take_more ys i e own, map-append, so_far, same) refl
 
 -- the same of two lists that are both mapped
 pub both_mapped_more : {X Y Z : Type 0} (f : X → Z) (g : Y → Z) (xs : List X) (ys : List Y) (i : ℕ) (d : X) (e : Y) → i < length xs → i < length ys → f (get_or xs i d) ≡ g (get_or ys i e)
     → map f (take i xs) ≡ map g (take i ys) → map f (take (i + 1) xs) ≡ map g (take (i + 1) ys)
 both_mapped_more {X} {Y} {Z} f g xs ys i d e within own same so_far =
-    ap (map f) (take_more xs i d within) ∙ map-append f (take i xs) (get_or xs i d ∷ [])
-    ∙ ap (λ (zs : List Z). zs ++ f (get_or xs i d) ∷ []) so_far ∙ ap (λ (z : Z). map g (take i ys) ++ z ∷ []) same
-    ∙ sym (map-append g (take i ys) (get_or ys i e ∷ [])) ∙ sym (ap (map g) (take_more ys i e own))
+    rw (take_more xs i d within, take_more ys i e own, map-append, map-append, so_far, same) refl
 
 pub formula_read : (leaf : ℕ → Leaf) (own other : Rule) (ns ms : List Node) → ns ≡ nodes_of own → ms ≡ nodes_of other → map (node_with leaf) ms ≡ ns → with_leaves leaf other ≡ own
 formula_read leaf own other ns ms are read same =
@@ -49,8 +46,7 @@ any_read leaf (c ∷ cs) f = any_read leaf cs (either f (code c))
 two_read : (leaf : ℕ → Leaf) (cs : List ℕ) (f : Rule) → with_leaves leaf (two_from f cs) ≡ two_words (with_leaves leaf f) (map leaf cs)
 two_read leaf [] f = refl
 two_read leaf (c ∷ cs) f =
-    two_read leaf cs (either f (both (code c) (any_of cs)))
-    ∙ ap (λ g. two_words (either (with_leaves leaf f) (both (rule_of_leaf (leaf c)) g)) (map leaf cs)) (any_read leaf cs never)
+    rw (two_read leaf cs (either f (both (code c) (any_of cs))), any_read leaf cs never) refl
 
 any_own : (cs : List ℕ) (f : Rule) → any_words f (map (λ c. LeafCode c) cs) ≡ any_from f cs
 any_own [] f = refl
@@ -70,15 +66,14 @@ two_same leaf own other same = two_read leaf other never ∙ ap (two_words never
 pub one_same : (leaf : ℕ → Leaf) (own other : List ℕ) → map leaf other ≡ map (λ c. LeafCode c) own
     → with_leaves leaf (either (negation (any_of other)) (two_of other)) ≡ either (negation (any_of own)) (two_of own)
 one_same leaf own other same =
-    ap (λ f. either (negation f) (with_leaves leaf (two_of other))) (any_same leaf own other same)
-    ∙ ap (λ f. either (negation (any_of own)) f) (two_same leaf own other same)
+    rw (any_same leaf own other same, two_same leaf own other same) refl
 
 pub firing_same : (leaf : ℕ → Leaf) (own other : Supplement) → leaf other.code ≡ LeafCode own.code → with_leaves leaf other.rule ≡ own.rule
     → with_leaves leaf (firing other) ≡ firing own
 firing_same leaf own other added rule =
-    ap (λ f. both f (negation (rule_of_leaf (leaf other.code)))) rule ∙ ap (λ l. both own.rule (negation (rule_of_leaf l))) added
+    rw (rule, added) refl
 
 pub on_same : (leaf : ℕ → Leaf) (own other : ℕ) (f g : Rule) → leaf other ≡ LeafCode own → with_leaves leaf g ≡ f
     → with_leaves leaf (both (code other) (negation g)) ≡ both (code own) (negation f)
 on_same leaf own other f g added rule =
-    ap (λ l. both (rule_of_leaf l) (negation (with_leaves leaf g))) added ∙ ap (λ h. both (code own) (negation h)) rule
+    rw (added, rule) refl

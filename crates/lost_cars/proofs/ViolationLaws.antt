@@ -1,5 +1,7 @@
 -- The formulas of violations are true just where a rule isn't kept. They are not large.
 use Rattle.std.proofs.Common.{◌≡◌, ℕ, zero, suc, ◌+◌, ◌*◌, ◌^◌, ◌<◌, ◌≤◌, Bool, true, false, not, ◌&&◌, ◌||◌, ◌==◌, cond, List, [], ◌∷◌, Some, None, length, nat_le, refl, sym, ap, ◌∙◌, inl, inr, arith}
+use Rattle.std.proofs.Math.Bool.{or-false, or_assoc}
+use Rattle.std.proofs.lemmas.Bool.Decides.{nat_tests}
 use Rattle.std.specs.List.{filter, list_any, AllByRecursion}
 use Rattle.std.proofs.lemmas.Bool.{cases_Bool, cases_lt, cases_eq, cond-true, cond-false, and_from, lt-ltb, le-leb, lt-leb, eq-eqb, ne_eqb}
 use Rattle.std.proofs.lemmas.List.Elements.{recursion_from_All}
@@ -16,80 +18,44 @@ use Rattle.book_model.specs.declared.demand.Demand.TheVariants as demand
 use Rattle.book_model.specs.declared.record.Supplement.{Supplement}
 use Rattle.lost_cars.specs.Violation.{any_from, any_of, two_from, two_of, firing, unmet}
 
-or_assoc : (p q r : Bool) → ((p || q) || r) ≡ (p || (q || r))
-or_assoc true q r = refl
-or_assoc false q r = refl
-
-or_none : (p : Bool) → p ≡ (p || false)
-or_none true = refl
-or_none false = refl
-
 any_from_holds : (x : List Bool) (cs : List ℕ) (f : Rule) → holds (any_from f cs) x ≡ (holds f x || list_any (has x) cs)
-any_from_holds x [] f = or_none (holds f x)
+any_from_holds x [] f = sym (or-false (holds f x))
 any_from_holds x (c ∷ cs) f = any_from_holds x cs (either f (code c)) ∙ or_assoc (holds f x) (has x c) (list_any (has x) cs)
-
-present_with : (x : List Bool) (c : ℕ) (cs : List ℕ) → has x c ≡ true → present x (c ∷ cs) ≡ suc (present x cs)
-present_with x c cs is = ap length (cond-true (has x c) (c ∷ filter (has x) cs) (filter (has x) cs) is)
-
-present_without : (x : List Bool) (c : ℕ) (cs : List ℕ) → has x c ≡ false → present x (c ∷ cs) ≡ present x cs
-present_without x c cs is = ap length (cond-false (has x c) (c ∷ filter (has x) cs) (filter (has x) cs) is)
 
 some_present : (x : List Bool) (cs : List ℕ) → list_any (has x) cs ≡ nat_le 1 (present x cs)
 some_present x [] = refl
 some_present x (c ∷ cs) = elim (cases_Bool (has x c)) [
-  | inl is ↦
-      ap (λ t. t || list_any (has x) cs) is
-      ∙ sym (ap (nat_le 1) (present_with x c cs is) ∙ le-leb 1 (suc (present x cs)) (omega arith))
-  | inr is ↦ ap (λ t. t || list_any (has x) cs) is ∙ some_present x cs ∙ sym (ap (nat_le 1) (present_without x c cs is))
+  | inl is ↦ rw is (sym (le-leb 1 (suc (present x cs)) (omega arith)))
+  | inr is ↦ rw is (some_present x cs)
 ]
 
 any_of_holds : (x : List Bool) (cs : List ℕ) → holds (any_of cs) x ≡ nat_le 1 (present x cs)
 any_of_holds x cs = any_from_holds x cs never ∙ some_present x cs
 
 two_or_more : (p : ℕ) → (nat_le 1 p || nat_le 2 p) ≡ nat_le 2 (suc p)
-two_or_more p = elim (cases_lt p 1) [
-  | inl none ↦
-      ap (λ t. t || nat_le 2 p) (lt-leb 1 p (omega (arith, none))) ∙ lt-leb 2 p (omega (arith, none)) ∙ sym (lt-leb 2 (suc p) (omega (arith, none)))
-  | inr some ↦ ap (λ t. t || nat_le 2 p) (le-leb 1 p (omega (arith, some))) ∙ sym (le-leb 2 (suc p) (omega (arith, some)))
-]
+two_or_more p = grind (arith, nat_tests)
 
 two_from_holds : (x : List Bool) (cs : List ℕ) (f : Rule) → holds (two_from f cs) x ≡ (holds f x || nat_le 2 (present x cs))
-two_from_holds x [] f = or_none (holds f x)
+two_from_holds x [] f = sym (or-false (holds f x))
 two_from_holds x (c ∷ cs) f =
     let p : ℕ = present x cs in
-    two_from_holds x cs (either f (both (code c) (any_of cs)))
-    ∙ ap (λ t. (holds f x || (has x c && t)) || nat_le 2 p) (any_of_holds x cs)
-    ∙ or_assoc (holds f x) (has x c && nat_le 1 p) (nat_le 2 p)
-    ∙ ap (λ t. holds f x || t) (elim (cases_Bool (has x c)) [
-      | inl is ↦ ap (λ t. (t && nat_le 1 p) || nat_le 2 p) is ∙ two_or_more p ∙ sym (ap (nat_le 2) (present_with x c cs is))
-      | inr is ↦ ap (λ t. (t && nat_le 1 p) || nat_le 2 p) is ∙ sym (ap (nat_le 2) (present_without x c cs is))
-    ])
+    rw (two_from_holds x cs (either f (both (code c) (any_of cs))), any_of_holds x cs, or_assoc)
+    (ap (λ t. holds f x || t) (elim (cases_Bool (has x c)) [
+      | inl is ↦ rw is (two_or_more p)
+      | inr is ↦ rw is refl
+    ]))
 
 two_of_holds : (x : List Bool) (cs : List ℕ) → holds (two_of cs) x ≡ nat_le 2 (present x cs)
 two_of_holds x cs = two_from_holds x cs never
 
 more_than_one : (p : ℕ) → nat_le 2 p ≡ not (nat_le p 1)
-more_than_one p = elim (cases_lt p 2) [
-  | inl few ↦ lt-leb 2 p (omega (arith, few)) ∙ sym (ap not (le-leb p 1 (omega (arith, few))))
-  | inr many ↦ le-leb 2 p (omega (arith, many)) ∙ sym (ap not (lt-leb p 1 (omega (arith, many))))
-]
+more_than_one p = grind (arith, nat_tests)
 
 not_just_one : (p : ℕ) → (not (nat_le 1 p) || nat_le 2 p) ≡ not (p == 1)
-not_just_one p = elim (cases_lt p 1) [
-  | inl none ↦
-      ap (λ t. not t || nat_le 2 p) (lt-leb 1 p (omega (arith, none)))
-      ∙ sym (ap not (ne_eqb p 1 (λ (same : p ≡ 1). omega (arith, same, none))))
-  | inr some ↦ elim (cases_eq p 1) [
-    | inl same ↦
-        ap (λ t. not t || nat_le 2 p) (le-leb 1 p (omega (arith, some))) ∙ lt-leb 2 p (omega (arith, same)) ∙ sym (ap not (eq-eqb p 1 same))
-    | inr other ↦
-        ap (λ t. not t || nat_le 2 p) (le-leb 1 p (omega (arith, some))) ∙ le-leb 2 p (omega (arith, some, other)) ∙ sym (ap not (ne_eqb p 1 other))
-  ]
-]
+not_just_one p = grind (arith, nat_tests)
 
 broken_on : (p q : Bool) → (p && not q) ≡ not (not p || q)
-broken_on true q = refl
-broken_on false q = refl
+broken_on p q = grind arith
 
 pub unmet_holds : (x : List Bool) (d : Demand) → holds (unmet d) x ≡ not (is_met x d)
 unmet_holds x (demand.Rule None rule) = refl

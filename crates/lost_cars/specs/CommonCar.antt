@@ -3,14 +3,15 @@
 --     none_rule rules     none is
 --     AreAsked own other day qs    some of the questions, in order; by each of the others no car is lost
 --     IsCommonRule own other day f    a car is lost by none of these
---     IsCommonAnswer own other day budget answer    such a car, that there is none, or that the search for one was left
-use Rattle.std.specs.Prelude.{◌≡◌, ℕ, List, [], ◌∷◌, map}
+--     IsCommonAnswer own other day budget answer    the codes of such a car, that there is none, or that the search for one was left
+use Rattle.std.specs.Prelude.{◌≡◌, ℕ, List, [], ◌∷◌, length, map}
 use Rattle.pb_base.specs.InParts.{InParts}
 use Rattle.pb_base.specs.Rule.{Rule, either, negation, never}
 use Rattle.book_model.specs.Contents.{Contents}
 use Rattle.rules_met.specs.Met.{IsLeftOn}
 use Rattle.rules_met.specs.declared.answer.RuleAnswer.{RuleAnswer}
 use Rattle.rules_met.specs.declared.answer.RuleAnswer.TheVariants.{Met, NotMet, Left}
+use Rattle.book_compare.specs.Picked.{picked}
 use Rattle.lost_cars.specs.Losses.{IsCar, LosesNone, Says, lost_rule, questions}
 use Rattle.lost_cars.specs.declared.question.Question.{Question}
 
@@ -50,7 +51,8 @@ pub record IsCommonCar (own other : Contents) (day : ℕ) (names : List (List �
   pub own_car : IsCar own day names
   pub other_car : IsCar other day names
 
+-- the set that is told is that of the codes of the common car
 abbrev pub IsCommonAnswer : Contents → Contents → ℕ → ℕ → RuleAnswer → Type 0
-IsCommonAnswer own other day budget (Met x) = (names : List (List ℕ)) × IsCommonCar own other day names
+IsCommonAnswer own other day budget (Met x) = (length x ≡ length own.codes) × IsCommonCar own other day (picked own.codes x)
 IsCommonAnswer own other day budget NotMet = (names : List (List ℕ)) → IsCommonCar own other day names → ⊥
 IsCommonAnswer own other day budget Left = IsCommonLeft own other day budget

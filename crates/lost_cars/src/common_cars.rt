@@ -17,8 +17,9 @@ use std::alloc::Global;
 // The most nodes of a formula that is asked. They would take 8 GB.
 const MOST_ASKED: usize = 1_073_741_824;
 
-/// Whether some car of a book on a day is one of another book: one is, none is, or the search was left when as many clauses had been
-/// learnt as the budget allows. The sets are cars of the own book that were found before; one that is found is kept.
+/// Whether some car of a book on a day is one of another book: the one with these codes of the own book is, none is, or the search was
+/// left when as many clauses had been learnt as the budget allows. The sets are cars of the own book that were found before; one that
+/// is found is kept.
 pub fn common_car(
     alloc: Global,
     own: &Book,

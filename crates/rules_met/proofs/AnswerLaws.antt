@@ -20,8 +20,8 @@ place_of (Finding place set) = place
 place_of (Undecided place learnt) = place
 
 other_place : (t : Told ℕ) (k : ℕ) → k + 1 ≤ place_of t → answer_by t k ≡ NotMet
-other_place (Finding place set) k later = cond-false (eqb place k) (Met set) NotMet (ne_eqb place k (λ (e : place ≡ k). omega (arith, e, later)))
-other_place (Undecided place learnt) k later = cond-false (eqb place k) Left NotMet (ne_eqb place k (λ (e : place ≡ k). omega (arith, e, later)))
+other_place (Finding place set) k later = rw (ne_eqb place k (λ (e : place ≡ k). omega (arith, e, later))) refl
+other_place (Undecided place learnt) k later = rw (ne_eqb place k (λ (e : place ≡ k). omega (arith, e, later))) refl
 
 -- two lists, and one item more of each
 pub zip_push : {A B : Type 0} (R : A → B → Type 0) (xs : List A) (ys : List B) (x : A) (y : B) → AllZip R xs ys → R x y → AllZip R (xs ++ x ∷ []) (ys ++ y ∷ [])
@@ -48,7 +48,7 @@ module _ (b : Contents) (day budget : ℕ) (fs : List Rule) where
   none_earlier : (m k : ℕ) (t : Told ℕ) (ts : List (Told ℕ)) → InParts (IsTold (form b day fs) budget) (range_with_len k m) (t ∷ ts) → k ≤ place_of t
   none_earlier zero k t ts h = absurd (let count : length (t ∷ ts) ≡ 0 = ap length h in omega (arith, count))
   none_earlier (suc m) k t ts h =
-      first_of_later k t ts h.0 h.1 h.2 h.3 (λ is. none_earlier m (k + 1) t ts (subst (InParts (IsTold (form b day fs) budget) (range_with_len (k + 1) m)) (sym is) h.4))
+      first_of_later k t ts h.0 h.1 h.2 h.3 (λ is. none_earlier m (k + 1) t ts (rw is h.4))
 
   -- what is told next answers the rule, and the rest is of those behind it
   abbrev pub Goes : ℕ → ℕ → List (Told ℕ) → RuleAnswer → Type 0
@@ -56,36 +56,26 @@ module _ (b : Contents) (day budget : ℕ) (fs : List Rule) where
 
   goes_on : (k m : ℕ) (own later told : List (Told ℕ)) → told ≡ own ++ later → IsTold (form b day fs) budget k own
       → InParts (IsTold (form b day fs) budget) (range_with_len (k + 1) m) later → Goes k m told (answer_for told k)
-  goes_on k m [] later [] is none rest = (none, subst (InParts (IsTold (form b day fs) budget) (range_with_len (k + 1) m)) (sym is) rest)
+  goes_on k m [] later [] is none rest = (none, rw is rest)
   goes_on k m [] later (t ∷ ts) is none rest =
-      let further : InParts (IsTold (form b day fs) budget) (range_with_len (k + 1) m) (t ∷ ts) =
-      subst (InParts (IsTold (form b day fs) budget) (range_with_len (k + 1) m)) (sym is) rest in
-      subst (Goes k m (t ∷ ts)) (sym (other_place t k (none_earlier m (k + 1) t ts further))) (none, further)
-  goes_on k m (Finding place set ∷ []) later told is note rest =
-      let same : answer_by (Finding place set) k ≡ Met set = cond-true (eqb place k) (Met set) NotMet (eq-eqb place k note.0) in
-      subst (λ (l : List (Told ℕ)). Goes k m l (answer_for l k)) (sym is) (subst (Goes k m (Finding place set ∷ later)) (sym same) (note.1, rest))
-  goes_on k m (Undecided place learnt ∷ []) later told is note rest =
-      let same : answer_by (Undecided place learnt) k ≡ Left = cond-true (eqb place k) Left NotMet (eq-eqb place k note.0) in
-      subst (λ (l : List (Told ℕ)). Goes k m l (answer_for l k)) (sym is)
-      (subst (Goes k m (Undecided place learnt ∷ later)) (sym same) (record { learnt = learnt.clauses; spent = note.1 }, rest))
+      let further : InParts (IsTold (form b day fs) budget) (range_with_len (k + 1) m) (t ∷ ts) = rw is rest in
+      rw (other_place t k (none_earlier m (k + 1) t ts further)) (none, further)
+  goes_on k m (Finding place set ∷ []) later told is note rest = rw (is, eq-eqb place k note.0) (note.1, rest)
+  goes_on k m (Undecided place learnt ∷ []) later told is note rest = rw (is, eq-eqb place k note.0) (record { learnt = learnt.clauses; spent = note.1 }, rest)
   goes_on k m (o ∷ p ∷ more) later told is note rest = absurd note
 
   pub step : (k : ℕ) (told : List (Told ℕ)) → k < length fs → InParts (IsTold (form b day fs) budget) (range_with_len k (length fs - k)) told
       → Goes k (length fs - (k + 1)) told (answer_for told k)
   step k told low h =
       let more : length fs - k ≡ suc (length fs - (k + 1)) = omega (arith, low) in
-      let parts : InParts (IsTold (form b day fs) budget) (range_with_len k (suc (length fs - (k + 1)))) told =
-      subst (λ (m : ℕ). InParts (IsTold (form b day fs) budget) (range_with_len k m) told) more h in
+      let parts = rw more at h in
       goes_on k (length fs - (k + 1)) parts.0 parts.1 told parts.2 parts.3 parts.4
 
   pub answered_next : (k : ℕ) (answers : List RuleAnswer) (answer : RuleAnswer) → k < length fs → AllZip (IsAnswer b day budget) (take k fs) answers
       → IsAnswer b day budget (rule_at fs k) answer → AllZip (IsAnswer b day budget) (take (k + 1) fs) (answers ++ answer ∷ [])
   answered_next k answers answer low so_far is =
-      subst (λ (gs : List Rule). AllZip (IsAnswer b day budget) gs (answers ++ answer ∷ [])) (sym (take_more fs k never low))
+      rw (take_more fs k never low)
       (zip_push (IsAnswer b day budget) (take k fs) answers (rule_at fs k) answer so_far is)
-
-pub counted_of_kept : (b : Contents) (day : ℕ) (fs : List Rule) (xs : List (List Bool)) → All (IsKept (form b day fs) (λ x. is_good b day x ≡ true)) xs → All (IsCounted b) xs
-counted_of_kept b day fs xs h k d inside = (h k d inside).0
 
 all_low : (k m n : ℕ) → k + m ≤ n → AllByRecursion (λ (place : ℕ). place < n) (range_with_len k m)
 all_low k zero n within = tt

@@ -32,9 +32,7 @@ left_at qs i within = drop_more qs i (Breaks 0) within
 
 other_left : (b : Contents) (i : ℕ) (qs : List SupplementQuestion) → i < length qs
     → map free_item (all_other b (drop i qs)) ≡ map free_item (other_own b (question_at qs i)) ++ map free_item (all_other b (drop (i + 1) qs))
-other_left b i qs within =
-    ap (λ (ls : List SupplementQuestion). map free_item (all_other b ls)) (left_at qs i within)
-    ∙ map-append free_item (other_own b (question_at qs i)) (all_other b (drop (i + 1) qs))
+other_left b i qs within = rw (left_at qs i within) (map-append free_item (other_own b (question_at qs i)) (all_other b (drop (i + 1) qs)))
 
 pub other_room_left : (b : Contents) (i limit : ℕ) (qs : List SupplementQuestion) (start m : WideEncoder) → i < length qs
     → WideLeft start m (map free_item (all_other b qs)) (map free_item (all_other b (drop i qs))) → start.next + taken_by (map free_item (all_other b qs)) < limit
@@ -49,20 +47,14 @@ pub other_made : (b : Contents) (i : ℕ) (qs : List SupplementQuestion) (start 
     → WideLeft start more (map free_item (all_other b qs)) (map free_item (all_other b (drop (i + 1) qs)))
 other_made b i qs start m more within left made =
     wide_many start m more (map free_item (all_other b qs)) (map free_item (other_own b (question_at qs i))) (map free_item (all_other b (drop (i + 1) qs)))
-    (subst (λ (is : List Item). WideLeft start m (map free_item (all_other b qs)) is) (other_left b i qs within) left) made
+    (rw (other_left b i qs within) at left) made
 
 pub lits_made : (b : Contents) (codes known : List ℕ) (i v w first : ℕ) (qs : List SupplementQuestion) (old new : List QuestionLits) (lits : QuestionLits) → i < length qs
     → w ≡ v + other_variables b (question_at qs i) → lits ≡ other_lits b codes known v (question_at qs i) → new ≡ old ++ lits ∷ []
     → old ++ all_other_lits b codes known v (drop i qs) ≡ all_other_lits b codes known first qs
     → new ++ all_other_lits b codes known w (drop (i + 1) qs) ≡ all_other_lits b codes known first qs
 lits_made b codes known i v w first qs old new lits within next is more so_far =
-    let q : SupplementQuestion = question_at qs i in
-    ap (λ (ls : List QuestionLits). ls ++ all_other_lits b codes known w (drop (i + 1) qs)) more
-    ∙ append_assoc old (lits ∷ []) (all_other_lits b codes known w (drop (i + 1) qs))
-    ∙ ap (λ (l : QuestionLits). old ++ l ∷ all_other_lits b codes known w (drop (i + 1) qs)) is
-    ∙ ap (λ (n : ℕ). old ++ other_lits b codes known v q ∷ all_other_lits b codes known n (drop (i + 1) qs)) next
-    ∙ ap (λ (ls : List SupplementQuestion). old ++ all_other_lits b codes known v ls) (sym (left_at qs i within))
-    ∙ so_far
+    rw (more, append_assoc, is, next) (rw (left_at qs i within) at so_far)
 
 -- the literals of the codes are as many as these
 pub known_count : (b : Contents) (day n v : ℕ) (codes : List ℕ) → length (wide_literals n v (unbroken_rules b day codes)) ≡ length codes
@@ -73,11 +65,7 @@ known_count b day n v (c ∷ codes) = ap suc (known_count b day n (v + wide_vari
 pub literal_after : (codes lits : List ℕ) (place code d : ℕ) → place < length codes → length lits ≡ length codes → (get_or codes place d ≡ code → ⊥)
     → literal_with (drop (place + 1) codes) (drop (place + 1) lits) code ≡ literal_with (drop place codes) (drop place lits) code
 literal_after codes lits place code d within counted apart =
-    sym (
-    ap (λ (cs : List ℕ). literal_with cs (drop place lits) code) (drop_more codes place d within)
-    ∙ ap (λ (ls : List ℕ). literal_with (get_or codes place d ∷ drop (place + 1) codes) ls code) (drop_more lits place 0 (omega (arith, within, counted)))
-    ∙ cond-false (eqb (get_or codes place d) code) (get_or lits place 0) (literal_with (drop (place + 1) codes) (drop (place + 1) lits) code)
-    (ne_eqb (get_or codes place d) code apart))
+    rw (drop_more codes place d within, drop_more lits place 0 (omega (arith, within, counted)), ne_eqb (get_or codes place d) code apart) refl
 
 -- the formula so far with one more, and then the rest
 rest_more : (so_far : Option Rule) (f : Rule) (fs : List Rule) → and_rest (Some (and_rest so_far (f ∷ []))) fs ≡ and_rest so_far (f ∷ fs)
@@ -92,19 +80,10 @@ pub unbroken_next : (b : Contents) (day added : ℕ) (ps : List ℕ) (i d : ℕ)
     ≡ and_rest so_far (afters_at b day added (drop i ps))
 unbroken_next b day added ps i d so_far within =
     let r : Construct = construct_at b (get_or ps i d) in
-    let rest : List Rule = afters_at b day added (drop (i + 1) ps) in
-    let later : List Construct = filter (is_active_rule day) (map (construct_at b) (drop (i + 1) ps)) in
-    let whole : and_rest so_far (afters_at b day added (drop i ps))
-    ≡ and_rest so_far (map (λ (k : Construct). after added k.demand) (cond (is_active_rule day r) (r ∷ later) later)) =
-    ap (λ (qs : List ℕ). and_rest so_far (afters_at b day added qs)) (drop_more ps i d within) in
+    let split = drop_more ps i d within in
     elim (cases_Bool (is_active_rule day r)) [
-      | inl active ↦
-          ap (λ (o : Option Rule). and_rest o rest) (cond-true (is_active_rule day r) (Some (and_rest so_far (after added r.demand ∷ []))) so_far active)
-          ∙ rest_more so_far (after added r.demand) rest
-          ∙ sym (whole ∙ ap (λ (rs : List Construct). and_rest so_far (map (λ (k : Construct). after added k.demand) rs)) (cond-true (is_active_rule day r) (r ∷ later) later active))
-      | inr inactive ↦
-          ap (λ (o : Option Rule). and_rest o rest) (cond-false (is_active_rule day r) (Some (and_rest so_far (after added r.demand ∷ []))) so_far inactive)
-          ∙ sym (whole ∙ ap (λ (rs : List Construct). and_rest so_far (map (λ (k : Construct). after added k.demand) rs)) (cond-false (is_active_rule day r) (r ∷ later) later inactive))
+      | inl active ↦ rw (split, active) (rest_more so_far (after added r.demand) (afters_at b day added (drop (i + 1) ps)))
+      | inr inactive ↦ rw (split, inactive) refl
     ]
 
 -- a question alone, and any other number of them
@@ -135,8 +114,7 @@ pub record AreWide (b : Contents) (day : ℕ) (codes : List ℕ) (qs : List Supp
 pub wide_whole : (b : Contents) (day : ℕ) (codes : List ℕ) (qs : List SupplementQuestion) (m0 m1 m2 m3 : WideEncoder) → AreWide b day codes qs m0 m1 m2 m3 → WidensItems m0 m3 (together_items b day codes qs)
 wide_whole b day codes qs m0 m1 m2 m3 h =
     wide_then m0 m1 m3 (construct_items b day) (map free_item (shared_rules b day codes qs)) h.constructs
-    (subst (WidensItems m1 m3) (sym (map-append free_item (unbroken_rules b day codes) (all_other b qs)))
-    (wide_then m1 m2 m3 (map free_item (unbroken_rules b day codes)) (map free_item (all_other b qs)) h.known h.other))
+    (rw map-append (wide_then m1 m2 m3 (map free_item (unbroken_rules b day codes)) (map free_item (all_other b qs)) h.known h.other))
 
 pub wide_start : (b : Contents) (day : ℕ) (codes : List ℕ) (qs : List SupplementQuestion) (m0 m1 m2 m3 : WideEncoder) → AreWide b day codes qs m0 m1 m2 m3 → m3.next ≡ together_start b day codes qs
 wide_start b day codes qs m0 m1 m2 m3 h = (wide_whole b day codes qs m0 m1 m2 m3 h).next ∙ ap (λ (n : ℕ). n + taken_by (together_items b day codes qs)) h.next
@@ -144,24 +122,19 @@ wide_start b day codes qs m0 m1 m2 m3 h = (wide_whole b day codes qs m0 m1 m2 m3
 pub wide_made : (b : Contents) (day : ℕ) (codes : List ℕ) (qs : List SupplementQuestion) (m0 m1 m2 m3 : WideEncoder) (new : List (List ℕ)) (lits : List QuestionLits) → AreWide b day codes qs m0 m1 m2 m3
     → lits ≡ shared_lits b day codes (shared_start b day) qs → new ≡ m3.pool.clauses ++ all_goal_clauses m3.next lits → new ≡ together_clauses b day codes qs
 wide_made b day codes qs m0 m1 m2 m3 new lits h are more =
-    let n : ℕ = length b.codes in
-    let is : List Item = together_items b day codes qs in
-    let core : m3.pool.clauses ≡ wide_items n is =
-    (wide_whole b day codes qs m0 m1 m2 m3 h).clauses ∙ ap (λ (cs : List (List ℕ)). cs ++ wide_item_clauses m0.truth m0.next is) h.first
-    ∙ ap (λ (t : ℕ). clause_of (literal n true ∷ []) ∷ wide_item_clauses t m0.next is) h.truth
-    ∙ ap (λ (v : ℕ). clause_of (literal n true ∷ []) ∷ wide_item_clauses n v is) h.next in
-    more ∙ ap (λ (cs : List (List ℕ)). cs ++ all_goal_clauses m3.next lits) core
-    ∙ ap (λ (w : ℕ). wide_items n is ++ all_goal_clauses w lits) (wide_start b day codes qs m0 m1 m2 m3 h)
-    ∙ ap (λ (ls : List QuestionLits). wide_items n is ++ all_goal_clauses (together_start b day codes qs) ls) are
+    let start = wide_start b day codes qs m0 m1 m2 m3 h in
+    let whole = (wide_whole b day codes qs m0 m1 m2 m3 h).clauses in
+    let core : m3.pool.clauses ≡ wide_items (length b.codes) (together_items b day codes qs) = rw (h.first, h.truth, h.next) at whole in
+    rw (more, start, core, are) refl
 
 pub are_wide : (b : Contents) (day : ℕ) (codes : List ℕ) (qs : List SupplementQuestion) (m0 m1 m2 m3 : WideEncoder) (count : ℕ) → count ≡ length b.codes
     → m0.pool.clauses ≡ clause_of (literal count true ∷ []) ∷ [] → m0.truth ≡ count → m0.next ≡ count + 1
     → WidensItems m0 m1 (construct_items b day) → WidensItems m1 m2 (map free_item (unbroken_rules b day codes)) → WidensItems m2 m3 (map free_item (all_other b qs))
     → AreWide b day codes qs m0 m1 m2 m3
 are_wide b day codes qs m0 m1 m2 m3 count counted clauses truth next constructs known other = record {
-  first = clauses ∙ ap (λ (n : ℕ). clause_of (literal n true ∷ []) ∷ []) counted;
+  first = rw counted at clauses;
   truth = truth ∙ counted;
-  next = next ∙ ap (λ (n : ℕ). n + 1) counted;
+  next = rw counted at next;
   constructs = constructs;
   known = known;
   other = other;
@@ -178,15 +151,8 @@ pub wide_lits : (b : Contents) (day : ℕ) (codes : List ℕ) (qs : List Supplem
     → known ≡ wide_literals m1.truth m1.next (unbroken_rules b day codes) → lits ≡ all_other_lits b codes known m2.next qs
     → lits ≡ shared_lits b day codes (shared_start b day) qs
 wide_lits b day codes qs m0 m1 m2 m3 known lits h known_are are =
-    let n : ℕ = length b.codes in
-    let rules : List Rule = unbroken_rules b day codes in
     let begin : m1.next ≡ shared_start b day = shared_begin b day m0 m1 h.next h.constructs in
-    are
-    ∙ ap (λ (ks : List ℕ). all_other_lits b codes ks m2.next qs) known_are
-    ∙ ap (λ (t : ℕ). all_other_lits b codes (wide_literals t m1.next rules) m2.next qs) (h.constructs.truth ∙ h.truth)
-    ∙ ap (λ (v : ℕ). all_other_lits b codes (wide_literals n v rules) m2.next qs) begin
-    ∙ ap (λ (w : ℕ). all_other_lits b codes (wide_literals n (shared_start b day) rules) w qs)
-    (h.known.next ∙ ap (λ (v : ℕ). v + unbroken_taken b day codes) begin)
+    rw (are, known_are, h.known.next, h.constructs.truth, h.truth, begin) refl
 
 -- the encoder begun, with the constructibility rules, and with further formulas
 pub record AreMade (b : Contents) (day : ℕ) (rules : List Rule) (m0 m1 m2 : Encoder) : Type 0 where
@@ -204,13 +170,7 @@ goals_begin b day rules m0 m1 m2 h =
 pub clauses_made : (b : Contents) (day first : ℕ) (rules : List Rule) (goals : List QuestionLits) (m0 m1 m2 : Encoder) (old new : List (List ℕ)) (lits : List QuestionLits) → AreMade b day rules m0 m1 m2
     → old ≡ m2.pool.clauses → first ≡ m2.next → lits ≡ goals → new ≡ old ++ all_goal_clauses first lits → new ≡ goals_clauses b day rules goals
 clauses_made b day first rules goals m0 m1 m2 old new lits h same starts are more =
-    let n : ℕ = length b.codes in
-    let is : List Item = asked_items b day rules in
-    let both : EncodesItems m0 m2 is = items_then m0 m1 m2 (construct_items b day) (map free_item rules) h.constructs h.made in
-    let core : m2.pool.clauses ≡ encoded_items n (n + 1) is =
-    both.clauses ∙ ap (λ (cs : List (List ℕ)). cs ++ item_clauses m0.truth m0.next is) h.begun.clauses
-    ∙ ap (λ (t : ℕ). clause_of (literal n true ∷ []) ∷ item_clauses t m0.next is) h.begun.truth
-    ∙ ap (λ (v : ℕ). clause_of (literal n true ∷ []) ∷ item_clauses n v is) h.begun.next in
-    more ∙ ap (λ (cs : List (List ℕ)). cs ++ all_goal_clauses first lits) (same ∙ core)
-    ∙ ap (λ (w : ℕ). encoded_items n (n + 1) is ++ all_goal_clauses w lits) (starts ∙ goals_begin b day rules m0 m1 m2 h)
-    ∙ ap (λ (ls : List QuestionLits). encoded_items n (n + 1) is ++ all_goal_clauses (goals_start b day rules) ls) are
+    let both : EncodesItems m0 m2 (asked_items b day rules) = items_then m0 m1 m2 (construct_items b day) (map free_item rules) h.constructs h.made in
+    let whole = both.clauses in
+    let core : m2.pool.clauses ≡ encoded_items (length b.codes) (length b.codes + 1) (asked_items b day rules) = rw (h.begun.clauses, h.begun.truth, h.begun.next) at whole in
+    rw (more, same, starts, goals_begin b day rules m0 m1 m2 h, core, are) refl

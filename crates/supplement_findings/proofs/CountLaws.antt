@@ -2,7 +2,7 @@
 use Rattle.std.proofs.Common.{◌≡◌, ℕ, zero, suc, ◌+◌, ◌*◌, ◌≤◌, ◌<◌, ◌^◌, Bool, true, false, not, inl, inr, ltb, cond, List, [], ◌∷◌, ◌++◌, Option, Some, length, map, drop, get_or, get_or-drop, length-drop, drop-cons, refl, sym, ap, subst, ◌∙◌, arith}
 use Rattle.std.specs.Prelude.{All}
 use Rattle.std.specs.List.{filter, AllByRecursion}
-use Rattle.std.proofs.lemmas.Bool.{cases_Bool, cond-true, cond-false}
+use Rattle.std.proofs.lemmas.Bool.{cases_Bool, cond-true, cond-false, cond_both}
 use Rattle.std.proofs.lemmas.List.{drop_all, length-append}
 use Rattle.std.proofs.lemmas.List.Elements.{All-from_recursion, recursion_from_All, filter-append}
 use Rattle.std.proofs.lemmas.List.Filters.{length-filter_both}
@@ -40,7 +40,7 @@ more_one b xs ys t =
 
 pub more_more : (b : Contents) (xs ys : List SupplementQuestion) (ts : List Tally) → map (more b ys) (map (more b xs) ts) ≡ map (more b (xs ++ ys)) ts
 more_more b xs ys [] = refl
-more_more b xs ys (t ∷ ts) = ap (λ u. u ∷ map (more b ys) (map (more b xs) ts)) (more_one b xs ys t) ∙ ap (λ us. more b (xs ++ ys) t ∷ us) (more_more b xs ys ts)
+more_more b xs ys (t ∷ ts) = rw (more_one b xs ys t, more_more b xs ys ts) refl
 
 none_more : (b : Contents) (ts : List Tally) → map (more b []) ts ≡ ts
 none_more b [] = refl
@@ -65,10 +65,7 @@ later_few : (i : ℕ) (s : Supplement) (k : ℕ) (ts : List Supplement) → leng
 later_few i s k [] = omega arith
 later_few i s k (t ∷ ts) =
     let rest = later_few i s (suc k) ts in
-    elim (cases_Bool (is_asked s t)) [
-      | inl yes_ ↦ let is : length (swaps_with_later i s k (t ∷ ts)) ≡ suc (length (swaps_with_later i s (suc k) ts)) = ap length (cond-true (is_asked s t) (Swaps i k ∷ swaps_with_later i s (suc k) ts) (swaps_with_later i s (suc k) ts) yes_) in omega (arith, is, rest)
-      | inr no_ ↦ let is : length (swaps_with_later i s k (t ∷ ts)) ≡ length (swaps_with_later i s (suc k) ts) = ap length (cond-false (is_asked s t) (Swaps i k ∷ swaps_with_later i s (suc k) ts) (swaps_with_later i s (suc k) ts) no_) in omega (arith, is, rest)
-    ]
+    cond_both (is_asked s t) _ _ (λ (qs : List SupplementQuestion). length qs ≤ suc (length ts)) (λ _. omega (arith, rest)) (λ _. omega (arith, rest))
 
 pairs_short : (b : Contents) (place : ℕ) → length b.supplements ≤ 5000 → length (pairs_at b place) ≤ 5000
 pairs_short b place few =

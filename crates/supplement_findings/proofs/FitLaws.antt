@@ -45,8 +45,8 @@ below_after n c (demand.Rule None f) h = codes_below-with_present n c f h.rule.i
 below_after n c (demand.Rule (Some on) f) h =
     let inside : codes_below n (with_present c f) ≡ true = codes_below-with_present n c f h.rule.in_range in
     elim (cases_Bool (eqb on c)) [
-      | inl yes_ ↦ ap (codes_below n) (cond-true (eqb on c) (with_present c f) (either (negation (code on)) (with_present c f)) yes_) ∙ inside
-      | inr no_ ↦ ap (codes_below n) (cond-false (eqb on c) (with_present c f) (either (negation (code on)) (with_present c f)) no_) ∙ and_from _ _ (lt-ltb on n h.on) inside
+      | inl here ↦ rw here inside
+      | inr apart ↦ rw apart (and_from _ _ (lt-ltb on n h.on) inside)
     ]
 below_after n c (demand.One group) h = below_no_other n c group h.in_range
 below_after n c (demand.Most group) h = below_no_other n c group h.in_range

@@ -1,10 +1,11 @@
 -- The clauses of questions: a constructible set that shows what one of them asks for begins an assignment that satisfies the
 -- clauses with the variable of its goal true, and what satisfies them so begins with such a set.
 use Rattle.std.proofs.Common.{inl, inr, ◌≡◌, ℕ, zero, suc, ◌+◌, ◌<◌, Bool, true, false, not, ◌&&◌, ◌||◌, eqb, List, [], ◌∷◌, ◌++◌, Some, length, map, drop, get_or, refl, sym, ap, subst, ◌∙◌, arith}
-use Rattle.std.specs.List.{list_any, slice_get, AllByRecursion, AllZip}
+use Rattle.std.specs.List.{list_any, list_all, slice_get, AllByRecursion, AllZip}
 use Rattle.std.proofs.lemmas.Bool.{and_parts, and_from, or_left, not-true, cases_Bool, cond-true, cond-false, eqb-true, false≢true}
 use Rattle.std.proofs.lemmas.Option.{none-some, same_Some}
 use Rattle.std.proofs.lemmas.List.{map-append}
+use Rattle.std.proofs.Math.Bool.{or-false}
 use Rattle.pb_base.specs.Leaves.{with_present}
 use Rattle.pb_base.specs.Rule.{Rule, both, always, never, holds}
 use Rattle.pb_base.specs.Sets.{has}
@@ -31,7 +32,7 @@ use Rattle.wide_clauses.specs.Chains.{wide_literal}
 use Rattle.wide_clauses.specs.WideItems.{taken_by, wide_items, wide_literals}
 use Rattle.wide_clauses.proofs.WideItemLaws.{wide_named, wide_named-append, length-wide_named, wide_literals_true, IsWideLifted, lift_wide, IsWideOver, wide_over}
 use Rattle.supplement_findings.specs.Answering.{IsPosed}
-use Rattle.supplement_findings.specs.Clauses.{breaks_own, swaps_own, own, breaks_lits, question_lits, goal_clauses, all_goal_clauses, and_all, all_rule, unbroken, unbroken_rules, unbroken_taken, other_own, other_lits, other_variables, all_other, all_other_lits, literal_with, shared_rules, shared_lits, asked_items, asked_start, goals_start, question_clauses, shared_start, together_clauses, together_items, together_start, questions_clauses}
+use Rattle.supplement_findings.specs.Clauses.{breaks_own, swaps_own, own, breaks_lits, question_lits, goal_parts, goal_clauses, all_goal_clauses, and_all, all_rule, unbroken, unbroken_rules, unbroken_taken, other_own, other_lits, other_variables, all_other, all_other_lits, literal_with, shared_rules, shared_lits, asked_items, asked_start, goals_start, question_clauses, shared_start, together_clauses, together_items, together_start, questions_clauses}
 use Rattle.supplement_findings.specs.Ends.{with_code, breaks_with, swaps_with}
 use Rattle.supplement_findings.specs.Questions.{rule_at, meets, QuestionFits}
 use Rattle.supplement_findings.specs.Touching.{after, touched, afters}
@@ -43,12 +44,9 @@ use Rattle.supplement_findings.proofs.FitLaws.{supplement_fits, constructs_fit, 
 use Rattle.supplement_findings.proofs.QuestionLaws.{breaks_over, swaps_over}
 use Rattle.supplement_findings.proofs.TouchLaws.{broken_after}
 
--- the rest of each clause of a goal is true
+-- what a goal asks for is met
 abbrev pub goal_met : (ℕ → Bool) → QuestionLits → Bool
-goal_met a (BreaksLits rule added afterwards) = is_true a rule && (is_true a (literal added false) && list_any (is_true a) (map complement afterwards))
-goal_met a (SwapsLits first first_added second second_added second_afterwards first_afterwards) =
-    is_true a first && (is_true a (literal first_added false) && (is_true a second && (is_true a (literal second_added false)
-    && (is_true a (complement second_afterwards) || (is_true a (complement first_afterwards) || false)))))
+goal_met a lits = list_all (λ ls. list_any (is_true a) ls) (goal_parts lits)
 
 clause_where : (a : ℕ → Bool) (w : ℕ) (ls : List ℕ) → clause_true a (clause_of (literal w false ∷ ls)) ≡ (not (a w) || list_any (is_true a) ls)
 clause_where a w ls = clause_true-clause_of a (literal w false ∷ ls) ∙ ap (λ t. t || list_any (is_true a) ls) (true_negative a w)
@@ -61,10 +59,6 @@ implied_back : (t u : Bool) → (not t || u) ≡ true → t ≡ true → u ≡ t
 implied_back true u h e = h
 implied_back false u h e = absurd (false≢true e)
 
-alone : (t : Bool) → (t || false) ≡ true → t ≡ true
-alone true h = refl
-alone false h = h
-
 -- a clause of the goal, and what it says
 where_true : (a : ℕ → Bool) (w : ℕ) (ls : List ℕ) → (a w ≡ true → list_any (is_true a) ls ≡ true) → clause_true a (clause_of (literal w false ∷ ls)) ≡ true
 where_true a w ls h = clause_where a w ls ∙ implied (a w) (list_any (is_true a) ls) h
@@ -72,92 +66,44 @@ where_true a w ls h = clause_where a w ls ∙ implied (a w) (list_any (is_true a
 then_true : (a : ℕ → Bool) (w : ℕ) (ls : List ℕ) → clause_true a (clause_of (literal w false ∷ ls)) ≡ true → a w ≡ true → list_any (is_true a) ls ≡ true
 then_true a w ls h e = implied_back (a w) (list_any (is_true a) ls) (sym (clause_where a w ls) ∙ h) e
 
--- the parts of what a goal asks for
-record BreaksMet (a : ℕ → Bool) (rule added : ℕ) (afterwards : List ℕ) : Type 0 where
-  fired : is_true a rule ≡ true
-  absent : is_true a (literal added false) ≡ true
-  unmet : list_any (is_true a) (map complement afterwards) ≡ true
-
-breaks_met : (a : ℕ → Bool) (rule added : ℕ) (afterwards : List ℕ) → goal_met a (BreaksLits rule added afterwards) ≡ true → BreaksMet a rule added afterwards
-breaks_met a rule added afterwards h =
-    let p = and_parts (is_true a rule) (is_true a (literal added false) && list_any (is_true a) (map complement afterwards)) h in
-    let q = and_parts (is_true a (literal added false)) (list_any (is_true a) (map complement afterwards)) p.1 in
-    record { fired = p.0; absent = q.0; unmet = q.1 }
-
-record SwapsMet (a : ℕ → Bool) (first first_added second second_added second_afterwards first_afterwards : ℕ) : Type 0 where
-  fired_first : is_true a first ≡ true
-  absent_first : is_true a (literal first_added false) ≡ true
-  fired_second : is_true a second ≡ true
-  absent_second : is_true a (literal second_added false) ≡ true
-  lost : (is_true a (complement second_afterwards) || (is_true a (complement first_afterwards) || false)) ≡ true
-
-swaps_met : (a : ℕ → Bool) (first first_added second second_added second_afterwards first_afterwards : ℕ)
-    → goal_met a (SwapsLits first first_added second second_added second_afterwards first_afterwards) ≡ true
-    → SwapsMet a first first_added second second_added second_afterwards first_afterwards
-swaps_met a first first_added second second_added second_afterwards first_afterwards h =
-    let one : Bool = is_true a (complement second_afterwards) || (is_true a (complement first_afterwards) || false) in
-    let p = and_parts (is_true a first) (is_true a (literal first_added false) && (is_true a second && (is_true a (literal second_added false) && one))) h in
-    let q = and_parts (is_true a (literal first_added false)) (is_true a second && (is_true a (literal second_added false) && one)) p.1 in
-    let r = and_parts (is_true a second) (is_true a (literal second_added false) && one) q.1 in
-    let s = and_parts (is_true a (literal second_added false)) one r.1 in
-    record { fired_first = p.0; absent_first = q.0; fired_second = r.0; absent_second = s.0; lost = s.1 }
-
 -- the clauses of a goal hold where its variable says that it is met, or is false
-pub sat_goal : (a : ℕ → Bool) (w : ℕ) (lits : QuestionLits) → (a w ≡ true → goal_met a lits ≡ true) → Sat (goal_clauses w lits) a
-sat_goal a w (BreaksLits rule added afterwards) h = (
-  where_true a w (rule ∷ []) (λ e. or_left _ _ (breaks_met a rule added afterwards (h e)).fired),
-  (
-    where_true a w (literal added false ∷ []) (λ e. or_left _ _ (breaks_met a rule added afterwards (h e)).absent),
-    (where_true a w (map complement afterwards) (λ e. (breaks_met a rule added afterwards (h e)).unmet), tt),
-  ),
-)
-sat_goal a w (SwapsLits first first_added second second_added second_afterwards first_afterwards) h =
-    let met : a w ≡ true → SwapsMet a first first_added second second_added second_afterwards first_afterwards =
-    λ e. swaps_met a first first_added second second_added second_afterwards first_afterwards (h e) in (
-      where_true a w (first ∷ []) (λ e. or_left _ _ (met e).fired_first),
-      (
-        where_true a w (literal first_added false ∷ []) (λ e. or_left _ _ (met e).absent_first),
-        (
-          where_true a w (second ∷ []) (λ e. or_left _ _ (met e).fired_second),
-          (
-            where_true a w (literal second_added false ∷ []) (λ e. or_left _ _ (met e).absent_second),
-            (where_true a w (complement second_afterwards ∷ complement first_afterwards ∷ []) (λ e. (met e).lost), tt),
-          ),
-        ),
-      ),
-    )
+sat_parts : (a : ℕ → Bool) (w : ℕ) (parts : List (List ℕ)) → (a w ≡ true → list_all (λ ls. list_any (is_true a) ls) parts ≡ true)
+    → Sat (map (λ ls. clause_of (literal w false ∷ ls)) parts) a
+sat_parts a w [] h = tt
+sat_parts a w (ls ∷ parts) h = (where_true a w ls (λ e. (and_parts _ _ (h e)).0), sat_parts a w parts (λ e. (and_parts _ _ (h e)).1))
 
-pub goal_from_sat : (a : ℕ → Bool) (w : ℕ) (lits : QuestionLits) → Sat (goal_clauses w lits) a → a w ≡ true → goal_met a lits ≡ true
-goal_from_sat a w (BreaksLits rule added afterwards) h e =
-    and_from _ _ (alone _ (then_true a w (rule ∷ []) h.0 e))
-    (and_from _ _ (alone _ (then_true a w (literal added false ∷ []) h.1.0 e)) (then_true a w (map complement afterwards) h.1.1.0 e))
-goal_from_sat a w (SwapsLits first first_added second second_added second_afterwards first_afterwards) h e =
-    and_from _ _ (alone _ (then_true a w (first ∷ []) h.0 e))
-    (and_from _ _ (alone _ (then_true a w (literal first_added false ∷ []) h.1.0 e))
-    (and_from _ _ (alone _ (then_true a w (second ∷ []) h.1.1.0 e))
-    (and_from _ _ (alone _ (then_true a w (literal second_added false ∷ []) h.1.1.1.0 e))
-    (then_true a w (complement second_afterwards ∷ complement first_afterwards ∷ []) h.1.1.1.1.0 e))))
+parts_met : (a : ℕ → Bool) (w : ℕ) (parts : List (List ℕ)) → Sat (map (λ ls. clause_of (literal w false ∷ ls)) parts) a → a w ≡ true
+    → list_all (λ ls. list_any (is_true a) ls) parts ≡ true
+parts_met a w [] sat on = refl
+parts_met a w (ls ∷ parts) sat on = and_from _ _ (then_true a w ls sat.0 on) (parts_met a w parts sat.1 on)
+
+-- that a formula is true and a code absent, and that something is broken; or the same of two rules, of which not both formulas stay true
+abbrev breaks_value : Bool → Bool → Bool → Bool
+breaks_value h c broken = (h || false) && ((not c || false) && (broken && true))
+
+abbrev swaps_value : Bool → Bool → Bool → Bool → Bool → Bool → Bool
+swaps_value hs cs ht ct h k = (hs || false) && ((not cs || false) && ((ht || false) && ((not ct || false) && ((not h || (not k || false)) && true))))
+
+abbrev any_broken : Contents → ℕ → ℕ → List Bool → Bool
+any_broken b day c x = list_any (λ r. not (holds (after c r.demand) x)) (touched b day c)
 
 -- what a goal asks for, of a constructible set
 abbrev pub shown : Contents → ℕ → SupplementQuestion → List Bool → Bool
 shown b day (Breaks place) x =
-    let s : Supplement = rule_at b place in
-    holds s.rule x && (not (has x s.code) && list_any (λ r. not (holds (after s.code r.demand) x)) (touched b day s.code))
+    let s : Supplement = rule_at b place in breaks_value (holds s.rule x) (has x s.code) (any_broken b day s.code x)
 shown b day (Swaps first second) x =
     let s : Supplement = rule_at b first in
     let t : Supplement = rule_at b second in
-    holds s.rule x && (not (has x s.code) && (holds t.rule x && (not (has x t.code)
-    && (not (holds (with_present s.code t.rule) x) || (not (holds (with_present t.code s.rule) x) || false)))))
+    swaps_value (holds s.rule x) (has x s.code) (holds t.rule x) (has x t.code) (holds (with_present s.code t.rule) x) (holds (with_present t.code s.rule) x)
 
 any_complement : (a : ℕ → Bool) (ls : List ℕ) → list_any (is_true a) (map complement ls) ≡ list_any not (map (is_true a) ls)
 any_complement a [] = refl
-any_complement a (l ∷ ls) =
-    ap (λ t. t || list_any (is_true a) (map complement ls)) (is_true-complement a l) ∙ ap (λ t. not (is_true a l) || t) (any_complement a ls)
+any_complement a (l ∷ ls) = rw (is_true-complement a l, any_complement a ls) refl
 
 any_unmet : (c : ℕ) (x : List Bool) (rs : List Construct)
     → list_any not (map (λ f. holds f x) (map (λ r. after c r.demand) rs)) ≡ list_any (λ r. not (holds (after c r.demand) x)) rs
 any_unmet c x [] = refl
-any_unmet c x (r ∷ rs) = ap (λ t. not (holds (after c r.demand) x) || t) (any_unmet c x rs)
+any_unmet c x (r ∷ rs) = rw (any_unmet c x rs) refl
 
 -- the literal that a code is absent
 absent_true : (b : Contents) (x : List Bool) (a : ℕ → Bool) → Begins (length b.codes) (length b.codes) x a → (c : ℕ) → c < length b.codes → is_true a (literal c false) ≡ not (has x c)
@@ -165,34 +111,24 @@ absent_true b x a begins c within = true_negative a c ∙ ap not (begins.codes c
 
 goal_breaks : (b : Contents) (day : ℕ) (s : Supplement) (x : List Bool) (a : ℕ → Bool) (v : ℕ) → Begins (length b.codes) (length b.codes) x a → s.code < length b.codes
     → map (is_true a) (literals_from (length b.codes) v (breaks_own b day s)) ≡ map (λ f. holds f x) (breaks_own b day s)
-    → goal_met a (breaks_lits b day v s) ≡ (holds s.rule x && (not (has x s.code) && list_any (λ r. not (holds (after s.code r.demand) x)) (touched b day s.code)))
+    → goal_met a (breaks_lits b day v s) ≡ breaks_value (holds s.rule x) (has x s.code) (any_broken b day s.code x)
 goal_breaks b day s x a v begins within all =
     let n : ℕ = length b.codes in
     let ls : List ℕ = literals_from n (v + connectives s.rule) (afters b day s.code) in
     let first : is_true a (formula_literal n v s.rule) ≡ holds s.rule x = ap (λ (ts : List Bool). get_or ts 0 false) all in
     let rest : map (is_true a) ls ≡ map (λ f. holds f x) (afters b day s.code) = ap (λ (ts : List Bool). drop 1 ts) all in
-    let unmet : list_any (is_true a) (map complement ls) ≡ list_any (λ r. not (holds (after s.code r.demand) x)) (touched b day s.code) =
-    any_complement a ls ∙ ap (list_any not) rest ∙ any_unmet s.code x (touched b day s.code) in
-    ap (λ t. t && (is_true a (literal s.code false) && list_any (is_true a) (map complement ls))) first
-    ∙ ap (λ t. holds s.rule x && (t && list_any (is_true a) (map complement ls))) (absent_true b x a begins s.code within)
-    ∙ ap (λ t. holds s.rule x && (not (has x s.code) && t)) unmet
+    rw (first, absent_true b x a begins s.code within, any_complement a ls, rest, any_unmet s.code x (touched b day s.code)) refl
 
 goal_swaps : (b : Contents) (s t : Supplement) (x : List Bool) (a : ℕ → Bool) (f g h k : ℕ) → Begins (length b.codes) (length b.codes) x a → s.code < length b.codes → t.code < length b.codes
     → map (is_true a) (f ∷ g ∷ h ∷ k ∷ []) ≡ map (λ r. holds r x) (swaps_own s t)
     → goal_met a (SwapsLits f s.code g t.code h k)
-    ≡ (holds s.rule x && (not (has x s.code) && (holds t.rule x && (not (has x t.code) && (not (holds (with_present s.code t.rule) x) || (not (holds (with_present t.code s.rule) x) || false))))))
+    ≡ swaps_value (holds s.rule x) (has x s.code) (holds t.rule x) (has x t.code) (holds (with_present s.code t.rule) x) (holds (with_present t.code s.rule) x)
 goal_swaps b s t x a f g h k begins within_s within_t all =
     let at_f : is_true a f ≡ holds s.rule x = ap (λ (ts : List Bool). get_or ts 0 false) all in
     let at_g : is_true a g ≡ holds t.rule x = ap (λ (ts : List Bool). get_or ts 1 false) all in
     let at_h : is_true a h ≡ holds (with_present s.code t.rule) x = ap (λ (ts : List Bool). get_or ts 2 false) all in
     let at_k : is_true a k ≡ holds (with_present t.code s.rule) x = ap (λ (ts : List Bool). get_or ts 3 false) all in
-    let lost : Bool = not (holds (with_present s.code t.rule) x) || (not (holds (with_present t.code s.rule) x) || false) in
-    ap (λ u. u && (is_true a (literal s.code false) && (is_true a g && (is_true a (literal t.code false) && (is_true a (complement h) || (is_true a (complement k) || false)))))) at_f
-    ∙ ap (λ u. holds s.rule x && (u && (is_true a g && (is_true a (literal t.code false) && (is_true a (complement h) || (is_true a (complement k) || false)))))) (absent_true b x a begins s.code within_s)
-    ∙ ap (λ u. holds s.rule x && (not (has x s.code) && (u && (is_true a (literal t.code false) && (is_true a (complement h) || (is_true a (complement k) || false)))))) at_g
-    ∙ ap (λ u. holds s.rule x && (not (has x s.code) && (holds t.rule x && (u && (is_true a (complement h) || (is_true a (complement k) || false)))))) (absent_true b x a begins t.code within_t)
-    ∙ ap (λ u. holds s.rule x && (not (has x s.code) && (holds t.rule x && (not (has x t.code) && (u || (is_true a (complement k) || false)))))) (is_true-complement a h ∙ ap not at_h)
-    ∙ ap (λ u. holds s.rule x && (not (has x s.code) && (holds t.rule x && (not (has x t.code) && (not (holds (with_present s.code t.rule) x) || (u || false)))))) (is_true-complement a k ∙ ap not at_k)
+    rw (at_f, absent_true b x a begins s.code within_s, at_g, absent_true b x a begins t.code within_t, is_true-complement a h, at_h, is_true-complement a k, at_k) refl
 
 pub goal_shown : (b : Contents) (day : ℕ) (q : SupplementQuestion) (x : List Bool) (a : ℕ → Bool) (v : ℕ) → IsBook b → QuestionFits b q → Begins (length b.codes) (length b.codes) x a
     → Names a x v (items_named (map free_item (own b day q))) → goal_met a (question_lits b day v q) ≡ shown b day q x
@@ -204,49 +140,27 @@ goal_shown b day (Swaps first second) x a v book fits begins names =
     (literals_true (length b.codes) x a begins v (own b day (Swaps first second)) (own_below b day (Swaps first second) book fits) names)
 
 -- over a constructible set of the book's codes that is what the question asks for
-breaks_table : (h c u : Bool) → (true && (true && h && not c) && not (not u)) ≡ (h && (not c && u))
-breaks_table false c u = refl
-breaks_table true true u = refl
-breaks_table true false true = refl
-breaks_table true false false = refl
+breaks_table : (h c u : Bool) → (true && (true && h && not c) && not (not u)) ≡ breaks_value h c u
+breaks_table h c u = grind arith
 
-swaps_table : (hs cs ht ct h k : Bool)
-    → (true && (true && hs && not cs) && (true && ht && not ct) && not false && not (h && k)) ≡ (hs && (not cs && (ht && (not ct && (not h || (not k || false))))))
-swaps_table false cs ht ct h k = refl
-swaps_table true true ht ct h k = refl
-swaps_table true false false ct h k = refl
-swaps_table true false true true h k = refl
-swaps_table true false true false true true = refl
-swaps_table true false true false true false = refl
-swaps_table true false true false false k = refl
+swaps_table : (hs cs ht ct h k : Bool) → (true && (true && hs && not cs) && (true && ht && not ct) && not false && not (h && k)) ≡ swaps_value hs cs ht ct h k
+swaps_table hs cs ht ct h k = grind arith
 
 breaks_shown : (b : Contents) (day : ℕ) (s : Supplement) (x : List Bool) → IsBook b → s.code < length b.codes → is_within s.from s.until day ≡ true → length x ≡ length b.codes
-    → is_constructible b day x ≡ true
-    → breaks_with b day s x ≡ (holds s.rule x && (not (has x s.code) && list_any (λ r. not (holds (after s.code r.demand) x)) (touched b day s.code)))
+    → is_constructible b day x ≡ true → breaks_with b day s x ≡ breaks_value (holds s.rule x) (has x s.code) (any_broken b day s.code x)
 breaks_shown b day s x book within active len built =
-    let broken : Bool = list_any (breaks day (with_code s.code x)) b.constructs in
-    let fired : Bool = holds s.rule x && not (has x s.code) in
-    ap (λ t. t && fires day x s && not (not broken)) built
-    ∙ ap (λ t. true && (t && holds s.rule x && not (has x s.code)) && not (not broken)) active
-    ∙ ap (λ t. true && (true && holds s.rule x && not (has x s.code)) && not (not t))
-    (broken_after (length b.codes) day x s.code b.constructs (subst (λ (m : ℕ). s.code < m) (sym len) within) (constructs_fit b book) (not-true _ built))
-    ∙ breaks_table (holds s.rule x) (has x s.code) (list_any (λ r. not (holds (after s.code r.demand) x)) (touched b day s.code))
+    let inside : s.code < length x = rw len within in
+    rw (built, active, broken_after (length b.codes) day x s.code b.constructs inside (constructs_fit b book) (not-true _ built)) (breaks_table (holds s.rule x) (has x s.code) (any_broken b day s.code x))
 
 swaps_shown : (b : Contents) (day : ℕ) (s t : Supplement) (x : List Bool) → s.code < length b.codes → t.code < length b.codes → is_within s.from s.until day ≡ true
     → is_within t.from t.until day ≡ true → eqb s.code t.code ≡ false → length x ≡ length b.codes → is_constructible b day x ≡ true
     → swaps_with b day s t x
-    ≡ (holds s.rule x && (not (has x s.code) && (holds t.rule x && (not (has x t.code) && (not (holds (with_present s.code t.rule) x) || (not (holds (with_present t.code s.rule) x) || false))))))
+    ≡ swaps_value (holds s.rule x) (has x s.code) (holds t.rule x) (has x t.code) (holds (with_present s.code t.rule) x) (holds (with_present t.code s.rule) x)
 swaps_shown b day s t x within_s within_t active_s active_t apart len built =
-    let stays : Bool = holds t.rule (with_code s.code x) && holds s.rule (with_code t.code x) in
-    ap (λ u. u && fires day x s && fires day x t && not (eqb s.code t.code) && not stays) built
-    ∙ ap (λ u. true && (u && holds s.rule x && not (has x s.code)) && fires day x t && not (eqb s.code t.code) && not stays) active_s
-    ∙ ap (λ u. true && (true && holds s.rule x && not (has x s.code)) && (u && holds t.rule x && not (has x t.code)) && not (eqb s.code t.code) && not stays) active_t
-    ∙ ap (λ u. true && (true && holds s.rule x && not (has x s.code)) && (true && holds t.rule x && not (has x t.code)) && not u && not stays) apart
-    ∙ ap (λ u. true && (true && holds s.rule x && not (has x s.code)) && (true && holds t.rule x && not (has x t.code)) && not false && not (u && holds s.rule (with_code t.code x)))
-    (sym (holds-with_present x s.code (subst (λ (m : ℕ). s.code < m) (sym len) within_s) t.rule))
-    ∙ ap (λ u. true && (true && holds s.rule x && not (has x s.code)) && (true && holds t.rule x && not (has x t.code)) && not false && not (holds (with_present s.code t.rule) x && u))
-    (sym (holds-with_present x t.code (subst (λ (m : ℕ). t.code < m) (sym len) within_t) s.rule))
-    ∙ swaps_table (holds s.rule x) (has x s.code) (holds t.rule x) (has x t.code) (holds (with_present s.code t.rule) x) (holds (with_present t.code s.rule) x)
+    let first : s.code < length x = rw len within_s in
+    let second : t.code < length x = rw len within_t in
+    rw (built, active_s, active_t, apart, ← holds-with_present x s.code first t.rule, ← holds-with_present x t.code second s.rule)
+    (swaps_table (holds s.rule x) (has x s.code) (holds t.rule x) (has x t.code) (holds (with_present s.code t.rule) x) (holds (with_present t.code s.rule) x))
 
 pub meets_shown : (b : Contents) (day : ℕ) (codes : List ℕ) (q : SupplementQuestion) (x : List Bool) → IsBook b → IsPosed b day codes q → length x ≡ length b.codes → is_constructible b day x ≡ true
     → meets b day q x ≡ shown b day q x
@@ -263,16 +177,12 @@ built_from_meets b day (Breaks place) x h = (breaks_over b day (rule_at b place)
 built_from_meets b day (Swaps first second) x h = (swaps_over b day (rule_at b first) (rule_at b second) x h).built
 
 -- the formula of all is false just where one of them is
-or_false : (t : Bool) → t ≡ (t || false)
-or_false true = refl
-or_false false = refl
-
 not_both : (t u v : Bool) → (not (t && u) || v) ≡ (not t || (not u || v))
 not_both true u v = refl
 not_both false u v = refl
 
 not_and_all : (x : List Bool) (f : Rule) (gs : List Rule) → not (holds (and_all f gs) x) ≡ (not (holds f x) || list_any (λ g. not (holds g x)) gs)
-not_and_all x f [] = or_false (not (holds f x))
+not_and_all x f [] = sym (or-false (not (holds f x)))
 not_and_all x f (g ∷ gs) = not_and_all x (both f g) gs ∙ not_both (holds f x) (holds g x) (list_any (λ h. not (holds h x)) gs)
 
 not_all_rule : (x : List Bool) (fs : List Rule) → not (holds (all_rule fs) x) ≡ list_any (λ f. not (holds f x)) fs
@@ -281,7 +191,7 @@ not_all_rule x (f ∷ fs) = not_and_all x f fs
 
 any_after : (c : ℕ) (x : List Bool) (rs : List Construct) → list_any (λ f. not (holds f x)) (map (λ r. after c r.demand) rs) ≡ list_any (λ r. not (holds (after c r.demand) x)) rs
 any_after c x [] = refl
-any_after c x (r ∷ rs) = ap (λ t. not (holds (after c r.demand) x) || t) (any_after c x rs)
+any_after c x (r ∷ rs) = rw (any_after c x rs) refl
 
 pub not_unbroken : (b : Contents) (day c : ℕ) (x : List Bool) → not (holds (unbroken b day c) x) ≡ list_any (λ r. not (holds (after c r.demand) x)) (touched b day c)
 not_unbroken b day c x = not_all_rule x (afters b day c) ∙ any_after c x (touched b day c)
@@ -295,11 +205,8 @@ literal_with_true a x rule (k ∷ codes) (l ∷ lits) c all there =
     let first : is_true a l ≡ holds (rule k) x = ap (λ (ts : List Bool). get_or ts 0 false) all in
     let rest : map (is_true a) lits ≡ map (λ f. holds f x) (map rule codes) = ap (λ (ts : List Bool). drop 1 ts) all in
     elim (cases_Bool (eqb k c)) [
-      | inl same ↦
-          ap (is_true a) (cond-true (eqb k c) l (literal_with codes lits c) same) ∙ first ∙ ap (λ (n : ℕ). holds (rule n) x) (eqb-true k c same)
-      | inr apart ↦
-          ap (is_true a) (cond-false (eqb k c) l (literal_with codes lits c) apart)
-          ∙ literal_with_true a x rule codes lits c rest (sym (ap (λ t. t || list_any (λ j. eqb j c) codes) apart) ∙ there)
+      | inl same ↦ rw same (first ∙ ap (λ (n : ℕ). holds (rule n) x) (eqb-true k c same))
+      | inr apart ↦ rw apart (literal_with_true a x rule codes lits c rest (rw apart at there))
     ]
 
 abbrev NamesOf : (ℕ → Bool) → List Bool → ℕ → List Rule → Type 0
@@ -317,12 +224,10 @@ names_of_both : (a : ℕ → Bool) (x : List Bool) (v : ℕ) (fs gs : List Rule)
 names_of_both a x v fs gs h =
     let here : List Item = map free_item fs in
     let later : List Item = map free_item gs in
-    let split : Names a x v (wide_named here ++ wide_named later) =
-    subst (λ (rs : List Rule). Names a x v rs) (ap wide_named (map-append free_item fs gs) ∙ wide_named-append here later) h in
+    let split : Names a x v (wide_named here ++ wide_named later) = rw (map-append, wide_named-append) at h in
     record {
       first = names_first a x v (wide_named here) (wide_named later) split;
-      then =
-          subst (λ (k : ℕ). Names a x (v + k) (wide_named later)) (length-wide_named here) (names_last a x v (wide_named here) (wide_named later) split);
+      then = let behind = names_last a x v (wide_named here) (wide_named later) split in rw (length-wide_named here) at behind;
     }
 
 -- a rule that has this truth over every set
@@ -360,13 +265,9 @@ module _ (b : Contents) (day : ℕ) (codes : List ℕ) (book : IsBook b) (x : Li
       let u : ℕ = literal_with codes known s.code in
       let fired : is_true a (wide_literal n v s.rule) ≡ holds s.rule x =
       ap (λ (ts : List Bool). get_or ts 0 false) (wide_literals_true n x a begins v (s.rule ∷ []) (fits.rule.in_range, tt) names) in
-      let unmet : (is_true a (complement u) || false) ≡ list_any (λ r. not (holds (after s.code r.demand) x)) (touched b day s.code) =
-      sym (or_false (is_true a (complement u))) ∙ is_true-complement a u ∙ ap not (literal_with_true a x (unbroken b day) codes known s.code are posed.read)
-      ∙ not_unbroken b day s.code x in
-      ap (λ t. t && (is_true a (literal s.code false) && (is_true a (complement u) || false))) fired
-      ∙ ap (λ t. holds s.rule x && (t && (is_true a (complement u) || false))) (absent_true b x a begins s.code fits.code)
-      ∙ ap (λ t. holds s.rule x && (not (has x s.code) && t)) unmet
-      ∙ sym (meets_shown b day codes (Breaks place) x book posed len built)
+      let unmet : (is_true a (complement u) || false) ≡ any_broken b day s.code x =
+      or-false (is_true a (complement u)) ∙ is_true-complement a u ∙ ap not (literal_with_true a x (unbroken b day) codes known s.code are posed.read) ∙ not_unbroken b day s.code x in
+      rw (fired, absent_true b x a begins s.code fits.code, unmet) (sym (meets_shown b day codes (Breaks place) x book posed len built))
 
   others_meet : (known : List ℕ) (v : ℕ) (qs : List SupplementQuestion) → AllByRecursion (IsPosed b day codes) qs → map (is_true a) known ≡ map (λ f. holds f x) (unbroken_rules b day codes)
       → WideNamesOf a x v (all_other b qs) → GoalsMean a x b day (all_other_lits b codes known v qs) qs
@@ -389,7 +290,7 @@ module _ (b : Contents) (day : ℕ) (codes : List ℕ) (book : IsBook b) (x : Li
   sat_goals w (q ∷ qs) [] mean values_ = absurd mean
   sat_goals w (q ∷ qs) (l ∷ lits) mean values_ =
       all-append _ (goal_clauses w l) _
-      (sat_goal a w l (λ e. mean.0 ∙ sym (holds-truth_rule (meets b day q x) x) ∙ sym values_.0 ∙ e))
+      (sat_parts a w (goal_parts l) (λ e. mean.0 ∙ sym (holds-truth_rule (meets b day q x) x) ∙ sym values_.0 ∙ e))
       (sat_goals (w + 1) qs lits mean.1 values_.1)
 
   -- the goal's variable is true only where the question is met
@@ -400,7 +301,7 @@ module _ (b : Contents) (day : ℕ) (codes : List ℕ) (book : IsBook b) (x : Li
   goal_at w (p ∷ qs) (l ∷ lits) mean sat zero q there on =
       let here : a w ≡ true = ap a (let e : w ≡ w + zero = omega arith in e) ∙ on in
       subst (λ (r : SupplementQuestion). meets b day r x ≡ true) (same_Some p q there)
-      (sym mean.0 ∙ goal_from_sat a w l (all_first _ (goal_clauses w l) _ sat) here)
+      (sym mean.0 ∙ parts_met a w (goal_parts l) (all_first _ (goal_clauses w l) _ sat) here)
   goal_at w (p ∷ qs) (l ∷ lits) mean sat (suc k) q there on =
       goal_at (w + 1) qs lits mean.1 (all_last _ (goal_clauses w l) _ sat) k q there
       (ap a (let e : w + 1 + k ≡ w + suc k = omega arith in e) ∙ on)
@@ -481,8 +382,8 @@ shared_names : (b : Contents) (day : ℕ) (codes : List ℕ) (qs : List Suppleme
 shared_names b day codes qs x a h =
     let first : List Item = construct_items b day in
     let mine : List Item = map free_item (shared_rules b day codes qs) in
-    let split : Names a x (length b.codes + 1) (wide_named first ++ wide_named mine) = subst (λ (fs : List Rule). Names a x (length b.codes + 1) fs) (wide_named-append first mine) h in
-    subst (λ (k : ℕ). Names a x (length b.codes + 1 + k) (wide_named mine)) (length-wide_named first) (names_last a x (length b.codes + 1) (wide_named first) (wide_named mine) split)
+    let behind = names_last a x (length b.codes + 1) (wide_named first) (wide_named mine) (rw (wide_named-append first mine) at h) in
+    rw (length-wide_named first) at behind
 
 lifts_together : (b : Contents) (day : ℕ) (codes : List ℕ) (qs : List SupplementQuestion) → IsBook b → AllByRecursion (IsPosed b day codes) qs → (k : ℕ) (q : SupplementQuestion) → slice_get qs k ≡ Some q
     → (x : List Bool) → length x ≡ length b.codes → meets b day q x ≡ true → MeetsGoal (together_clauses b day codes qs) (together_start b day codes qs + k)

@@ -32,12 +32,8 @@ ends_pushed p row =
 with_end_twice : (p : ℕ) (row : List ℕ) → with_end p (with_end p row) ≡ with_end p row
 with_end_twice p row =
     elim (cases_Bool (ends_in p row)) [
-      | inl e ↦
-          let same : with_end p row ≡ row = cond-true (ends_in p row) row (row ++ p ∷ []) e in
-          ap (with_end p) same
-      | inr e ↦
-          let more : with_end p row ≡ row ++ p ∷ [] = cond-false (ends_in p row) row (row ++ p ∷ []) e in
-          ap (with_end p) more ∙ cond-true (ends_in p (row ++ p ∷ [])) (row ++ p ∷ []) ((row ++ p ∷ []) ++ p ∷ []) (ends_pushed p row) ∙ sym more
+      | inl e ↦ let same : with_end p row ≡ row = rw e refl in ap (with_end p) same
+      | inr e ↦ let more : with_end p row ≡ row ++ p ∷ [] = rw e refl in rw (more, ends_pushed p row) refl
     ]
 
 -- a list of smaller places doesn't end in the place
@@ -101,8 +97,7 @@ noted_one p code row old within is = record {
 -- one item more of a list
 pub any_next : {X : Type 0} (w : X → Bool) (xs : List X) (i : ℕ) (d : X) → i < length xs → list_any w (take (i + 1) xs) ≡ (list_any w (take i xs) || w (get_or xs i d))
 any_next {X} w xs i d within =
-    ap (list_any w) (take_more xs i d within) ∙ list_any-append w (take i xs) (get_or xs i d ∷ [])
-    ∙ ap (λ t. list_any w (take i xs) || t) (or-false (w (get_or xs i d)))
+    rw (take_more xs i d within, list_any-append, or-false) refl
 
 pub none_yet : {X : Type 0} (w : X → Bool) (xs : List X) → list_any w (take 0 xs) ≡ false
 none_yet w [] = refl
@@ -129,10 +124,7 @@ touched_push c i (q ∷ rs) r =
   where
     swapped : (u t : Bool) (k n : ℕ) (ps : List ℕ)
         → cond u (k ∷ cond t (ps ++ n ∷ []) ps) (cond t (ps ++ n ∷ []) ps) ≡ cond t (cond u (k ∷ ps) ps ++ n ∷ []) (cond u (k ∷ ps) ps)
-    swapped true true k n ps = refl
-    swapped true false k n ps = refl
-    swapped false true k n ps = refl
-    swapped false false k n ps = refl
+    swapped u t k n ps = grind arith
 
 -- what stands in a vector once a list as long as its own was written into it
 pub written : (new items : List (List ℕ)) (len : ℕ) → length new ≡ length items → length items ≡ len → take len (new ++ drop (length new) items) ≡ new

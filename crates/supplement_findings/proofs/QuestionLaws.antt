@@ -1,5 +1,6 @@
 -- What the questions on supplementing rules leave out shows nothing, and where none of them is shown by a set, a day is calm.
 use Rattle.std.proofs.Common.{inl, inr, ◌≡◌, ℕ, zero, suc, ◌+◌, ◌≤◌, ◌<◌, Bool, true, false, not, ◌&&◌, ◌||◌, ◌⊎◌, eqb, List, [], ◌∷◌, length, drop, get_or, get_or-drop, length-drop, refl, sym, ap, subst, ◌∙◌, arith}
+use Rattle.std.proofs.Math.Bool.{and_comm, or_comm}
 use Rattle.std.specs.Prelude.{All, Contains}
 use Rattle.std.specs.List.{filter, AllByRecursion}
 use Rattle.std.proofs.lemmas.Bool.{and_parts, and_from, or_parts, cases_Bool, cases_order, cond-true, cond-false, false_from_ne_true, not_from_false, not-true, eqb-true, ne_eqb, eqb-false, true≢false, false≢true}
@@ -52,19 +53,13 @@ pub over_swaps : (b : Contents) (day : ℕ) (s t : Supplement) (x : List Bool) �
 over_swaps b day s t x h =
     and_from _ _ (and_from _ _ (and_from _ _ (and_from _ _ h.built h.on_first) h.on_second) (not_from_false _ (ne_eqb s.code t.code h.apart))) (not_from_false _ h.lost)
 
-and_swap : (p q : Bool) → (p && q) ≡ false → (q && p) ≡ false
-and_swap true true h = h
-and_swap true false h = refl
-and_swap false true h = refl
-and_swap false false h = refl
-
 pub swapped_over : (b : Contents) (day : ℕ) (s t : Supplement) (x : List Bool) → SwapsOver b day s t x → SwapsOver b day t s x
 swapped_over b day s t x h = record {
   built = h.built;
   on_first = h.on_second;
   on_second = h.on_first;
   apart = λ e. h.apart (sym e);
-  lost = and_swap (holds t.rule (with_code s.code x)) (holds s.rule (with_code t.code x)) h.lost;
+  lost = rw and_comm h.lost;
 }
 
 -- a pair that is not asked never swaps
@@ -84,29 +79,19 @@ unasked_law b day s t x h = false_from_ne_true _ (λ e.
           true≢false (sym (and_from _ _ stays_t stays_s) ∙ over.lost)
     ])
 
-or_swap : (p q : Bool) → (p || q) ≡ true → (q || p) ≡ true
-or_swap true true h = h
-or_swap true false h = refl
-or_swap false true h = refl
-or_swap false false h = h
-
 asked_swapped : (s t : Supplement) → is_asked s t ≡ true → is_asked t s ≡ true
 asked_swapped s t h =
     let parts = and_parts (not (eqb s.code t.code)) (occurs s.code t.rule || occurs t.code s.rule) h in
     and_from _ _ (not_from_false _ (ne_eqb t.code s.code (λ e. eqb-false s.code t.code (not-true _ parts.0) (sym e))))
-    (or_swap (occurs s.code t.rule) (occurs t.code s.rule) parts.1)
+    (rw or_comm parts.1)
 
 -- what holds of the questions that are put
 from_filter : {X : Type 0} (P : X → Type 0) (w : X → Bool) (xs : List X) → AllByRecursion P (filter w xs) → AllByRecursion (λ x. w x ≡ true → P x) xs
 from_filter P w [] h = tt
-from_filter {X} P w (x ∷ xs) h =
-    elim (cases_Bool (w x)) [
-      | inl yes_ ↦
-          let both : P x × AllByRecursion P (filter w xs) = subst (λ (ys : List X). AllByRecursion P ys) (cond-true (w x) (x ∷ filter w xs) (filter w xs) yes_) h in
-          ((λ e. both.0), from_filter P w xs both.1)
-      | inr no_ ↦
-          ((λ e. absurd (false≢true (sym no_ ∙ e))), from_filter P w xs (subst (λ (ys : List X). AllByRecursion P ys) (cond-false (w x) (x ∷ filter w xs) (filter w xs) no_) h))
-    ]
+from_filter {X} P w (x ∷ xs) h = elim (cases_Bool (w x)) [
+  | inl put ↦ let both = rw put at h in ((λ e. both.0), from_filter P w xs both.1)
+  | inr left ↦ ((λ e. absurd (false≢true (sym left ∙ e))), from_filter P w xs (rw left at h))
+]
 
 -- each rule has its question, and each pair that is asked
 at_breaks : (P : SupplementQuestion → Type 0) (i : ℕ) (ss : List Supplement) → AllByRecursion P (breaks_from i ss) → (k : ℕ) → k < length ss → P (Breaks (i + k))
@@ -118,12 +103,12 @@ at_swaps_later : (P : SupplementQuestion → Type 0) (i : ℕ) (s : Supplement) 
     → (k : ℕ) → k < length ts → is_asked s (get_or ts k d) ≡ true → P (Swaps i (first + k))
 at_swaps_later P i s first [] d h k within asked = absurd (omega arith)
 at_swaps_later P i s first (t ∷ ts) d h zero within asked =
-    let all = subst (λ (qs : List SupplementQuestion). AllByRecursion P qs) (cond-true (is_asked s t) (Swaps i first ∷ swaps_with_later i s (suc first) ts) (swaps_with_later i s (suc first) ts) asked) h in
+    let all = rw asked at h in
     subst (λ (n : ℕ). P (Swaps i n)) (let e : first ≡ first + zero = omega arith in e) all.0
 at_swaps_later P i s first (t ∷ ts) d h (suc k) within asked =
     let rest : AllByRecursion P (swaps_with_later i s (suc first) ts) = elim (cases_Bool (is_asked s t)) [
-      | inl yes_ ↦ (subst (λ (qs : List SupplementQuestion). AllByRecursion P qs) (cond-true (is_asked s t) (Swaps i first ∷ swaps_with_later i s (suc first) ts) (swaps_with_later i s (suc first) ts) yes_) h).1
-      | inr no_ ↦ subst (λ (qs : List SupplementQuestion). AllByRecursion P qs) (cond-false (is_asked s t) (Swaps i first ∷ swaps_with_later i s (suc first) ts) (swaps_with_later i s (suc first) ts) no_) h
+      | inl put ↦ (let all = rw put at h in all.1)
+      | inr left ↦ rw left at h
     ] in
     subst (λ (n : ℕ). P (Swaps i n)) (let e : suc first + k ≡ first + suc k = omega arith in e) (at_swaps_later P i s (suc first) ts d rest k (omega arith) asked)
 
@@ -165,17 +150,18 @@ module _ (b : Contents) (day : ℕ) where
       let is : rule_at b there.0 ≡ s = at_place b s there in
       let quiet : IsQuiet (Breaks there.0) = at_0 IsQuiet there.0 (at_breaks IsQuiet 0 b.supplements (all_first IsQuiet (breaks_from 0 b.supplements) (swaps_from 0 b.supplements) h) there.0 there.1) in
       let none = quiet (ap (is_active day) is ∙ (fires_over day x s over.on).active) x len in
-      true≢false (sym e ∙ ap (λ (r : Supplement). breaks_with b day r x) (sym is) ∙ none))
+      true≢false (sym e ∙ rw is at none))
 
   quiet_pair : AllByRecursion IsQuiet (all_questions b) → (s t : Supplement) (x : List Bool) (hs : Contains b.supplements s) (ht : Contains b.supplements t) → hs.0 < ht.0
       → length x ≡ length b.codes → SwapsOver b day s t x → is_asked s t ≡ true → ⊥
   quiet_pair h s t x hs ht before len over asked =
       let is_s : rule_at b hs.0 ≡ s = at_place b s hs in
       let is_t : rule_at b ht.0 ≡ t = at_place b t ht in
-      let asked_at : is_asked (rule_at b hs.0) (rule_at b ht.0) ≡ true = ap (λ (r : Supplement). is_asked r (rule_at b ht.0)) is_s ∙ ap (is_asked s) is_t ∙ asked in
+      let asked_at : is_asked (rule_at b hs.0) (rule_at b ht.0) ≡ true = rw (is_s, is_t) asked in
       let quiet : IsQuiet (Swaps hs.0 ht.0) = at_0_0 IsQuiet hs.0 ht.0 (at_swaps IsQuiet 0 b.supplements no_rule (all_last IsQuiet (breaks_from 0 b.supplements) (swaps_from 0 b.supplements) h) hs.0 ht.0 before ht.1 asked_at) in
       let put : is_put b day (Swaps hs.0 ht.0) ≡ true = and_from _ _ (ap (is_active day) is_s ∙ (fires_over day x s over.on_first).active) (ap (is_active day) is_t ∙ (fires_over day x t over.on_second).active) in
-      true≢false (sym (over_swaps b day s t x over) ∙ ap (λ (r : Supplement). swaps_with b day r t x) (sym is_s) ∙ ap (λ (r : Supplement). swaps_with b day (rule_at b hs.0) r x) (sym is_t) ∙ quiet put x len)
+      let none = quiet put x len in
+      true≢false (sym (over_swaps b day s t x over) ∙ rw (is_s, is_t) at none)
 
   quiet_swaps : AllByRecursion IsQuiet (all_questions b) → (s t : Supplement) (x : List Bool) → Contains b.supplements s → Contains b.supplements t → length x ≡ length b.codes → swaps_with b day s t x ≡ false
   quiet_swaps h s t x hs ht len = false_from_ne_true _ (λ e.
@@ -199,16 +185,11 @@ module _ (b : Contents) (day : ℕ) where
 -- On two days on which the same records are active the same sets show the same.
 pub breaks_alike : (b : Contents) (d e : ℕ) (s : Supplement) (x : List Bool) → AreAlike b d e → Contains b.supplements s → breaks_with b d s x ≡ breaks_with b e s x
 breaks_alike b d e s x alike there =
-    ap (λ t. t && fires d x s && not (is_constructible b d (with_code s.code x))) (constructible_alike b d e x alike)
-    ∙ ap (λ t. is_constructible b e x && t && not (is_constructible b d (with_code s.code x))) (fires_alike b d e x s alike there)
-    ∙ ap (λ t. is_constructible b e x && fires e x s && not t) (constructible_alike b d e (with_code s.code x) alike)
+    rw (constructible_alike b d e x alike, fires_alike b d e x s alike there, constructible_alike b d e (with_code s.code x) alike) refl
 
 pub swaps_alike : (b : Contents) (d e : ℕ) (s t : Supplement) (x : List Bool) → AreAlike b d e → Contains b.supplements s → Contains b.supplements t → swaps_with b d s t x ≡ swaps_with b e s t x
 swaps_alike b d e s t x alike hs ht =
-    let rest : Bool = not (holds t.rule (with_code s.code x) && holds s.rule (with_code t.code x)) in
-    ap (λ u. u && fires d x s && fires d x t && not (eqb s.code t.code) && rest) (constructible_alike b d e x alike)
-    ∙ ap (λ u. is_constructible b e x && u && fires d x t && not (eqb s.code t.code) && rest) (fires_alike b d e x s alike hs)
-    ∙ ap (λ u. is_constructible b e x && fires e x s && u && not (eqb s.code t.code) && rest) (fires_alike b d e x t alike ht)
+    rw (constructible_alike b d e x alike, fires_alike b d e x s alike hs, fires_alike b d e x t alike ht) refl
 
 pub meets_alike : (b : Contents) (d e : ℕ) (q : SupplementQuestion) (x : List Bool) → AreAlike b d e → QuestionFits b q → meets b d q x ≡ meets b e q x
 meets_alike b d e (Breaks place) x alike fits = breaks_alike b d e (rule_at b place) x alike (Contains-get_or b.supplements place no_rule fits)
@@ -245,11 +226,9 @@ swaps_later_fit b i s k (t ∷ ts) within is few are =
     let rest = swaps_later_fit b i s (suc k) ts within is (omega arith) (later_rules b k t ts are) in
     elim (cases_Bool (is_asked s t)) [
       | inl yes_ ↦
-          let asked : is_asked (rule_at b i) (rule_at b k) ≡ true = ap (λ (r : Supplement). is_asked r (rule_at b k)) (sym is) ∙ ap (is_asked s) (sym (first_rule b k t ts are)) ∙ yes_ in
-          subst (λ (qs : List SupplementQuestion). AllByRecursion (QuestionFits b) qs) (sym (cond-true (is_asked s t) (Swaps i k ∷ swaps_with_later i s (suc k) ts) (swaps_with_later i s (suc k) ts) yes_))
-          ((within, omega arith, asked), rest)
-      | inr no_ ↦
-          subst (λ (qs : List SupplementQuestion). AllByRecursion (QuestionFits b) qs) (sym (cond-false (is_asked s t) (Swaps i k ∷ swaps_with_later i s (suc k) ts) (swaps_with_later i s (suc k) ts) no_)) rest
+          let asked : is_asked (rule_at b i) (rule_at b k) ≡ true = rw (← is, ← first_rule b k t ts are) yes_ in
+          rw yes_ ((within, omega arith, asked), rest)
+      | inr no_ ↦ rw no_ rest
     ]
 
 swaps_fit : (b : Contents) (i : ℕ) (ss : List Supplement) → i + length ss ≤ length b.supplements → AreRulesFrom b i ss → AllByRecursion (QuestionFits b) (swaps_from i ss)

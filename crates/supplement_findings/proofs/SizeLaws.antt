@@ -1,7 +1,8 @@
 -- The variables of questions are few enough to be numbered, and their clauses speak of no others.
 use Rattle.std.proofs.Common.{inl, inr, ◌≡◌, ℕ, suc, ◌+◌, ◌*◌, ◌≤◌, ◌<◌, Bool, true, false, not, ◌&&◌, ◌||◌, eqb, List, [], ◌∷◌, ◌++◌, None, Some, length, map, refl, sym, ap, subst, ◌∙◌, arith}
+use Rattle.std.proofs.Math.Bool.{and-false}
 use Rattle.std.specs.List.{filter, list_any, sum_by, AllByRecursion}
-use Rattle.std.proofs.lemmas.Bool.{cases_Bool, cond-true, cond-false, eqb-true, false≢true}
+use Rattle.std.proofs.lemmas.Bool.{cases_Bool, cond-true, cond-false, eqb-true, false≢true, cond_both}
 use Rattle.std.proofs.lemmas.List.{length-map, map-append}
 use Rattle.std.proofs.lemmas.List.Filters.{length-filter_both}
 use Rattle.std.proofs.lemmas.List.Sums.{sum_by-cons}
@@ -20,7 +21,7 @@ use Rattle.book_model.specs.declared.record.Construct.{Construct}
 use Rattle.book_model.specs.declared.record.Supplement.{Supplement}
 use Rattle.book_model.proofs.BookLimits.{constructs_below}
 use Rattle.clause_pool.specs.Literal.{literal, complement}
-use Rattle.clause_pool.specs.Clause.{AreBelow}
+use Rattle.clause_pool.specs.Clause.{AreBelow, clause_of}
 use Rattle.clause_pool.proofs.ClauseLaws.{IsBelow-clause_of}
 use Rattle.clausify.specs.Coded.{construct_variables}
 use Rattle.clausify.specs.Formulas.{connectives, literals_from}
@@ -34,7 +35,7 @@ use Rattle.wide_clauses.specs.WideItems.{taken_by, wide_items, wide_literals}
 use Rattle.wide_clauses.proofs.WideItemLaws.{taken_by-append, taken_by_most}
 use Rattle.wide_clauses.proofs.WideRanges.{wide_items_below, wide_literal_below, wide_literals_below}
 use Rattle.supplement_findings.specs.Answering.{IsPosed, IsRead, question_size, touch_count}
-use Rattle.supplement_findings.specs.Clauses.{swaps_own, own, own_variables, question_lits, goal_clauses, all_goal_clauses, and_all, all_rule, unbroken, unbroken_rules, unbroken_taken, unbroken_variables, other_own, other_variables, other_lits, all_other, all_other_lits, literal_with, shared_lits, shared_rules, shared_start, asked_items, goals_start, question_clauses, question_variables, together_clauses, together_items, together_start, together_variables, questions_clauses, questions_variables}
+use Rattle.supplement_findings.specs.Clauses.{swaps_own, own, own_variables, question_lits, goal_clauses, all_goal_clauses, and_all, all_rule, unbroken, unbroken_rules, unbroken_taken, unbroken_variables, other_own, other_variables, other_lits, all_other, all_other_lits, literal_with, shared_lits, shared_rules, shared_start, asked_items, goals_start, question_clauses, question_variables, together_clauses, together_items, together_start, together_variables, questions_clauses, questions_variables, goal_parts}
 use Rattle.supplement_findings.specs.Questions.{rule_at, QuestionFits}
 use Rattle.supplement_findings.specs.Touching.{touches, no_other, after, is_touched, afters, touched_from}
 use Rattle.supplement_findings.specs.declared.lits.QuestionLits.{QuestionLits}
@@ -61,11 +62,9 @@ other_size c group few = omega (arith, none_size (filter (λ k. not (eqb k c)) g
 after_size : (n c : ℕ) (d : Demand) → DemandFits n d → connectives (after c d) ≤ 513
 after_size n c (demand.Rule None f) h = omega (arith, present_below n c f h.rule)
 after_size n c (demand.Rule (Some on) f) h =
-    let plain : Rule = with_present c f in
-    let guarded : Rule = either (negation (code on)) plain in
     elim (cases_Bool (eqb on c)) [
-      | inl yes_ ↦ omega (arith, ap connectives (cond-true (eqb on c) plain guarded yes_), present_below n c f h.rule)
-      | inr no_ ↦ omega (arith, ap connectives (cond-false (eqb on c) plain guarded no_), present_below n c f h.rule)
+      | inl here ↦ rw here (omega (arith, present_below n c f h.rule))
+      | inr apart ↦ rw apart (omega (arith, present_below n c f h.rule))
     ]
 after_size n c (demand.One group) h = omega (arith, other_size c group h.most)
 after_size n c (demand.Most group) h = omega (arith, other_size c group h.most)
@@ -73,35 +72,18 @@ after_size n c (demand.Most group) h = omega (arith, other_size c group h.most)
 pub touched_few : (c i : ℕ) (rs : List Construct) → length (touched_from i c rs) ≤ length rs
 touched_few c i [] = omega arith
 touched_few c i (r ∷ rs) =
-    let ps : List ℕ = touched_from (suc i) c rs in
     let later = touched_few c (suc i) rs in
-    elim (cases_Bool (touches c r.demand)) [
-      | inl on_ ↦ omega (arith, ap length (cond-true (touches c r.demand) (i ∷ ps) ps on_), later)
-      | inr off ↦ omega (arith, ap length (cond-false (touches c r.demand) (i ∷ ps) ps off), later)
-    ]
+    cond_both (touches c r.demand) _ _ (λ (ps : List ℕ). length ps ≤ suc (length rs)) (λ _. omega (arith, later)) (λ _. omega (arith, later))
 
 -- so are the active rules among them
 rules_few : (c day i : ℕ) (rs : List Construct) → length (filter (is_touched day c) rs) ≤ length (touched_from i c rs)
 rules_few c day i [] = omega arith
 rules_few c day i (r ∷ rs) =
-    let w : Construct → Bool = is_touched day c in
-    let ps : List ℕ = touched_from (suc i) c rs in
     let later = rules_few c day (suc i) rs in
     elim (cases_Bool (touches c r.demand)) [
-      | inl on_ ↦
-          let counted = ap length (cond-true (touches c r.demand) (i ∷ ps) ps on_) in
-          elim (cases_Bool (w r)) [
-            | inl e ↦ omega (arith, ap length (cond-true (w r) (r ∷ filter w rs) (filter w rs) e), counted, later)
-            | inr e ↦ omega (arith, ap length (cond-false (w r) (r ∷ filter w rs) (filter w rs) e), counted, later)
-          ]
-      | inr off ↦
-          let counted = ap length (cond-false (touches c r.demand) (i ∷ ps) ps off) in
-          omega (arith, ap length (cond-false (w r) (r ∷ filter w rs) (filter w rs) (none_off (is_within r.from r.until day) (touches c r.demand) off)), counted, later)
+      | inl on_ ↦ rw on_ (cond_both (is_within r.from r.until day && true) _ _ (λ (ks : List Construct). length ks ≤ suc (length (touched_from (suc i) c rs))) (λ _. omega (arith, later)) (λ _. omega (arith, later)))
+      | inr off ↦ rw (off, and-false) later
     ]
-  where
-    none_off : (p q : Bool) → q ≡ false → (p && q) ≡ false
-    none_off true q e = e
-    none_off false q e = refl
 
 -- what rules ask takes few variables for each of them
 asked_few : (n c : ℕ) (rs : List Construct) → AllByRecursion (ConstructFits n) rs → variables_of (map free_item (map (λ (r : Construct). after c r.demand) rs)) ≤ 513 * length rs
@@ -186,7 +168,7 @@ read_size b day c [] there = absurd (false≢true there)
 read_size b day c (k ∷ codes) there =
     elim (cases_Bool (eqb k c)) [
       | inl same ↦ omega (arith, ap (λ (n : ℕ). connectives (unbroken b day n)) (eqb-true k c same))
-      | inr apart ↦ omega (arith, read_size b day c codes (sym (ap (λ t. t || list_any (λ j. eqb j c) codes) apart) ∙ there))
+      | inr apart ↦ omega (arith, read_size b day c codes (rw apart at there))
     ]
 
 own_size : (b : Contents) (day : ℕ) (codes : List ℕ) (q : SupplementQuestion) → IsRead b codes q → own_variables b day q + 1 ≤ unbroken_variables b day codes + question_size b q
@@ -265,11 +247,23 @@ pub shared_room : (b : Contents) (day next : ℕ) (codes : List ℕ) (qs : List 
     → next + unbroken_taken b day codes + taken_by (map free_item (all_other b qs)) + length qs < 4294967296
 shared_room b day next codes qs room is = omega (arith, room, is, taken_by-append (construct_items b day) (map free_item (shared_rules b day codes qs)), shared_first b day codes qs)
 
--- The literals of a question are of variables below m, and so are those of its goal's clauses.
+-- The literals of a question are below a bound.
+abbrev PartsBelow : ℕ → List (List ℕ) → Type 0
+PartsBelow m parts = AllByRecursion (λ ls. AllByRecursion (λ l. l < 2 * m) ls) parts
+
 abbrev LitsBelow : ℕ → QuestionLits → Type 0
-LitsBelow m (BreaksLits rule added afterwards) = (rule < 2 * m) × (added < m) × AllByRecursion (λ l. l < 2 * m) afterwards
-LitsBelow m (SwapsLits first first_added second second_added second_afterwards first_afterwards) =
-    (first < 2 * m) × (first_added < m) × (second < 2 * m) × (second_added < m) × (second_afterwards < 2 * m) × (first_afterwards < 2 * m)
+LitsBelow m lits = PartsBelow m (goal_parts lits)
+
+complements_below : (m : ℕ) (ls : List ℕ) → AllByRecursion (λ l. l < 2 * m) ls → AllByRecursion (λ l. l < 2 * m) (map complement ls)
+complements_below m [] h = tt
+complements_below m (l ∷ ls) h = (complement_below l m h.0, complements_below m ls h.1)
+
+breaks_below : (m rule added : ℕ) (afterwards : List ℕ) → rule < 2 * m → added < m → AllByRecursion (λ l. l < 2 * m) afterwards → LitsBelow m (BreaksLits rule added afterwards)
+breaks_below m rule added afterwards one inside rest = ((one, tt), ((negative_below added m inside, tt), (complements_below m afterwards rest, tt)))
+
+swaps_below : (m f c g d h k : ℕ) → AllByRecursion (λ l. l < 2 * m) (f ∷ g ∷ h ∷ k ∷ []) → c < m → d < m → LitsBelow m (SwapsLits f c g d h k)
+swaps_below m f c g d h k all first second =
+    ((all.0, tt), ((negative_below c m first, tt), ((all.1.0, tt), ((negative_below d m second, tt), ((complement_below h m all.1.1.0, (complement_below k m all.1.1.1.0, tt)), tt)))))
 
 literals_below : (n v m : ℕ) (fs : List Rule) → AllBelow n fs → n < v → v + variables_of (map free_item fs) ≤ m → AllByRecursion (λ l. l < 2 * m) (literals_from n v fs)
 literals_below n v m [] below less room = tt
@@ -282,7 +276,7 @@ lits_below b day v m (Breaks place) book fits less room =
     let below = own_below b day (Breaks place) book fits in
     let s : Supplement = rule_at b place in
     let fit = supplement_fits b place book fits in
-    (literal_below n n v m s.rule below.0 (omega arith) less (omega arith), omega (arith, fit.code), literals_below n (v + connectives s.rule) m (afters b day s.code) below.1 (omega arith) (omega arith))
+    breaks_below m _ s.code _ (literal_below n n v m s.rule below.0 (omega arith) less (omega arith)) (omega (arith, fit.code)) (literals_below n (v + connectives s.rule) m (afters b day s.code) below.1 (omega arith) (omega arith))
 lits_below b day v m (Swaps first second) book fits less room =
     let n : ℕ = length b.codes in
     let below = own_below b day (Swaps first second) book fits in
@@ -290,49 +284,17 @@ lits_below b day v m (Swaps first second) book fits less room =
     let t : Supplement = rule_at b second in
     let fit_s = supplement_fits b first book fits.0 in
     let fit_t = supplement_fits b second book fits.1 in
-    let all = literals_below n v m (swaps_own s t) below less room in
-    (all.0, omega (arith, fit_s.code), all.1.0, omega (arith, fit_t.code), all.1.1.0, all.1.1.1.0)
+    swaps_below m _ s.code _ t.code _ _ (literals_below n v m (swaps_own s t) below less room) (omega (arith, fit_s.code)) (omega (arith, fit_t.code))
 
-complements_below : (m : ℕ) (ls : List ℕ) → AllByRecursion (λ l. l < 2 * m) ls → AllByRecursion (λ l. l < 2 * m) (map complement ls)
-complements_below m [] h = tt
-complements_below m (l ∷ ls) h = (complement_below l m h.0, complements_below m ls h.1)
-
-goal_clauses_below : (m w : ℕ) (lits : QuestionLits) → w < m → LitsBelow m lits → AreBelow (2 * m) (goal_clauses w lits)
-goal_clauses_below m w (BreaksLits rule added afterwards) less h =
-    let unless : literal w false < 2 * m = negative_below w m less in (
-      IsBelow-clause_of (2 * m) (literal w false ∷ rule ∷ []) (unless, (h.0, tt)),
-      (
-        IsBelow-clause_of (2 * m) (literal w false ∷ literal added false ∷ []) (unless, (negative_below added m h.1, tt)),
-        (IsBelow-clause_of (2 * m) (literal w false ∷ map complement afterwards) (unless, complements_below m afterwards h.2), tt),
-      ),
-    )
-goal_clauses_below m w (SwapsLits first first_added second second_added second_afterwards first_afterwards) less h =
-    let unless : literal w false < 2 * m = negative_below w m less in (
-      IsBelow-clause_of (2 * m) (literal w false ∷ first ∷ []) (unless, (h.0, tt)),
-      (
-        IsBelow-clause_of (2 * m) (literal w false ∷ literal first_added false ∷ []) (unless, (negative_below first_added m h.1, tt)),
-        (
-          IsBelow-clause_of (2 * m) (literal w false ∷ second ∷ []) (unless, (h.2, tt)),
-          (
-            IsBelow-clause_of (2 * m) (literal w false ∷ literal second_added false ∷ []) (unless, (negative_below second_added m h.3, tt)),
-            (
-              IsBelow-clause_of (2 * m) (literal w false ∷ complement second_afterwards ∷ complement first_afterwards ∷ [])
-                  (unless, (complement_below second_afterwards m h.4, (complement_below first_afterwards m h.5, tt))),
-              tt,
-            ),
-          ),
-        ),
-      ),
-    )
+parts_below : (m w : ℕ) (parts : List (List ℕ)) → w < m → PartsBelow m parts → AreBelow (2 * m) (map (λ ls. clause_of (literal w false ∷ ls)) parts)
+parts_below m w [] less h = tt
+parts_below m w (ls ∷ parts) less h = (IsBelow-clause_of (2 * m) (literal w false ∷ ls) (negative_below w m less, h.0), parts_below m w parts less h.1)
 
 literal_with_below : (m : ℕ) (codes lits : List ℕ) (c : ℕ) → 0 < m → AllByRecursion (λ l. l < 2 * m) lits → literal_with codes lits c < 2 * m
 literal_with_below m [] lits c some below = omega (arith, some)
 literal_with_below m (k ∷ codes) [] c some below = omega (arith, some)
 literal_with_below m (k ∷ codes) (l ∷ lits) c some below =
-    elim (cases_Bool (eqb k c)) [
-      | inl e ↦ subst (λ (n : ℕ). n < 2 * m) (sym (cond-true (eqb k c) l (literal_with codes lits c) e)) below.0
-      | inr e ↦ subst (λ (n : ℕ). n < 2 * m) (sym (cond-false (eqb k c) l (literal_with codes lits c) e)) (literal_with_below m codes lits c some below.1)
-    ]
+    cond_both (eqb k c) _ _ (λ (n : ℕ). n < 2 * m) (λ _. below.0) (λ _. literal_with_below m codes lits c some below.1)
 
 other_lits_below : (b : Contents) (codes known : List ℕ) (v m : ℕ) (q : SupplementQuestion) → IsBook b → QuestionFits b q → AllByRecursion (λ l. l < 2 * m) known → length b.codes < v
     → v + other_variables b q ≤ m → LitsBelow m (other_lits b codes known v q)
@@ -340,13 +302,14 @@ other_lits_below b codes known v m (Breaks place) book fits below less room =
     let n : ℕ = length b.codes in
     let s : Supplement = rule_at b place in
     let fit = supplement_fits b place book fits in
-    (wide_literal_below n n m v s.rule fit.rule.in_range (omega arith) less (omega arith), omega (arith, fit.code), (literal_with_below m codes known s.code (omega arith) below, tt))
+    let read : AllByRecursion (λ l. l < 2 * m) (literal_with codes known s.code ∷ []) = (literal_with_below m codes known s.code (omega arith) below, tt) in
+    breaks_below m _ s.code (literal_with codes known s.code ∷ []) (wide_literal_below n n m v s.rule fit.rule.in_range (omega arith) less (omega arith)) (omega (arith, fit.code)) read
 other_lits_below b codes known v m (Swaps first second) book fits below less room =
     let n : ℕ = length b.codes in
     let fit_s = supplement_fits b first book fits.0 in
     let fit_t = supplement_fits b second book fits.1 in
-    let all = wide_literals_below n n m v (other_own b (Swaps first second)) (other_below b (Swaps first second) book fits) (omega arith) less room in
-    (all.0, omega (arith, fit_s.code), all.1.0, omega (arith, fit_t.code), all.1.1.0, all.1.1.1.0)
+    swaps_below m _ (rule_at b first).code _ (rule_at b second).code _ _ (wide_literals_below n n m v (other_own b (Swaps first second)) (other_below b (Swaps first second) book fits) (omega arith) less room)
+    (omega (arith, fit_s.code)) (omega (arith, fit_t.code))
 
 all_other_lits_below : (b : Contents) (codes known : List ℕ) (v m : ℕ) (qs : List SupplementQuestion) → IsBook b → AllByRecursion (QuestionFits b) qs → AllByRecursion (λ l. l < 2 * m) known
     → length b.codes < v → v + taken_by (map free_item (all_other b qs)) ≤ m → AllByRecursion (LitsBelow m) (all_other_lits b codes known v qs)
@@ -368,7 +331,7 @@ shared_lits_below b day v m codes qs book fits less room =
 goals_below : (w m : ℕ) (lits : List QuestionLits) → AllByRecursion (LitsBelow m) lits → w + length lits ≤ m → AreBelow (2 * m) (all_goal_clauses w lits)
 goals_below w m [] below room = tt
 goals_below w m (l ∷ lits) below room =
-    all-append _ (goal_clauses w l) _ (goal_clauses_below m w l (omega arith) below.0) (goals_below (w + 1) m lits below.1 (omega arith))
+    all-append _ (goal_clauses w l) _ (parts_below m w (goal_parts l) (omega arith) below.0) (goals_below (w + 1) m lits below.1 (omega arith))
 
 length-all_other_lits : (b : Contents) (codes known : List ℕ) (v : ℕ) (qs : List SupplementQuestion) → length (all_other_lits b codes known v qs) ≡ length qs
 length-all_other_lits b codes known v [] = refl

@@ -1,11 +1,12 @@
 -- What an added code changes of the demands of constructibility rules: of those in which it does not stand nothing, and of the
 -- others what `after` says.
 use Rattle.std.proofs.Common.{inl, inr, ◌≡◌, ℕ, zero, suc, ◌+◌, ◌<◌, Bool, true, false, not, ◌&&◌, ◌||◌, eqb, leb, List, [], ◌∷◌, None, Some, length, map, set, refl, sym, ap, ◌∙◌, arith}
+use Rattle.std.proofs.lemmas.Bool.Decides.{nat_tests}
 use Rattle.std.specs.Prelude.{nat_eq}
 use Rattle.std.specs.List.{filter, list_any, list_all, AllByRecursion, IsDistinct}
 use Rattle.std.proofs.lemmas.Bool.{and_left, or_parts, cases_Bool, cases_eq, cond-true, cond-false, eqb-false, eq-eqb, ne_eqb, le-leb, lt-leb, not_from_true, not_from_false, false≢true}
 use Rattle.std.proofs.lemmas.List.{get_or-set_same, get_or-set_other}
-use Rattle.std.proofs.Math.Bool.{and_assoc}
+use Rattle.std.proofs.Math.Bool.{and_assoc, and-true}
 use Rattle.pb_base.specs.Leaves.{with_present}
 use Rattle.pb_base.specs.Rule.{Rule, code, negation, both, either, holds}
 use Rattle.pb_base.specs.Sets.{has}
@@ -24,11 +25,7 @@ use Rattle.supplement_findings.specs.Touching.{touches, after}
 -- none of some codes is present
 
 holds-and_none : (x : List Bool) (f : Rule) (gs : List Rule) → holds (and_none f gs) x ≡ (holds f x && list_all (λ g. not (holds g x)) gs)
-holds-and_none x f [] = sym (and_all (holds f x))
-  where
-    and_all : (t : Bool) → (t && true) ≡ t
-    and_all true = refl
-    and_all false = refl
+holds-and_none x f [] = sym (and-true (holds f x))
 holds-and_none x f (g ∷ gs) = holds-and_none x (both f (negation g)) gs ∙ and_assoc (holds f x) (not (holds g x)) (list_all (λ h. not (holds h x)) gs)
 
 holds-none_rule : (x : List Bool) (gs : List Rule) → holds (none_rule gs) x ≡ list_all (λ g. not (holds g x)) gs
@@ -36,21 +33,17 @@ holds-none_rule x [] = refl
 holds-none_rule x (g ∷ gs) = holds-and_none x (negation g) gs
 
 count_with : (x : List Bool) (k : ℕ) (ks : List ℕ) → has x k ≡ true → present x (k ∷ ks) ≡ 1 + present x ks
-count_with x k ks e = omega (arith, ap length (cond-true (has x k) (k ∷ filter (has x) ks) (filter (has x) ks) e))
+count_with x k ks e = rw e (omega arith)
 
 count_without : (x : List Bool) (k : ℕ) (ks : List ℕ) → has x k ≡ false → present x (k ∷ ks) ≡ present x ks
-count_without x k ks e = ap length (cond-false (has x k) (k ∷ filter (has x) ks) (filter (has x) ks) e)
+count_without x k ks e = rw e refl
 
 none_present : (x : List Bool) (ks : List ℕ) → list_all (λ g. not (holds g x)) (map code ks) ≡ eqb (present x ks) 0
 none_present x [] = refl
 none_present x (k ∷ ks) =
     elim (cases_Bool (has x k)) [
-      | inl there ↦
-          ap (λ t. not t && list_all (λ g. not (holds g x)) (map code ks)) there
-          ∙ sym (ne_eqb (present x (k ∷ ks)) 0 (λ e. omega (arith, count_with x k ks there, e)))
-      | inr gone ↦
-          ap (λ t. not t && list_all (λ g. not (holds g x)) (map code ks)) gone ∙ none_present x ks
-          ∙ ap (λ (n : ℕ). eqb n 0) (sym (count_without x k ks gone))
+      | inl there ↦ rw there (sym (ne_eqb (suc (present x ks)) 0 (λ e. omega (arith, e))))
+      | inr gone ↦ rw gone (none_present x ks)
     ]
 
 -- a group in which the code does not stand
@@ -60,23 +53,22 @@ count_untouched x c (k ∷ ks) h =
     let parts = or_parts (eqb k c) (list_any (λ j. eqb j c) ks) h in
     let same : has (set x c true) k ≡ has x k = get_or-set_other x c k true false (eqb-false k c parts.0) in
     elim (cases_Bool (has x k)) [
-      | inl there ↦ count_with (set x c true) k ks (same ∙ there) ∙ ap (λ (n : ℕ). 1 + n) (count_untouched x c ks parts.1) ∙ sym (count_with x k ks there)
-      | inr gone ↦ count_without (set x c true) k ks (same ∙ gone) ∙ count_untouched x c ks parts.1 ∙ sym (count_without x k ks gone)
+      | inl there ↦ rw (same, there) (ap suc (count_untouched x c ks parts.1))
+      | inr gone ↦ rw (same, gone) (count_untouched x c ks parts.1)
     ]
 
 others_all : (c : ℕ) (ks : List ℕ) → list_any (λ k. eqb k c) ks ≡ false → filter (λ k. not (eqb k c)) ks ≡ ks
 others_all c [] h = refl
 others_all c (k ∷ ks) h =
     let parts = or_parts (eqb k c) (list_any (λ j. eqb j c) ks) h in
-    cond-true (not (eqb k c)) (k ∷ filter (λ j. not (eqb j c)) ks) (filter (λ j. not (eqb j c)) ks) (not_from_false (eqb k c) parts.0)
-    ∙ ap (λ (js : List ℕ). k ∷ js) (others_all c ks parts.1)
+    rw parts.0 (ap (λ (js : List ℕ). k ∷ js) (others_all c ks parts.1))
 
 -- none of the later codes of a group is its first
 apart_from_first : (k c : ℕ) (ks : List ℕ) → k ≡ c → AllByRecursion (λ j. nat_eq k j ≡ false) ks → list_any (λ j. eqb j c) ks ≡ false
 apart_from_first k c [] same h = refl
 apart_from_first k c (j ∷ ks) same h =
     let other : eqb j c ≡ false = ne_eqb j c (λ (e : j ≡ c). eqb-false k j h.0 (same ∙ sym e)) in
-    ap (λ t. t || list_any (λ i. eqb i c) ks) other ∙ apart_from_first k c ks same h.1
+    rw other (apart_from_first k c ks same h.1)
 
 -- a group in which it stands has one code more present than the others are
 count_touched : (x : List Bool) (c : ℕ) (ks : List ℕ) → c < length x → IsDistinct nat_eq ks → list_any (λ k. eqb k c) ks ≡ true
@@ -111,22 +103,10 @@ count_touched x c (k ∷ ks) within distinct h =
     ]
 
 one_of_more : (n : ℕ) → eqb (1 + n) 1 ≡ eqb n 0
-one_of_more n =
-    elim (cases_eq n 0) [
-      | inl none ↦ eq-eqb (1 + n) 1 (omega (arith, none)) ∙ sym (eq-eqb n 0 none)
-      | inr some ↦ ne_eqb (1 + n) 1 (λ (e : 1 + n ≡ 1). some (let k : n ≡ 0 = omega (arith, e) in k)) ∙ sym (ne_eqb n 0 some)
-    ]
+one_of_more n = grind (arith, nat_tests)
 
 most_of_more : (n : ℕ) → leb (1 + n) 1 ≡ eqb n 0
-most_of_more n =
-    elim (cases_eq n 0) [
-      | inl none ↦ le-leb (1 + n) 1 (omega (arith, none)) ∙ sym (eq-eqb n 0 none)
-      | inr some ↦ lt-leb (1 + n) 1 (let more : 1 < 1 + n = positive n some in more) ∙ sym (ne_eqb n 0 some)
-    ]
-  where
-    positive : (k : ℕ) → (k ≡ 0 → ⊥) → 1 < 1 + k
-    positive zero none = absurd (none refl)
-    positive (suc k) none = omega arith
+most_of_more n = grind (arith, nat_tests)
 
 -- a demand in which the code does not stand is met as before
 pub met_untouched : (x : List Bool) (c : ℕ) (d : Demand) → touches c d ≡ false → is_met (set x c true) d ≡ is_met x d
@@ -144,13 +124,8 @@ met_touched n x c (demand.Rule None rule) within fits on_ = sym (holds-with_pres
 met_touched n x c (demand.Rule (Some on) rule) within fits on_ =
     elim (cases_eq on c) [
       | inl same ↦
-          ap (λ t. not t || holds rule (set x c true)) (ap (has (set x c true)) same ∙ get_or-set_same x c true false within)
-          ∙ sym (holds-with_present x c within rule)
-          ∙ ap (λ (f : Rule). holds f x) (sym (cond-true (eqb on c) (with_present c rule) (either (negation (code on)) (with_present c rule)) (eq-eqb on c same)))
-      | inr other ↦
-          ap (λ t. not t || holds rule (set x c true)) (get_or-set_other x c on true false other)
-          ∙ ap (λ t. not (has x on) || t) (sym (holds-with_present x c within rule))
-          ∙ ap (λ (f : Rule). holds f x) (sym (cond-false (eqb on c) (with_present c rule) (either (negation (code on)) (with_present c rule)) (ne_eqb on c other)))
+          rw (eq-eqb on c same, ap (has (set x c true)) same, get_or-set_same x c true false within) (sym (holds-with_present x c within rule))
+      | inr other ↦ rw (ne_eqb on c other, get_or-set_other x c on true false other, holds-with_present x c within rule) refl
     ]
 met_touched n x c (demand.One group) within fits on_ =
     ap (λ (k : ℕ). eqb k 1) (count_touched x c group within fits.distinct on_) ∙ one_of_more (present x (filter (λ k. not (eqb k c)) group))
@@ -167,26 +142,14 @@ broken_after n day x c [] within fits none = refl
 broken_after n day x c (r ∷ rs) within fits none =
     let parts = or_parts (breaks day x r) (list_any (breaks day x) rs) none in
     let later = broken_after n day x c rs within fits.1 parts.1 in
-    let w : Construct → Bool = λ k. is_within k.from k.until day && touches c k.demand in
-    let against : Construct → Bool = λ k. not (holds (after c k.demand) x) in
     elim (cases_Bool (is_within r.from r.until day)) [
       | inl active ↦ elim (cases_Bool (touches c r.demand)) [
         | inl on_ ↦
-            let here : breaks day (set x c true) r ≡ against r =
-            ap (λ t. t && not (is_met (set x c true) r.demand)) active ∙ ap not (met_touched n x c r.demand within fits.0.demand on_) in
-            let kept : w r ≡ true = ap (λ t. t && touches c r.demand) active ∙ on_ in
-            ap (λ t. t || list_any (breaks day (set x c true)) rs) here ∙ ap (λ t. against r || t) later
-            ∙ ap (list_any against) (sym (cond-true (w r) (r ∷ filter w rs) (filter w rs) kept))
+            let here : is_met (set x c true) r.demand ≡ holds (after c r.demand) x = met_touched n x c r.demand within fits.0.demand on_ in
+            rw (active, on_, here, later) refl
         | inr off ↦
-            let here : breaks day (set x c true) r ≡ false =
-            ap (λ t. is_within r.from r.until day && not t) (met_untouched x c r.demand off) ∙ parts.0 in
-            let dropped : w r ≡ false = ap (λ t. t && touches c r.demand) active ∙ off in
-            ap (λ t. t || list_any (breaks day (set x c true)) rs) here ∙ later
-            ∙ ap (list_any against) (sym (cond-false (w r) (r ∷ filter w rs) (filter w rs) dropped))
+            let here : breaks day (set x c true) r ≡ false = ap (λ t. is_within r.from r.until day && not t) (met_untouched x c r.demand off) ∙ parts.0 in
+            rw (here, active, off) later
       ]
-      | inr inactive ↦
-          let here : breaks day (set x c true) r ≡ false = and_left _ _ inactive in
-          let dropped : w r ≡ false = and_left _ _ inactive in
-          ap (λ t. t || list_any (breaks day (set x c true)) rs) here ∙ later
-          ∙ ap (list_any against) (sym (cond-false (w r) (r ∷ filter w rs) (filter w rs) dropped))
+      | inr inactive ↦ rw inactive later
     ]

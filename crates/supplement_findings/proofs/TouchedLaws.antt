@@ -1,7 +1,8 @@
 -- The rules that a code touches, by their places.
 use Rattle.std.proofs.Common.{inl, inr, ◌≡◌, ◌∙◌, ℕ, zero, suc, ◌+◌, ◌≤◌, ◌<◌, Bool, true, false, not, ◌&&◌, ◌||◌, List, [], ◌∷◌, All, length, map, set, drop, get_or, refl, sym, ap, subst, arith}
+use Rattle.std.proofs.Math.Bool.{and-false}
 use Rattle.std.specs.List.{filter, list_any, AllByRecursion}
-use Rattle.std.proofs.lemmas.Bool.{or_parts, cases_Bool, cond-true, cond-false, not-true, and_left}
+use Rattle.std.proofs.lemmas.Bool.{or_parts, cases_Bool, cond-true, cond-false, not-true, and_left, cond_both}
 use Rattle.std.proofs.lemmas.List.Elements.{All-from_recursion}
 use Rattle.book_model.specs.Activity.{is_within}
 use Rattle.book_model.specs.Contents.{Contents}
@@ -33,10 +34,7 @@ touched_within c i n [] few = tt
 touched_within c i n (r ∷ rs) few =
     let later : AllByRecursion (λ p. p < n) (touched_from (suc i) c rs) = touched_within c (suc i) n rs (omega (arith, few)) in
     let here : i < n = omega (arith, few) in
-    elim (cases_Bool (touches c r.demand)) [
-      | inl on_ ↦ subst (AllByRecursion (λ p. p < n)) (sym (cond-true (touches c r.demand) (i ∷ touched_from (suc i) c rs) (touched_from (suc i) c rs) on_)) (here, later)
-      | inr off ↦ subst (AllByRecursion (λ p. p < n)) (sym (cond-false (touches c r.demand) (i ∷ touched_from (suc i) c rs) (touched_from (suc i) c rs) off)) later
-    ]
+    cond_both (touches c r.demand) _ _ (AllByRecursion (λ p. p < n)) (λ _. (here, later)) (λ _. later)
 
 pub all_within : (b : Contents) (c : ℕ) → All (λ p. p < length b.constructs) (touched_from 0 c b.constructs)
 all_within b c = All-from_recursion (λ p. p < length b.constructs) (touched_from 0 c b.constructs) (touched_within c 0 (length b.constructs) b.constructs (omega arith))
@@ -48,36 +46,13 @@ active_touched all day c i [] e = refl
 active_touched all day c i (r ∷ rs) e =
     let next = next_of all i r rs e in
     let later = active_touched all day c (suc i) rs next.later in
-    let at : ℕ → Construct = λ p. get_or all p no_construct in
-    let w : Construct → Bool = λ k. is_within k.from k.until day && touches c k.demand in
-    let ps : List ℕ = touched_from (suc i) c rs in
     elim (cases_Bool (touches c r.demand)) [
-      | inl on_ ↦
-          let first : filter (is_active_rule day) (map at (touched_from i c (r ∷ rs))) ≡ filter (is_active_rule day) (r ∷ map at ps) =
-          ap (λ (qs : List ℕ). filter (is_active_rule day) (map at qs)) (cond-true (touches c r.demand) (i ∷ ps) ps on_)
-          ∙ ap (λ (k : Construct). filter (is_active_rule day) (k ∷ map at ps)) next.here in
-          elim (cases_Bool (is_within r.from r.until day)) [
-            | inl active ↦
-                let kept : w r ≡ true = ap (λ t. t && touches c r.demand) active ∙ on_ in
-                first ∙ cond-true (is_within r.from r.until day) (r ∷ filter (is_active_rule day) (map at ps)) (filter (is_active_rule day) (map at ps)) active
-                ∙ ap (λ (ks : List Construct). r ∷ ks) later
-                ∙ sym (cond-true (w r) (r ∷ filter w rs) (filter w rs) kept)
-            | inr inactive ↦
-                let dropped : w r ≡ false = and_left _ _ inactive in
-                first ∙ cond-false (is_within r.from r.until day) (r ∷ filter (is_active_rule day) (map at ps)) (filter (is_active_rule day) (map at ps)) inactive
-                ∙ later
-                ∙ sym (cond-false (w r) (r ∷ filter w rs) (filter w rs) dropped)
-          ]
-      | inr off ↦
-          let dropped : w r ≡ false = and_off (is_within r.from r.until day) (touches c r.demand) off in
-          ap (λ (qs : List ℕ). filter (is_active_rule day) (map at qs)) (cond-false (touches c r.demand) (i ∷ ps) ps off)
-          ∙ later
-          ∙ sym (cond-false (w r) (r ∷ filter w rs) (filter w rs) dropped)
+      | inl on_ ↦ elim (cases_Bool (is_within r.from r.until day)) [
+        | inl active ↦ rw (on_, next.here, active) (ap (λ (ks : List Construct). r ∷ ks) later)
+        | inr inactive ↦ rw (on_, next.here, inactive) later
+      ]
+      | inr off ↦ rw (off, and-false) later
     ]
-  where
-    and_off : (p q : Bool) → q ≡ false → (p && q) ≡ false
-    and_off true q h = h
-    and_off false q h = refl
 
 pub afters_touched : (b : Contents) (day c : ℕ) → afters_at b day c (touched_from 0 c b.constructs) ≡ afters b day c
 afters_touched b day c = ap (map (λ (r : Construct). after c r.demand)) (active_touched b.constructs day c 0 b.constructs refl)
@@ -90,18 +65,11 @@ broken_touched all day x c i (r ∷ rs) e none =
     let next = next_of all i r rs e in
     let parts = or_parts (breaks day x r) (list_any (breaks day x) rs) none in
     let later = broken_touched all day x c (suc i) rs next.later parts.1 in
-    let larger : List Bool = set x c true in
-    let broken : ℕ → Bool = λ p. breaks day larger (get_or all p no_construct) in
-    let ps : List ℕ = touched_from (suc i) c rs in
     elim (cases_Bool (touches c r.demand)) [
-      | inl on_ ↦
-          ap (list_any broken) (cond-true (touches c r.demand) (i ∷ ps) ps on_)
-          ∙ ap (λ t. t || list_any broken ps) (ap (breaks day larger) next.here)
-          ∙ ap (λ t. breaks day larger r || t) later
+      | inl on_ ↦ rw (on_, next.here, later) refl
       | inr off ↦
-          let here : breaks day larger r ≡ false = ap (λ t. is_within r.from r.until day && not t) (met_untouched x c r.demand off) ∙ parts.0 in
-          ap (list_any broken) (cond-false (touches c r.demand) (i ∷ ps) ps off) ∙ later
-          ∙ sym (ap (λ t. t || list_any (breaks day larger) rs) here)
+          let here : breaks day (set x c true) r ≡ false = ap (λ t. is_within r.from r.until day && not t) (met_untouched x c r.demand off) ∙ parts.0 in
+          rw (off, here) later
     ]
 
 pub broken_at : (b : Contents) (day : ℕ) (x : List Bool) (c : ℕ) → is_constructible b day x ≡ true

@@ -62,16 +62,16 @@ abbrev pub question_lits : Contents → ℕ → ℕ → SupplementQuestion → Q
 question_lits b day v (Breaks place) = breaks_lits b day v (rule_at b place)
 question_lits b day v (Swaps first second) = swaps_lits (length b.codes) v (rule_at b first) (rule_at b second)
 
--- the rule's formula is true and its code absent, and not all that is asked of the set with the code is true; or both rules'
--- formulas are true and their codes absent, and not both formulas stay true
+-- one of each of these literals has to be true: the rule's formula is true and its code absent, and not all that is asked of the set
+-- with the code is true; or both rules' formulas are true and their codes absent, and not both formulas stay true
+abbrev pub goal_parts : QuestionLits → List (List ℕ)
+goal_parts (BreaksLits rule added afterwards) = (rule ∷ []) ∷ (literal added false ∷ []) ∷ map complement afterwards ∷ []
+goal_parts (SwapsLits first first_added second second_added second_afterwards first_afterwards) =
+    (first ∷ []) ∷ (literal first_added false ∷ []) ∷ (second ∷ []) ∷ (literal second_added false ∷ [])
+    ∷ (complement second_afterwards ∷ complement first_afterwards ∷ []) ∷ []
+
 abbrev pub goal_clauses : ℕ → QuestionLits → List (List ℕ)
-goal_clauses w (BreaksLits rule added afterwards) =
-    clause_of (literal w false ∷ rule ∷ []) ∷ clause_of (literal w false ∷ literal added false ∷ [])
-    ∷ clause_of (literal w false ∷ map complement afterwards) ∷ []
-goal_clauses w (SwapsLits first first_added second second_added second_afterwards first_afterwards) =
-    clause_of (literal w false ∷ first ∷ []) ∷ clause_of (literal w false ∷ literal first_added false ∷ [])
-    ∷ clause_of (literal w false ∷ second ∷ []) ∷ clause_of (literal w false ∷ literal second_added false ∷ [])
-    ∷ clause_of (literal w false ∷ complement second_afterwards ∷ complement first_afterwards ∷ []) ∷ []
+goal_clauses w lits = map (λ ls. clause_of (literal w false ∷ ls)) (goal_parts lits)
 
 -- the goals of several, each behind the other
 abbrev pub all_goal_clauses : ℕ → List QuestionLits → List (List ℕ)

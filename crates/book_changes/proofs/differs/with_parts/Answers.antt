@@ -6,7 +6,7 @@ use Rattle.std.proofs.lemmas.List.Elements.{All-get_or}
 use Rattle.book_compare.specs.declared.note.CompareNote.{CompareNote}
 use Rattle.book_changes.specs.Differs.{IsSelected, IsTrueNote}
 use Rattle.book_changes.specs.declared.run.DifferNote.{DifferNote}
-use Rattle.book_changes.proofs.RunLaws.{zip_push}
+use Rattle.shared_work.proofs.JoinLaws.{zip-append}
 use Rattle.book_changes.proofs.differs.with_parts.Goals as goal
 
 pub note_with_parts-requires-clause-note : goal.note_with_parts-requires-clause-note
@@ -20,7 +20,7 @@ pub loop-note-preserved : goal.loop-note-preserved
 loop-note-preserved c =
     let selected = IsSelected c.args.first.now.book c.args.second.now.book c.args.run.first in
     subst (λ (ms : List DifferNote). AllZip selected (c.loop-note.yielded ++ c.in-Some.note ∷ []) ms) (sym c.in_ok-push.ensures.items)
-    (zip_push selected c.loop-note.yielded c.in-Some.note c.loop-note.made.items c.in_ok-own.own c.loop-note.invariant c.in_ok-own.ensures)
+    (zip-append selected c.loop-note.yielded (c.in-Some.note ∷ []) c.loop-note.made.items (c.in_ok-own.own ∷ []) c.loop-note.invariant (c.in_ok-own.ensures, tt))
 
 pub returns : goal.returns
 returns c =
