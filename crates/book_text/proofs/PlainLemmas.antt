@@ -1,5 +1,5 @@
 -- A text without a quotation mark is parted by its commas and its line ends alone.
-use Rattle.std.proofs.Common.{◌≡◌, ◌≤◌, ◌<◌, ◌+◌, ◌⊎◌, ℕ, zero, suc, Bool, true, false, List, [], ◌∷◌, ◌++◌, length, take, drop, map, get_or, get_or-drop, length-drop, append_assoc, append-nil, Option, Some, None, refl, sym, ap, ◌∙◌, inl, inr, arith, subst, eqb, leb, eq-eqb, if◌then◌else◌}
+use Rattle.std.proofs.Common.{◌≡◌, ◌≤◌, ◌<◌, ◌+◌, ◌⊎◌, ℕ, zero, suc, Bool, true, false, List, [], ◌∷◌, ◌++◌, length, take, drop, map, get_or, get_or-drop, length-drop, append_assoc, append-nil, Option, Some, None, refl, sym, ap, ◌∙◌, inl, inr, arith, subst, eqb, leb, if◌then◌else◌}
 use Rattle.std.specs.Borrow.{Bor}
 use Rattle.std.proofs.lemmas.List.{drop_all, drop_more, map-append}
 use Rattle.std.proofs.lemmas.Bool.{and_from, and_parts, cases_Bool, cases_order, cond-true, cond-false, eqb-true, le-leb, ne_eqb}
@@ -10,7 +10,6 @@ use Rattle.csv.specs.declared.parser.State.{State}
 use Rattle.csv.specs.declared.parser.State.TheVariants as st
 use Rattle.csv.specs.declared.parser.Action.{Action}
 use Rattle.csv.specs.declared.parser.Action.TheVariants as act
-use Rattle.memchr.specs.Find.{Nowhere, Passes, is_byte}
 use Rattle.book_text.specs.Plain.{plain_rows, HasNoQuote, IsLineEnd, NoLineEnd, EndsField, IsRowRead, has_mark}
 use Rattle.book_text.specs.Rows.{Row}
 use Rattle.book_text.specs.Unread.{rows_from}
@@ -260,9 +259,6 @@ unmarked (a ∷ b ∷ c ∷ rest) h =
       | inl is ↦ absurd (let both = and_from (leb 3 (length (a ∷ b ∷ c ∷ rest))) (is_bom a b c) (le-leb 3 (length (a ∷ b ∷ c ∷ rest)) (omega arith)) is in cc)
       | inr none ↦ sym (cond-false (is_bom a b c) rest (a ∷ b ∷ c ∷ rest) none)
     ]
-
-pub none_found : (text : List ℕ) → Nowhere (Passes (is_byte 34) text) 0 (length text) → HasNoQuote text
-none_found text none k below is = none k (omega arith) below (eq-eqb (get_or text k 0) 34 is)
 
 -- a field that stands in the text
 pub field_there : (fields : List (Bor (List ℕ))) (place : ℕ) (field : Bor (List ℕ)) → place < length fields → field ≡ get_or fields place field

@@ -20,4 +20,7 @@ mod text_row;
 mod texts;
 
 pub use fault::{BookFault, BookKind, Which};
-pub use read::read_book;
+pub use fields::{Days, days_in, field, is_width, name_in, part_in};
+pub use read::{is_text, read_book};
+pub use row_reader::RowReader;
+pub use text_row::TextRow;

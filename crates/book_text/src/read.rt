@@ -41,8 +41,8 @@ pub fn read_book(alloc: Global, text: &[u8]) -> Result<Book, Fail<BookFault>>
     book_of_rows(alloc, &mut rows)
 }
 
-// Whether the bytes are UTF-8.
-fn is_text(bytes: &[u8]) -> bool
+/// Whether the bytes are UTF-8.
+pub fn is_text(bytes: &[u8]) -> bool
     ensures { result ≡ is_utf8 bytes.now }
 {
     match std::str::from_utf8(bytes) {

@@ -1,16 +1,11 @@
 -- The steps of reading a text of requirements, from its bytes to the passes.
-use Rattle.std.proofs.Common.{◌≡◌, ◌≤◌, ◌<◌, Bool, true, false, ℕ, List, length, Result, Err, refl, arith, nat_lt}
+use Rattle.std.proofs.Common.{◌≡◌, ◌≤◌, ◌<◌, Bool, true, false, ℕ, List, length, Err, refl, arith, nat_lt}
 use Rattle.std.specs.Str.{is_utf8}
-use Rattle.pb_base.specs.Answers.{Gives}
-use Rattle.pb_base.specs.Results.{and_then}
-use Rattle.pb_base.specs.declared.answer.Fail.{Fail}
-use Rattle.pb_base.specs.declared.answer.Fail.TheVariants.{Refused, Memory}
 use Rattle.pb_base.specs.declared.limits.TheConstants.{MOST_TEXT_BYTES}
 use Rattle.book_model.specs.Contents.{Contents}
 use Rattle.book_text.specs.Rows.{rows_of}
 use Rattle.book_text.specs.declared.fault.BookKind.TheVariants.{TooLarge, NotUtf8}
 use Rattle.requirements.specs.Requirements.{requirements_of, requirements_of_rows}
-use Rattle.requirements.specs.declared.fault.RequirementFault.{RequirementFault}
 use Rattle.requirements.specs.declared.fault.RequirementKind.TheVariants.{AsInBooks}
 
 module _ (b : Contents) (text : List ℕ) where
@@ -25,9 +20,3 @@ module _ (b : Contents) (text : List ℕ) where
   pub of-rows : length text ≤ MOST_TEXT_BYTES → is_utf8 text ≡ true → requirements_of b text ≡ requirements_of_rows b (rows_of text)
   unfolding requirements_of
   of-rows h u = let small : nat_lt MOST_TEXT_BYTES (length text) ≡ false = grind arith in rw (small, u) refl
-
--- a fault of a step is the fault of what follows it
-pub refused-through : {U A B : Type 0} (error : Fail RequirementFault) (view : U → A) (answer : Result A RequirementFault) (f : A → Result B RequirementFault)
-    {V : Type 0} (other : V → B) → Gives {U = U} (Err error) view answer → Gives {U = V} (Err error) other (and_then answer f)
-refused-through (Refused fault) view answer f other h = rw h refl
-refused-through Memory view answer f other h = tt

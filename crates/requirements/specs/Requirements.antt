@@ -18,7 +18,7 @@ use Rattle.requirements.specs.Stated.{stated_with}
 use Rattle.requirements.specs.declared.fault.RequirementFault.{RequirementFault}
 use Rattle.requirements.specs.declared.fault.RequirementKind.{RequirementKind}
 use Rattle.requirements.specs.declared.fault.RequirementKind.TheVariants.{AsInBooks}
-use Rattle.requirements.specs.declared.fields.Days.{Days}
+use Rattle.book_text.specs.declared.fields.Days.{Days}
 use Rattle.requirements.specs.declared.requirement.Claim.{Claim}
 use Rattle.requirements.specs.declared.requirement.Claim.TheVariants.{Meets, Uses}
 use Rattle.requirements.specs.declared.requirement.Requirement.{Requirement}

@@ -2,30 +2,22 @@
 -- is read later.
 --     require   ID, RULE, FROM, UNTIL
 --     uses      ID, PART, RULE, FROM, UNTIL
-use Rattle.std.specs.Prelude.{ℕ, Bool, not, ◌&&◌, ◌≤◌, List, [], ◌∷◌, ◌++◌, Option, Some, None, Result, Ok, Err, codes, length, map, is_some, nat_lt, nat_le, if◌then◌else◌}
+use Rattle.std.specs.Prelude.{ℕ, ◌≤◌, List, [], ◌∷◌, ◌++◌, Option, Some, None, Result, Ok, Err, codes, length, map, is_some, nat_le, if◌then◌else◌}
 use Rattle.pb_base.specs.Names.{place_in, same_name}
 use Rattle.pb_base.specs.Results.{and_then}
 use Rattle.pb_base.specs.declared.limits.TheConstants.{MOST_TEXT_BYTES}
 use Rattle.book_text.specs.Entry.{of_width}
-use Rattle.book_text.specs.Fields.{field, is_empty, name_in, part_in, day_or}
+use Rattle.book_text.specs.Fields.{field, name_in, part_in, days_in}
 use Rattle.book_text.specs.Rows.{Row}
 use Rattle.book_text.specs.declared.fault.BookKind.{BookKind}
-use Rattle.book_text.specs.declared.fault.BookKind.TheVariants.{UnknownKind, BadDays, Duplicate}
+use Rattle.book_text.specs.declared.fault.BookKind.TheVariants.{UnknownKind, Duplicate}
 use Rattle.requirements.specs.Fault.{as_in_books}
 use Rattle.requirements.specs.declared.fault.RequirementKind.{RequirementKind}
 use Rattle.requirements.specs.declared.fault.RequirementKind.TheVariants.{AsInBooks, TooMany}
-use Rattle.requirements.specs.declared.fields.Days.{Days}
+use Rattle.book_text.specs.declared.fields.Days.{Days}
 use Rattle.requirements.specs.declared.requirement.TheConstants.{MOST_REQUIREMENTS}
 use Rattle.requirements.specs.declared.stated.Head.{Head}
 use Rattle.requirements.specs.declared.stated.Stated.{Stated}
-
--- an empty field takes the term's day, and where both days are written the first is not after the last
-abbrev pub days_in : Days → List ℕ → List ℕ → Result Days BookKind
-days_in term first last =
-    and_then (day_or term.from first) (λ from.
-    and_then (day_or term.until last) (λ until.
-    if not (is_empty first) && not (is_empty last) && nat_lt until from then Err BadDays
-    else Ok (record { from = from; until = until })))
 
 abbrev pub require_head : Days → Row → Result Head BookKind
 require_head term row = of_width 5 row (

@@ -2,10 +2,8 @@
 #![tactic(auto)]
 
 mod fault;
-mod fields;
 mod read;
 mod requirement;
-mod row_reader;
 mod stated;
 
 pub use fault::{RequirementFault, RequirementKind};

@@ -1,6 +1,5 @@
 //! The requirements of a text.
 ghost use Rattle.std.specs.Prelude.{◌≡◌, ◌≤◌, ◌^◌, ◌<◌, [], All, IfOk, OnOk, length};
-ghost use Rattle.std.specs.Str.{is_utf8};
 ghost use Rattle.pb_base.specs.Answers.{Answers, Gives, Leaves};
 ghost use Rattle.pb_base.specs.declared.answer.Fail.{Fail};
 ghost use Rattle.pb_base.specs.declared.limits.TheConstants.{MOST_TEXT_BYTES};
@@ -9,13 +8,10 @@ ghost use Rattle.requirements.specs.Requirements.{requirement_of, with_requireme
 ghost use Rattle.requirements.specs.Stated.{stated_with, IsShortText};
 
 use crate::fault::{RequirementFault, RequirementKind};
-use crate::fields::Days;
 use crate::requirement::{Claim, Requirement};
-use crate::row_reader::RowReader;
 use crate::stated::{Head, Stated, state_row};
 use book_model::Book;
-use book_text::BookKind;
-use csv::ByteRecord;
+use book_text::{BookKind, Days, RowReader, TextRow, is_text};
 use pb_base::limits::MOST_TEXT_BYTES;
 use pb_base::{CodeTable, Fail, Formula, Id, Table};
 use rule_text::read_rule;
@@ -40,16 +36,6 @@ pub fn read_requirements(
     }
     let mut rows = RowReader::of(alloc, text);
     requirements_of_rows(alloc, book, &mut rows)
-}
-
-// Whether the bytes are UTF-8.
-fn is_text(bytes: &[u8]) -> bool
-    ensures { result ≡ is_utf8 bytes.now }
-{
-    match std::str::from_utf8(bytes) {
-        Ok(_) => true,
-        Err(_) => false,
-    }
 }
 
 // A fault of the text as a whole.
@@ -97,7 +83,7 @@ fn state_rows(
     ensures few { OnOk result (length stated.new.items ≤ MOST_TEXT_BYTES) }
 {
     let mut ids = Table::new(alloc);
-    let mut row = ByteRecord::new(alloc);
+    let mut row = TextRow::new(alloc);
     'rows: while rows.read(&mut row)? {
         match state_row(alloc, term, &row, &mut ids) {
             Ok(own) => stated.push(own)?,

@@ -1,6 +1,5 @@
 //! What a row states by itself, with the text of its rule.
 ghost use Rattle.std.specs.Prelude.{◌≡◌, ◌≤◌, ◌++◌, ◌∷◌, [], List, IfOk, length, if◌then◌else◌};
-ghost use Rattle.csv.specs.Records.{fields_of};
 ghost use Rattle.pb_base.specs.Answers.{Gives, Leaves};
 ghost use Rattle.pb_base.specs.declared.limits.TheConstants.{MOST_TEXT_BYTES};
 ghost use Rattle.book_text.specs.Rows.{IsShort};
@@ -8,10 +7,8 @@ ghost use Rattle.requirements.specs.Stated.{head_of, require_head, uses_head, te
 ghost use Rattle.requirements.specs.declared.stated.Stated.{Stated};
 
 use crate::fault::RequirementKind;
-use crate::fields::{Days, days_in, field, is_width, name_in, part_in};
 use crate::requirement::MOST_REQUIREMENTS;
-use book_text::BookKind;
-use csv::ByteRecord;
+use book_text::{BookKind, Days, TextRow, days_in, field, is_width, name_in, part_in};
 use pb_base::{Body, Fail, Id, Memory, Part, Sequence, Table};
 use std::alloc::Global;
 
@@ -31,8 +28,8 @@ pub struct Stated {
 }
 
 // The head of a row by itself, on a book of this term.
-fn head_of(term: Days, row: &ByteRecord) -> Result<Head, BookKind>
-    ensures { result ≡ head_of term (fields_of row.now) }
+fn head_of(term: Days, row: &TextRow<'_>) -> Result<Head, BookKind>
+    ensures { result ≡ head_of term row.now }
 {
     let word = field(row, 0);
     if word == b"require".as_slice() {
@@ -44,8 +41,8 @@ fn head_of(term: Days, row: &ByteRecord) -> Result<Head, BookKind>
     }
 }
 
-fn require_head(term: Days, row: &ByteRecord) -> Result<Head, BookKind>
-    ensures { result ≡ require_head term (fields_of row.now) }
+fn require_head(term: Days, row: &TextRow<'_>) -> Result<Head, BookKind>
+    ensures { result ≡ require_head term row.now }
 {
     if !is_width(row, 5) {
         return Err(BookKind::FieldCount);
@@ -59,8 +56,8 @@ fn require_head(term: Days, row: &ByteRecord) -> Result<Head, BookKind>
     })
 }
 
-fn uses_head(term: Days, row: &ByteRecord) -> Result<Head, BookKind>
-    ensures { result ≡ uses_head term (fields_of row.now) }
+fn uses_head(term: Days, row: &TextRow<'_>) -> Result<Head, BookKind>
+    ensures { result ≡ uses_head term row.now }
 {
     if !is_width(row, 6) {
         return Err(BookKind::FieldCount);
@@ -76,8 +73,8 @@ fn uses_head(term: Days, row: &ByteRecord) -> Result<Head, BookKind>
 }
 
 // The text of the rule of a row with this head.
-fn text_of<'r>(head: &Head, row: &'r ByteRecord) -> &'r [u8]
-    ensures { result.now ≡ text_of head.now.part (fields_of row.now) }
+fn text_of<'r>(head: &Head, row: &'r TextRow<'_>) -> &'r [u8]
+    ensures { result.now ≡ text_of head.now.part row.now }
 {
     match head.part {
         None => field(row, 2),
@@ -96,12 +93,12 @@ fn copied(alloc: Global, text: &[u8]) -> Result<Body, Memory>
 pub fn state_row(
     alloc: Global,
     term: Days,
-    row: &ByteRecord,
+    row: &TextRow<'_>,
     ids: &mut Table<Id>,
 ) -> Result<Stated, Fail<RequirementKind>>
-    requires short { IsShort (fields_of row.now) }
+    requires short { IsShort row.now }
     ensures stated { (before : List Stated) → ids.old ≡ ids_of before
-        → Gives result (λ s. before ++ s ∷ []) (stated_with term before (fields_of row.now)) }
+        → Gives result (λ s. before ++ s ∷ []) (stated_with term before row.now) }
     ensures ids { IfOk result (λ s. ids.new ≡ ids.old ++ s.head.id ∷ []) }
     ensures short { IfOk result (λ s. length s.text ≤ MOST_TEXT_BYTES) }
 {

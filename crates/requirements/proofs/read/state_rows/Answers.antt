@@ -1,7 +1,6 @@
 use Rattle.std.proofs.Common.{◌≡◌, ◌+◌, ◌<◌, ◌++◌, [], ◌∷◌, List, Ok, length, map, refl, sym, ap, ◌∙◌, arith}
 use Rattle.std.proofs.lemmas.List.{length_push, map-append}
 use Rattle.std.proofs.lemmas.List.Elements.{All-push}
-use Rattle.csv.specs.Records.{fields_of}
 use Rattle.requirements.specs.Pass.{pass}
 use Rattle.requirements.specs.Stated.{stated_with, ids_of, IsShortText}
 use Rattle.requirements.specs.declared.stated.Stated.{Stated}
@@ -19,7 +18,7 @@ rows-init c = record {
 pub rows-preserved : goal.rows-preserved
 rows-preserved c =
     let inv = c.rows.invariant in
-    let row = fields_of c.read.new.row in
+    let row = c.read.new.row in
     let next : c.rows.rows ≡ row ∷ c.read.new.self = rw c.if-branch.true at c.in_ok-read.ensures.next in
     let step = stated_with c.args.term in
     let before = c.rows.stated.items in
@@ -41,14 +40,14 @@ rows-preserved c =
 
 pub rows-smaller : goal.rows-smaller
 rows-smaller c =
-    let next : c.rows.rows ≡ fields_of c.read.new.row ∷ c.read.new.self = rw c.if-branch.true at c.in_ok-read.ensures.next in
+    let next : c.rows.rows ≡ c.read.new.row ∷ c.read.new.self = rw c.if-branch.true at c.in_ok-read.ensures.next in
     let fewer : length c.read.new.self < length c.rows.rows = omega (arith, ap length next) in
     fewer
 
 pub returns-in-Err-Refused-clause-stated : goal.returns-in-Err-Refused-clause-stated
 returns-in-Err-Refused-clause-stated c =
     let inv = c.rows.invariant in
-    let row = fields_of c.read.new.row in
+    let row = c.read.new.row in
     let next : c.rows.rows ≡ row ∷ c.read.new.self = rw c.if-branch.true at c.in_ok-read.ensures.next in
     let step = stated_with c.args.term in
     let before = c.rows.stated.items in

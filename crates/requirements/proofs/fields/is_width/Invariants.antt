@@ -1,9 +1,0 @@
-use Rattle.std.proofs.Common.{◌≡◌, drop}
-use Rattle.std.specs.List.{list_all}
-use Rattle.csv.specs.Records.{fields_of}
-use Rattle.book_text.specs.Fields.{is_empty}
-use Rattle.requirements.proofs.fields.is_width.Given as goal
-
--- what is left is empty exactly where all behind the width is
-abbrev pub invariant-loop-place : goal.invariant-loop-place
-invariant-loop-place l = list_all is_empty (drop l.place (fields_of l.row)) ≡ list_all is_empty (drop l.width (fields_of l.row))
