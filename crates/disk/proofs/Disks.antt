@@ -4,8 +4,9 @@ use Rattle.std.specs.Prelude.{Result, Ok, Err, OnErr, is_ok, if◌then◌else◌
 use Rattle.disk.specs.Disk.{Overwrites, IsCut, Follows, Elapses}
 use Rattle.disk.specs.Tape.{Done, Wrote, Cut, Synced, Tape, content_after, leaves_after, synced_after, content_of, BeginsWithin, AreWithin, left_now, left_synced, synced_within, LeftSince}
 use Rattle.disk.specs.declared.memory_disk.Call.{Call}
+use Rattle.disk.specs.declared.memory_disk.Call.TheVariants as call
 use Rattle.disk.specs.declared.memory_disk.MemoryDisk.TheInside.{Inside}
-use Rattle.disk.specs.Calls.{dones, total}
+use Rattle.disk.specs.Calls.{dones, total, IsQuiet, quiet}
 use Rattle.disk.specs.MemoryDisk.{tape_of, HasMemory, IsKept}
 use Rattle.disk.proofs.Tapes.{content_more, leaves_to, synced_to, time_of, dones_other, total_more}
 use Rattle.disk.proofs.Replays.{keeps_call}
@@ -82,11 +83,20 @@ recorded d tape calls' c e tape_is is more =
     let here : dones calls' d.written.items ≡ dones d.calls.items d.written.items ++ e ∷ [] = ap (λ cs. dones cs d.written.items) more ∙ dones_other d.calls.items d.written.items c e is.0 in
     subst (λ (t : Tape). dones calls' d.written.items ≡ t.calls ++ e ∷ []) tape_is here
 
--- a place within the file that is told
-pub within_file : (d : Inside) (tape : Tape) (at : ℕ) → IsKept d → tape_of d ≡ tape → at ≤ length (content_of tape.first tape.calls) → at ≤ length d.content.items
-within_file d tape at kept tape_is le =
+-- what changes no byte of the file is none that writes
+pub quiet_call : (c : Call) → IsQuiet c → Is c (quiet c) × ((file : List ℕ) → file ≡ content_after file (quiet c))
+quiet_call (call.Wrote at len) h = absurd h
+quiet_call (call.TriedWrite at len) h = (((λ bytes. refl), refl), (λ file. refl))
+quiet_call (call.Cut len) h = absurd h
+quiet_call (call.TriedCut len) h = (((λ bytes. refl), refl), (λ file. refl))
+quiet_call call.Synced h = (((λ bytes. refl), refl), (λ file. refl))
+quiet_call call.TriedSync h = (((λ bytes. refl), refl), (λ file. refl))
+
+-- what begins within the file that is told
+pub begins_file : (d : Inside) (tape : Tape) (e : Done) → IsKept d → tape_of d ≡ tape → BeginsWithin (content_of tape.first tape.calls) e → BeginsWithin d.content.items e
+begins_file d tape e kept tape_is begins =
     let is : d.content.items ≡ content_of tape.first tape.calls = subst (λ (t : Tape). d.content.items ≡ content_of t.first t.calls) tape_is kept.content in
-    omega (arith, ap length is, le)
+    subst (λ file. BeginsWithin file e) (sym is) begins
 
 -- a place for one call more
 pub has_place : (d : Inside) (tape : Tape) → tape_of d ≡ tape → 0 < tape.calls_left → 0 < d.calls_left

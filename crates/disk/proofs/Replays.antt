@@ -1,6 +1,6 @@
 -- The calls of a disk in memory, gone through again.
 use Rattle.std.proofs.Common.{◌≡◌, inl, inr, ℕ, suc, ◌+◌, ◌<◌, ◌≤◌, max, get_or, drop-cons, List, [], ◌∷◌, ◌++◌, length, take, drop, refl, sym, ap, subst, ◌∙◌, append_assoc, arith, length-append, length-drop, length-take}
-use Rattle.std.proofs.lemmas.List.{length-take-le, append-nil}
+use Rattle.std.proofs.lemmas.List.{length-take-le}
 use Rattle.disk.specs.declared.memory_disk.Call.{Call}
 use Rattle.disk.specs.declared.memory_disk.Call.TheVariants as call
 use Rattle.disk.specs.Disk.{overwritten, Torn}
@@ -30,18 +30,6 @@ pub record IsReplayed (first : List ℕ) (all : List Done) (calls : List Call) (
   pub kept_reaches : length (content_of first front) ≤ length kept
   pub reaches : length (content_of first front) ≤ length image
   pub bytes_left : total calls ≡ length bytes
-
-pub replay_none : (first bytes : List ℕ) (calls : List Call) (kept image : List ℕ) → total calls ≡ length bytes → kept ≡ first → image ≡ first
-    → IsReplayed first (dones calls bytes) calls bytes kept image
-replay_none first bytes calls kept image fits kept_is image_is = record {
-  front = [];
-  split = refl;
-  lasts = kept_is;
-  left = image_is;
-  kept_reaches = omega (arith, ap length kept_is);
-  reaches = omega (arith, ap length image_is);
-  bytes_left = fits;
-}
 
 -- the same of texts that are equal
 pub replayed_as : (first : List ℕ) (all : List Done) (calls : List Call) (bytes bytes' kept kept' image image' : List ℕ) → IsReplayed first all calls bytes kept image
@@ -172,9 +160,6 @@ module _ (first : List ℕ) (all : List Done) (within : AreWithin first all) (re
         reaches = omega (arith, content_is, r.reaches);
         bytes_left = r.bytes_left;
       }
-
-pub replay_all : (first : List ℕ) (all : List Done) (bytes kept image : List ℕ) → IsReplayed first all [] bytes kept image → left_now first all image
-replay_all first all bytes kept image r = subst (λ ds. left_now first ds image) (sym (r.split ∙ append-nil r.front)) r.left
 
 -- one call more keeps what is so of a disk
 pub keeps_call : (first content content' : List ℕ) (ds ds' : List Done) (c : Done) → content ≡ content_of first ds → AreWithin first ds → ds' ≡ ds ++ c ∷ [] → BeginsWithin content c

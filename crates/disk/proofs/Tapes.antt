@@ -38,9 +38,6 @@ within_more file (d ∷ calls) c within one = (within.0, within_more (content_af
 
 -- ---- time
 
-pub no_time : (first : List ℕ) (calls : List Done) → Elapses (length calls) (length calls) (LeftSince first calls) (LeftSince first calls) (left_now first calls)
-no_time first calls = record { later = omega arith; nothing_else = λ t image le since. inl since; keeps = λ t image le since. since }
-
 front_same : (calls : List Done) (c : Done) (k : ℕ) → k ≤ length calls → take k (calls ++ c ∷ []) ≡ take k calls
 front_same calls c k le = take-append-le k calls (c ∷ []) le
 

@@ -22,3 +22,21 @@ total (call.Cut len ∷ calls) = total calls
 total (call.TriedCut len ∷ calls) = total calls
 total (call.Synced ∷ calls) = total calls
 total (call.TriedSync ∷ calls) = total calls
+
+-- a call that changes no byte of the file
+abbrev pub IsQuiet : Call → Type 0
+IsQuiet (call.Wrote at len) = ⊥
+IsQuiet (call.TriedWrite at len) = Unit {0}
+IsQuiet (call.Cut len) = ⊥
+IsQuiet (call.TriedCut len) = Unit {0}
+IsQuiet call.Synced = Unit {0}
+IsQuiet call.TriedSync = Unit {0}
+
+-- what such a call came to
+abbrev pub quiet : Call → Done
+quiet (call.Wrote at len) = Wrote at []
+quiet (call.TriedWrite at len) = TriedWrite at len
+quiet (call.Cut len) = Cut len
+quiet (call.TriedCut len) = TriedCut len
+quiet call.Synced = Synced
+quiet call.TriedSync = TriedSync

@@ -9,7 +9,7 @@ use Rattle.std.proofs.lemmas.List.{take_all}
 use Rattle.pb_outside.specs.Faults.{raised}
 use Rattle.pb_outside.specs.FaultPlan.{Plan, is_to_fail}
 use Rattle.pb_outside.specs.declared.error.OutError.{OutError}
-use Rattle.disk.specs.Disk.{overwritten, Torn, IsCutOrNot, WhereTold, AfterStep, Only}
+use Rattle.disk.specs.Disk.{overwritten, Torn, IsCutOrNot, WhereTold, AfterStep, Only, Elapses}
 
 -- What a call came to. A call that failed changed no byte, and a stop may leave it done in part. A sync that failed may have
 -- lost what was written before it.
@@ -154,6 +154,21 @@ pub record LeftSince (first : List ℕ) (calls : List Done) (t : ℕ) (image : L
   pub later : t ≤ moment
   pub so_far : moment ≤ length calls
   pub left : left_now first (take moment calls) image
+
+-- the same by what a contract sees: the file as a read gives it, what a stop may leave, and what once a sync has succeeded
+abbrev pub content_told : Tape → Option (List ℕ)
+content_told d = Some (content_of d.first d.calls)
+
+abbrev pub may_be_left : Tape → List ℕ → Type 0
+may_be_left d image = left_now d.first d.calls image
+
+abbrev pub may_be_synced : Tape → List ℕ → Type 0
+may_be_synced d image = left_synced d.first d.calls image
+
+-- the moments go on, and no other image may be left since them
+abbrev pub TakesTime : Tape → Tape → Type 0
+TakesTime old new =
+    Elapses (length old.calls) (length new.calls) (λ t image. LeftSince old.first old.calls t image) (λ t image. LeftSince new.first new.calls t image) (may_be_left new)
 
 pub counts_now : (tape : Tape) (t : ℕ) (image : List ℕ) → t ≤ length tape.calls → left_now tape.first tape.calls image → LeftSince tape.first tape.calls t image
 counts_now tape t image earlier left = record {

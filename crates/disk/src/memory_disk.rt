@@ -2,9 +2,9 @@
 ghost use Rattle.std.specs.Prelude.{◌≡◌, ◌≢◌, ◌<◌, ◌≤◌, ◌+◌, ◌↔◌, nat_lt, true, false, List, ℕ, Some, Err, [], ◌∷◌, ◌++◌, length, take, replicate, vec_len, vec_capacity, IfOk, OnOk, OnErr};
 ghost use Rattle.std.specs.Option.{option_map};
 ghost use Rattle.pb_outside.specs.Faults.{Rose, raised};
-ghost use Rattle.disk.specs.Disk.{overwritten, Torn, Overwrites, IsCut, IsCutOrNot, WhereTold, Becomes, Follows, Elapses, CountsFaults};
-ghost use Rattle.disk.specs.Calls.{dones, total};
-ghost use Rattle.disk.specs.Tape.{Wrote, TriedWrite, Cut, TriedCut, Synced, TriedSync, content_of, AreWithin, left_now, left_synced, LeftSince, is_stopped, has_stopped, is_due, is_tried, IsRecorded, has_room, GoesOn};
+ghost use Rattle.disk.specs.Disk.{overwritten, Torn, Overwrites, IsCut, IsCutOrNot, WhereTold, Becomes, Follows, CountsFaults};
+ghost use Rattle.disk.specs.Calls.{dones, total, IsQuiet, quiet};
+ghost use Rattle.disk.specs.Tape.{Wrote, TriedWrite, Cut, TriedCut, Synced, TriedSync, content_of, AreWithin, BeginsWithin, left_now, content_told, may_be_left, may_be_synced, TakesTime, is_stopped, has_stopped, is_due, is_tried, IsRecorded, has_room, GoesOn};
 
 use crate::Disk;
 use pb_base::Memory;
@@ -321,73 +321,33 @@ impl MemoryDisk {
         self.calls_left -= 1;
     }
 
-    // A sync that is made.
-    fn settle(&mut self)
-        requires { 0 < self.old.calls_left }
-        ensures plan { self.new.plan ≡ self.old.plan }
-        ensures stop { self.new.stop ≡ self.old.stop }
-        ensures first { self.new.first ≡ self.old.first }
-        ensures calls { self.new.calls ≡ self.old.calls ++ Synced ∷ [] }
-        ensures calls_left { self.new.calls_left + 1 ≡ self.old.calls_left }
-        ensures room_left { self.new.room_left ≡ self.old.room_left }
-    {
-        self.calls.push_reserved(Call::Synced);
-        self.calls_left -= 1;
-    }
-
-    // A write of which nothing was done, but which a stop may leave done in part.
-    fn try_write(&mut self, at: u64, len: u64)
-        requires within { at ≤ length (content_of self.old.first self.old.calls) }
+    // A call that changes no byte of the file: a sync that is made, or a call of which nothing was done, but which a stop may
+    // leave done in part. Behind a sync that failed, what was written before it may be lost.
+    fn record(&mut self, call: Call)
+        requires quiet { IsQuiet call }
+        requires within { BeginsWithin (content_of self.old.first self.old.calls) (quiet call) }
         requires place { 0 < self.old.calls_left }
         ensures plan { self.new.plan ≡ self.old.plan }
         ensures stop { self.new.stop ≡ self.old.stop }
         ensures first { self.new.first ≡ self.old.first }
-        ensures calls { self.new.calls ≡ self.old.calls ++ TriedWrite at len ∷ [] }
+        ensures calls { self.new.calls ≡ self.old.calls ++ quiet call ∷ [] }
         ensures calls_left { self.new.calls_left + 1 ≡ self.old.calls_left }
         ensures room_left { self.new.room_left ≡ self.old.room_left }
     {
-        self.calls.push_reserved(Call::TriedWrite { at, len });
-        self.calls_left -= 1;
-    }
-
-    // A cut of which nothing was done, but which a stop may leave done.
-    fn try_cut(&mut self, len: u64)
-        requires { 0 < self.old.calls_left }
-        ensures plan { self.new.plan ≡ self.old.plan }
-        ensures stop { self.new.stop ≡ self.old.stop }
-        ensures first { self.new.first ≡ self.old.first }
-        ensures calls { self.new.calls ≡ self.old.calls ++ TriedCut len ∷ [] }
-        ensures calls_left { self.new.calls_left + 1 ≡ self.old.calls_left }
-        ensures room_left { self.new.room_left ≡ self.old.room_left }
-    {
-        self.calls.push_reserved(Call::TriedCut(len));
-        self.calls_left -= 1;
-    }
-
-    // A sync that failed: what was written before it may be lost.
-    fn try_settle(&mut self)
-        requires { 0 < self.old.calls_left }
-        ensures plan { self.new.plan ≡ self.old.plan }
-        ensures stop { self.new.stop ≡ self.old.stop }
-        ensures first { self.new.first ≡ self.old.first }
-        ensures calls { self.new.calls ≡ self.old.calls ++ TriedSync ∷ [] }
-        ensures calls_left { self.new.calls_left + 1 ≡ self.old.calls_left }
-        ensures room_left { self.new.room_left ≡ self.old.room_left }
-    {
-        self.calls.push_reserved(Call::TriedSync);
+        self.calls.push_reserved(call);
         self.calls_left -= 1;
     }
 }
 
 impl Disk for MemoryDisk {
-    ghost use Rattle.std.specs.Prelude.{◌≡◌, Some, length, false};
-    ghost use Rattle.disk.specs.Tape.{content_of, has_failed_sync, left_now, left_synced, LeftSince, synced_now, begins_sure, counts_now, only_now};
+    ghost use Rattle.std.specs.Prelude.{◌≡◌, length, false};
+    ghost use Rattle.disk.specs.Tape.{content_told, may_be_left, may_be_synced, has_failed_sync, LeftSince, synced_now, begins_sure, counts_now, only_now};
 
-    ghost content = { λ d. Some (content_of d.first d.calls) };
+    ghost content = { content_told };
 
-    ghost may_leave = { λ d image. left_now d.first d.calls image };
+    ghost may_leave = { may_be_left };
 
-    ghost may_leave_synced = { λ d image. left_synced d.first d.calls image };
+    ghost may_leave_synced = { may_be_synced };
 
     ghost moment = { λ d. length d.calls };
 
@@ -406,20 +366,13 @@ impl Disk for MemoryDisk {
     ghost only_now = { only_now };
 
     fn read(&mut self, alloc: Global) -> Result<Vec<u8>, OutError>
-        ensures due { (result ≡ Err OutError.Failed) ↔ (is_due self.old.plan self.old.stop
-            true ≡ true) }
+        ensures due { (result ≡ Err OutError.Failed) ↔ (is_due self.old.plan self.old.stop true ≡ true) }
         ensures goes_on { GoesOn result 0 0 self.old self.new }
         ensures unrecorded { self.new.calls ≡ self.old.calls }
-        ensures bytes { IfOk result (λ bytes. WhereTold (Some (content_of self.old.first self.old.calls))
-            (λ file. bytes.items ≡ file)) }
-        ensures kept { Some (content_of self.new.first self.new.calls)
-            ≡ Some (content_of self.old.first self.old.calls) }
-        ensures crash { (image : List ℕ) → left_now self.new.first self.new.calls image
-            → left_now self.old.first self.old.calls image }
-        ensures time { Elapses (length self.old.calls) (length self.new.calls)
-            (λ t image. LeftSince self.old.first self.old.calls t image)
-            (λ t image. LeftSince self.new.first self.new.calls t image)
-            (λ image. left_now self.new.first self.new.calls image) }
+        ensures bytes { IfOk result (λ bytes. WhereTold (content_told self.old) (λ file. bytes.items ≡ file)) }
+        ensures kept { content_told self.new ≡ content_told self.old }
+        ensures crash { (image : List ℕ) → may_be_left self.new image → may_be_left self.old image }
+        ensures time { TakesTime self.old self.new }
         ensures count { CountsFaults result self.old.plan.faults self.new.plan.faults }
     {
         if fate_of(&mut self.plan, self.stop, true, true) != Fate::Goes {
@@ -429,28 +382,21 @@ impl Disk for MemoryDisk {
     }
 
     fn write_at(&mut self, at: u64, bytes: &[u8]) -> Result<(), OutError>
-        requires { WhereTold (Some (content_of self.old.first self.old.calls)) (λ file. at ≤ length file) }
+        requires { WhereTold (content_told self.old) (λ file. at ≤ length file) }
         ensures due { (result ≡ Err OutError.Failed) ↔ (is_due self.old.plan self.old.stop
             (has_room self.old.calls_left self.old.room_left (length bytes.now)) ≡ true) }
         ensures goes_on { GoesOn result 1 (length bytes.now) self.old self.new }
         ensures recorded { IsRecorded result (Wrote at bytes.now) (TriedWrite at (length bytes.now))
             (is_tried self.old.plan self.old.stop (nat_lt 0 self.old.calls_left))
             self.old.calls self.new.calls }
-        ensures written { OnOk result (Some (content_of self.new.first self.new.calls)
-            ≡ option_map (overwritten at bytes.now) (Some (content_of self.old.first self.old.calls))) }
+        ensures written { OnOk result (content_told self.new
+            ≡ option_map (overwritten at bytes.now) (content_told self.old)) }
         ensures torn { OnErr result (Becomes (Torn at (length bytes.now))
-            (Some (content_of self.old.first self.old.calls))
-            (Some (content_of self.new.first self.new.calls))) }
+            (content_told self.old) (content_told self.new)) }
         ensures synced { OnOk result (Follows (Overwrites at bytes.now)
-            (λ image. left_synced self.old.first self.old.calls image)
-            (λ image. left_synced self.new.first self.new.calls image)) }
-        ensures crash { Follows (Torn at (length bytes.now))
-            (λ image. left_now self.old.first self.old.calls image)
-            (λ image. left_now self.new.first self.new.calls image) }
-        ensures time { Elapses (length self.old.calls) (length self.new.calls)
-            (λ t image. LeftSince self.old.first self.old.calls t image)
-            (λ t image. LeftSince self.new.first self.new.calls t image)
-            (λ image. left_now self.new.first self.new.calls image) }
+            (may_be_synced self.old) (may_be_synced self.new)) }
+        ensures crash { Follows (Torn at (length bytes.now)) (may_be_left self.old) (may_be_left self.new) }
+        ensures time { TakesTime self.old self.new }
         ensures no_memory { result ≢ Err OutError.Memory }
         ensures count { CountsFaults result self.old.plan.faults self.new.plan.faults }
     {
@@ -462,7 +408,7 @@ impl Disk for MemoryDisk {
                 Ok(())
             }
             Fate::Fails => {
-                self.try_write(at, len);
+                self.record(Call::TriedWrite { at, len });
                 Err(OutError::Failed)
             }
             Fate::Refused => Err(OutError::Failed),
@@ -476,21 +422,11 @@ impl Disk for MemoryDisk {
         ensures recorded { IsRecorded result (Cut len) (TriedCut len)
             (is_tried self.old.plan self.old.stop (nat_lt 0 self.old.calls_left))
             self.old.calls self.new.calls }
-        ensures cut { OnOk result (Some (content_of self.new.first self.new.calls)
-            ≡ option_map (take len) (Some (content_of self.old.first self.old.calls))) }
-        ensures torn { OnErr result (Becomes (IsCutOrNot len)
-            (Some (content_of self.old.first self.old.calls))
-            (Some (content_of self.new.first self.new.calls))) }
-        ensures synced { OnOk result (Follows (IsCut len)
-            (λ image. left_synced self.old.first self.old.calls image)
-            (λ image. left_synced self.new.first self.new.calls image)) }
-        ensures crash { Follows (IsCutOrNot len)
-            (λ image. left_now self.old.first self.old.calls image)
-            (λ image. left_now self.new.first self.new.calls image) }
-        ensures time { Elapses (length self.old.calls) (length self.new.calls)
-            (λ t image. LeftSince self.old.first self.old.calls t image)
-            (λ t image. LeftSince self.new.first self.new.calls t image)
-            (λ image. left_now self.new.first self.new.calls image) }
+        ensures cut { OnOk result (content_told self.new ≡ option_map (take len) (content_told self.old)) }
+        ensures torn { OnErr result (Becomes (IsCutOrNot len) (content_told self.old) (content_told self.new)) }
+        ensures synced { OnOk result (Follows (IsCut len) (may_be_synced self.old) (may_be_synced self.new)) }
+        ensures crash { Follows (IsCutOrNot len) (may_be_left self.old) (may_be_left self.new) }
+        ensures time { TakesTime self.old self.new }
         ensures no_memory { result ≢ Err OutError.Memory }
         ensures count { CountsFaults result self.old.plan.faults self.new.plan.faults }
     {
@@ -501,7 +437,7 @@ impl Disk for MemoryDisk {
                 Ok(())
             }
             Fate::Fails => {
-                self.try_cut(len);
+                self.record(Call::TriedCut(len));
                 Err(OutError::Failed)
             }
             Fate::Refused => Err(OutError::Failed),
@@ -515,27 +451,22 @@ impl Disk for MemoryDisk {
         ensures recorded { IsRecorded result Synced TriedSync
             (is_tried self.old.plan self.old.stop (nat_lt 0 self.old.calls_left))
             self.old.calls self.new.calls }
-        ensures durable { OnOk result ((image : List ℕ) → left_now self.new.first self.new.calls image
-            → left_synced self.old.first self.old.calls image) }
-        ensures kept { Some (content_of self.new.first self.new.calls)
-            ≡ Some (content_of self.old.first self.old.calls) }
-        ensures crash { (image : List ℕ) → left_now self.new.first self.new.calls image
-            → left_now self.old.first self.old.calls image }
-        ensures time { Elapses (length self.old.calls) (length self.new.calls)
-            (λ t image. LeftSince self.old.first self.old.calls t image)
-            (λ t image. LeftSince self.new.first self.new.calls t image)
-            (λ image. left_now self.new.first self.new.calls image) }
+        ensures durable { OnOk result ((image : List ℕ) → may_be_left self.new image
+            → may_be_synced self.old image) }
+        ensures kept { content_told self.new ≡ content_told self.old }
+        ensures crash { (image : List ℕ) → may_be_left self.new image → may_be_left self.old image }
+        ensures time { TakesTime self.old self.new }
         ensures no_memory { result ≢ Err OutError.Memory }
         ensures count { CountsFaults result self.old.plan.faults self.new.plan.faults }
     {
         let has_room = has_room(self.calls_left, self.room_left, 0);
         match fate_of(&mut self.plan, self.stop, self.calls_left > 0, has_room) {
             Fate::Goes => {
-                self.settle();
+                self.record(Call::Synced);
                 Ok(())
             }
             Fate::Fails => {
-                self.try_settle();
+                self.record(Call::TriedSync);
                 Err(OutError::Failed)
             }
             Fate::Refused => Err(OutError::Failed),

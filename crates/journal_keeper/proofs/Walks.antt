@@ -1,14 +1,13 @@
 -- Records that are read one after the other.
-use Rattle.std.proofs.Common.{◌≡◌, ◌≢◌, ℕ, ◌+◌, ◌-◌, ◌<◌, Bool, true, false, cond, eqb, List, [], ◌∷◌, ◌++◌, length, take, drop, Option, Some, None, refl, sym, ap, ◌∙◌, append_assoc, arith, length-append, length-drop}
-use Rattle.std.specs.Option.{option_map}
+use Rattle.std.proofs.Common.{◌≡◌, ℕ, ◌+◌, ◌-◌, Bool, true, false, cond, eqb, List, [], ◌∷◌, ◌++◌, take, drop, Option, Some, None, refl, sym, ap, ◌∙◌, append_assoc, arith, length-append}
 use Rattle.std.proofs.lemmas.Bool.{eqb-true}
-use Rattle.std.proofs.lemmas.List.{take-append-drop, append-nil}
+use Rattle.std.proofs.lemmas.List.{take-append-drop}
 use Rattle.keeper.specs.Rows.{Kept, bare}
 use Rattle.journal_keeper.specs.Record.{Entry, effect, record_in}
-use Rattle.journal_keeper.specs.Journal.{header, behind, entries_from, after, rows_of}
+use Rattle.journal_keeper.specs.Journal.{header, behind, after}
 use Rattle.journal_keeper.specs.Sound.{Reads, IsLastGate, IsOpen}
 use Rattle.journal_keeper.proofs.Records.{front_record}
-use Rattle.journal_keeper.proofs.Fronts.{reads_none, reads_more, after_more, shut_from}
+use Rattle.journal_keeper.proofs.Fronts.{reads_none, reads_more, after_more}
 
 -- the bytes up to the rest are gates and records
 pub record IsReadTo (body rest : List ℕ) : Type 0 where
@@ -33,34 +32,6 @@ read_more body rest line next entry n so_far is read next_is =
       reads = reads_more so_far.front (take n line) so_far.entries entry so_far.reads one.0;
     }
 
--- which makes the rest shorter
-pub shorter : (rest line next : List ℕ) (n : ℕ) → rest ≡ 1 ∷ line → next ≡ drop n line → length next < length rest
-shorter rest line next n is next_is = omega (arith, ap length is, ap length next_is, length-drop n line)
-
--- what is behind an open gate is no record, or there is no gate
-pub read_bad : (body rest line : List ℕ) → IsReadTo body rest → rest ≡ 1 ∷ line → record_in line ≡ None → entries_from body ≡ None
-read_bad body rest line so_far is bad =
-    let none : entries_from (1 ∷ line) ≡ None = rw bad refl in
-    ap entries_from so_far.body_is ∙ so_far.reads rest ∙ ap (λ l. option_map (λ later. so_far.entries ++ later) (entries_from l)) is
-    ∙ ap (option_map (λ later. so_far.entries ++ later)) none
-
-pub read_out : (body rest : List ℕ) → IsReadTo body rest → rest ≡ [] → entries_from body ≡ None
-read_out body rest so_far is =
-    ap entries_from so_far.body_is ∙ so_far.reads rest ∙ ap (λ l. option_map (λ later. so_far.entries ++ later) (entries_from l)) is
-
--- the rest begins with a gate that is not open
-abbrev pub read_whole : (body rest behind : List ℕ) (gate : ℕ) → IsReadTo body rest → rest ≡ gate ∷ behind → gate ≢ 1 → IsLastGate body (length body - length rest)
-read_whole body rest behind gate so_far is shut = record {
-  front = so_far.front;
-  entries = so_far.entries;
-  gate = gate;
-  rest = behind;
-  shut = shut;
-  body_is = so_far.body_is ∙ ap (λ l. so_far.front ++ l) is;
-  reads = so_far.reads;
-  place_is = omega (arith, ap length so_far.body_is, length-append so_far.front rest);
-}
-
 -- the place of the last gate in a file
 pub found_open : (file body : List ℕ) (place : ℕ) → file ≡ header ++ body → IsLastGate body place → IsOpen (8 + place) false file (λ image. image ≡ file)
 found_open file body place is last =
@@ -76,12 +47,6 @@ found_open file body place is last =
       };
     }
 
--- the gate ends the entries
-pub last_entries : (body : List ℕ) (place : ℕ) → (last : IsLastGate body place) → entries_from body ≡ Some last.entries
-last_entries body place last =
-    ap entries_from last.body_is ∙ last.reads (last.gate ∷ last.rest)
-    ∙ ap (option_map (λ later. last.entries ++ later)) (shut_from last.gate last.rest last.shut) ∙ ap Some (append-nil last.entries)
-
 -- the rows of what was read so far
 pub record IsGathered (body rest : List ℕ) (kept : Kept) : Type 0 where
   pub walk : IsReadTo body rest
@@ -96,10 +61,6 @@ gathered_more body rest line next entry n kept kept' so_far is read next_is put 
   walk = read_more body rest line next entry n so_far.walk is read next_is;
   rows = put ∙ ap (effect entry) so_far.rows ∙ sym (after_more so_far.walk.entries entry (bare 2));
 }
-
-pub gathered_all : (body rest behind : List ℕ) (gate : ℕ) (kept : Kept) → IsGathered body rest kept → rest ≡ gate ∷ behind → gate ≢ 1 → rows_of (entries_from body) ≡ kept
-gathered_all body rest behind gate kept so_far is shut =
-    ap rows_of (last_entries body (length body - length rest) (read_whole body rest behind gate so_far.walk is shut)) ∙ sym so_far.rows
 
 -- what stands behind a front, where the file begins with it
 pub behind_is : (front file rest : List ℕ) → behind front file ≡ Some rest → file ≡ front ++ rest

@@ -4,14 +4,15 @@ ghost use Rattle.std.specs.Option.{option_map};
 ghost use Rattle.keeper.specs.Causes.{HasCause};
 ghost use Rattle.keeper.specs.Rows.{kept_of, with_draft, with_book, with_order, with_withdrawn, begun, migrated, IsInOrder};
 ghost use Rattle.disk.specs.Disk.{WhereTold, LeavesOnly};
-ghost use Rattle.journal_keeper.specs.Record.{Draft, Book, Order, Withdrawn};
-ghost use Rattle.journal_keeper.specs.Stage.{seen_by, doubted, is_open, is_refused, DoubtsOnly, IsBegun, IsFound, StillStands, StandsOrGrew};
-ghost use Rattle.journal_keeper.specs.Counts.{count_of, Refuses};
+ghost use Rattle.journal_keeper.specs.Keeping.{PutsEntry, counted, rows_told};
+ghost use Rattle.journal_keeper.specs.Record.{Draft, Book, Order, Withdrawn, effect};
+ghost use Rattle.journal_keeper.specs.Stage.{doubted, is_open, IsBegun, IsFound, StillStands};
 
 use crate::Stage;
 use crate::beginning::begin;
 use crate::loading::load;
 use crate::putting::put;
+use crate::recorded::Recorded;
 use disk::Disk;
 use keeper::{BookRow, DraftRow, Keeper, OrderRow, Rows};
 use pb_outside::{FaultCount, OutError};
@@ -71,12 +72,33 @@ impl<D: Disk> JournalKeeper<D> {
         } = self;
         disk
     }
+
+    // Sets the row of its key.
+    fn record<R: Recorded>(&mut self, row: &R) -> Result<(), OutError>
+        ensures done { OnOk result (rows_told D.content self.new
+            ≡ option_map (effect (R.entry row.now)) (rows_told D.content self.old)) }
+        ensures unchanged { OnErr result (rows_told D.content self.new ≡ rows_told D.content self.old) }
+        ensures in_order { IfSome (rows_told D.content self.old) IsInOrder
+            → IfSome (rows_told D.content self.new) IsInOrder }
+        ensures count { HasCause result (counted D.failures self.old) (counted D.failures self.new) }
+        ensures put { PutsEntry D.content D.may_leave D.moment D.left_since D.failures result (R.entry row.now)
+            self.old self.new }
+    {
+        self.held = None;
+        put(
+            self.alloc,
+            &mut self.disk,
+            &mut self.stage,
+            &mut self.refusals,
+            row,
+        )
+    }
 }
 
 impl<D: Disk> Keeper for JournalKeeper<D> {
-    ghost told = { λ k. option_map (seen_by k.stage) (D.content k.disk) };
+    ghost told = { rows_told D.content };
 
-    ghost failures = { λ k. count_of (D.failures k.disk) k.refusals };
+    ghost failures = { counted D.failures };
 
     ghost calls = { λ _. None };
 
@@ -84,12 +106,9 @@ impl<D: Disk> Keeper for JournalKeeper<D> {
 
     fn begin(&mut self, name: &str) -> Result<(), OutError>
         requires { D.may_begin self.old.disk name.now }
-        ensures done { OnOk result (option_map (seen_by self.new.stage) (D.content self.new.disk)
-            ≡ option_map begun (option_map (seen_by self.old.stage) (D.content self.old.disk))) }
-        ensures unchanged { OnErr result (option_map (seen_by self.new.stage) (D.content self.new.disk)
-            ≡ option_map (seen_by self.old.stage) (D.content self.old.disk)) }
-        ensures count { HasCause result (count_of (D.failures self.old.disk) self.old.refusals)
-            (count_of (D.failures self.new.disk) self.new.refusals) }
+        ensures done { OnOk result (rows_told D.content self.new ≡ option_map begun (rows_told D.content self.old)) }
+        ensures unchanged { OnErr result (rows_told D.content self.new ≡ rows_told D.content self.old) }
+        ensures count { HasCause result (counted D.failures self.old) (counted D.failures self.new) }
         ensures refusals { self.new.refusals ≡ self.old.refusals }
 
         // What it found, and what each stop leaves in the call and until the next one.
@@ -106,13 +125,9 @@ impl<D: Disk> Keeper for JournalKeeper<D> {
     }
 
     fn load(&mut self) -> Result<Rows, OutError>
-        ensures rows { IfOk result (λ rows. IfSome (option_map (seen_by self.old.stage)
-            (D.content self.old.disk))
-            (λ kept. kept_of rows ≡ kept)) }
-        ensures unchanged { option_map (seen_by self.new.stage) (D.content self.new.disk)
-            ≡ option_map (seen_by self.old.stage) (D.content self.old.disk) }
-        ensures count { HasCause result (count_of (D.failures self.old.disk) self.old.refusals)
-            (count_of (D.failures self.new.disk) self.new.refusals) }
+        ensures rows { IfOk result (λ rows. IfSome (rows_told D.content self.old) (λ kept. kept_of rows ≡ kept)) }
+        ensures unchanged { rows_told D.content self.new ≡ rows_told D.content self.old }
+        ensures count { HasCause result (counted D.failures self.old) (counted D.failures self.new) }
         ensures refusals { self.new.refusals ≡ self.old.refusals }
         ensures any_moment { WhereTold (D.content self.old.disk) (λ file. LeavesOnly D.moment D.left_since
             self.old.disk self.new.disk (StillStands self.old.stage file)) }
@@ -128,139 +143,61 @@ impl<D: Disk> Keeper for JournalKeeper<D> {
     }
 
     fn put_draft(&mut self, row: &DraftRow) -> Result<(), OutError>
-        ensures done { OnOk result (option_map (seen_by self.new.stage) (D.content self.new.disk)
-            ≡ option_map (with_draft row.now) (option_map (seen_by self.old.stage)
-            (D.content self.old.disk))) }
-        ensures unchanged { OnErr result (option_map (seen_by self.new.stage) (D.content self.new.disk)
-            ≡ option_map (seen_by self.old.stage) (D.content self.old.disk)) }
-        ensures in_order { IfSome (option_map (seen_by self.old.stage) (D.content self.old.disk)) IsInOrder
-            → IfSome (option_map (seen_by self.new.stage) (D.content self.new.disk)) IsInOrder }
-        ensures count { HasCause result (count_of (D.failures self.old.disk) self.old.refusals)
-            (count_of (D.failures self.new.disk) self.new.refusals) }
-        ensures any_moment { WhereTold (D.content self.old.disk) (λ file. LeavesOnly D.moment D.left_since
-            self.old.disk self.new.disk (StandsOrGrew (Draft row.now) self.old.stage file)) }
-        ensures stands { WhereTold (D.content self.new.disk) (λ file. (image : List ℕ)
-            → D.may_leave self.new.disk image → StillStands self.new.stage file image) }
-        ensures doubt { DoubtsOnly result (Draft row.now) (doubted self.old.stage (D.content self.old.disk))
-            (doubted self.new.stage (D.content self.new.disk)) }
-        ensures stays_open { is_open self.new.stage ≡ is_open self.old.stage }
-        ensures untouched { is_open self.old.stage ≡ false → self.new.disk ≡ self.old.disk }
-        ensures refuses { Refuses result (is_refused self.old.stage (Draft row.now))
-            (D.failures self.old.disk)
-            (D.failures self.new.disk) self.old.refusals self.new.refusals }
+        ensures done { OnOk result (rows_told D.content self.new
+            ≡ option_map (with_draft row.now) (rows_told D.content self.old)) }
+        ensures unchanged { OnErr result (rows_told D.content self.new ≡ rows_told D.content self.old) }
+        ensures in_order { IfSome (rows_told D.content self.old) IsInOrder
+            → IfSome (rows_told D.content self.new) IsInOrder }
+        ensures count { HasCause result (counted D.failures self.old) (counted D.failures self.new) }
+        ensures put { PutsEntry D.content D.may_leave D.moment D.left_since D.failures result (Draft row.now)
+            self.old self.new }
     {
-        self.held = None;
-        put(
-            self.alloc,
-            &mut self.disk,
-            &mut self.stage,
-            &mut self.refusals,
-            row,
-        )
+        self.record(row)
     }
 
     fn put_book(&mut self, row: &BookRow) -> Result<(), OutError>
-        ensures done { OnOk result (option_map (seen_by self.new.stage) (D.content self.new.disk)
-            ≡ option_map (with_book row.now) (option_map (seen_by self.old.stage)
-            (D.content self.old.disk))) }
-        ensures unchanged { OnErr result (option_map (seen_by self.new.stage) (D.content self.new.disk)
-            ≡ option_map (seen_by self.old.stage) (D.content self.old.disk)) }
-        ensures in_order { IfSome (option_map (seen_by self.old.stage) (D.content self.old.disk)) IsInOrder
-            → IfSome (option_map (seen_by self.new.stage) (D.content self.new.disk)) IsInOrder }
-        ensures count { HasCause result (count_of (D.failures self.old.disk) self.old.refusals)
-            (count_of (D.failures self.new.disk) self.new.refusals) }
-        ensures any_moment { WhereTold (D.content self.old.disk) (λ file. LeavesOnly D.moment D.left_since
-            self.old.disk self.new.disk (StandsOrGrew (Book row.now) self.old.stage file)) }
-        ensures stands { WhereTold (D.content self.new.disk) (λ file. (image : List ℕ)
-            → D.may_leave self.new.disk image → StillStands self.new.stage file image) }
-        ensures doubt { DoubtsOnly result (Book row.now) (doubted self.old.stage (D.content self.old.disk))
-            (doubted self.new.stage (D.content self.new.disk)) }
-        ensures stays_open { is_open self.new.stage ≡ is_open self.old.stage }
-        ensures untouched { is_open self.old.stage ≡ false → self.new.disk ≡ self.old.disk }
-        ensures refuses { Refuses result (is_refused self.old.stage (Book row.now)) (D.failures self.old.disk)
-            (D.failures self.new.disk) self.old.refusals self.new.refusals }
+        ensures done { OnOk result (rows_told D.content self.new
+            ≡ option_map (with_book row.now) (rows_told D.content self.old)) }
+        ensures unchanged { OnErr result (rows_told D.content self.new ≡ rows_told D.content self.old) }
+        ensures in_order { IfSome (rows_told D.content self.old) IsInOrder
+            → IfSome (rows_told D.content self.new) IsInOrder }
+        ensures count { HasCause result (counted D.failures self.old) (counted D.failures self.new) }
+        ensures put { PutsEntry D.content D.may_leave D.moment D.left_since D.failures result (Book row.now)
+            self.old self.new }
     {
-        self.held = None;
-        put(
-            self.alloc,
-            &mut self.disk,
-            &mut self.stage,
-            &mut self.refusals,
-            row,
-        )
+        self.record(row)
     }
 
     fn put_order(&mut self, row: &OrderRow) -> Result<(), OutError>
-        ensures done { OnOk result (option_map (seen_by self.new.stage) (D.content self.new.disk)
-            ≡ option_map (with_order row.now) (option_map (seen_by self.old.stage)
-            (D.content self.old.disk))) }
-        ensures unchanged { OnErr result (option_map (seen_by self.new.stage) (D.content self.new.disk)
-            ≡ option_map (seen_by self.old.stage) (D.content self.old.disk)) }
-        ensures in_order { IfSome (option_map (seen_by self.old.stage) (D.content self.old.disk)) IsInOrder
-            → IfSome (option_map (seen_by self.new.stage) (D.content self.new.disk)) IsInOrder }
-        ensures count { HasCause result (count_of (D.failures self.old.disk) self.old.refusals)
-            (count_of (D.failures self.new.disk) self.new.refusals) }
-        ensures any_moment { WhereTold (D.content self.old.disk) (λ file. LeavesOnly D.moment D.left_since
-            self.old.disk self.new.disk (StandsOrGrew (Order row.now) self.old.stage file)) }
-        ensures stands { WhereTold (D.content self.new.disk) (λ file. (image : List ℕ)
-            → D.may_leave self.new.disk image → StillStands self.new.stage file image) }
-        ensures doubt { DoubtsOnly result (Order row.now) (doubted self.old.stage (D.content self.old.disk))
-            (doubted self.new.stage (D.content self.new.disk)) }
-        ensures stays_open { is_open self.new.stage ≡ is_open self.old.stage }
-        ensures untouched { is_open self.old.stage ≡ false → self.new.disk ≡ self.old.disk }
-        ensures refuses { Refuses result (is_refused self.old.stage (Order row.now))
-            (D.failures self.old.disk)
-            (D.failures self.new.disk) self.old.refusals self.new.refusals }
+        ensures done { OnOk result (rows_told D.content self.new
+            ≡ option_map (with_order row.now) (rows_told D.content self.old)) }
+        ensures unchanged { OnErr result (rows_told D.content self.new ≡ rows_told D.content self.old) }
+        ensures in_order { IfSome (rows_told D.content self.old) IsInOrder
+            → IfSome (rows_told D.content self.new) IsInOrder }
+        ensures count { HasCause result (counted D.failures self.old) (counted D.failures self.new) }
+        ensures put { PutsEntry D.content D.may_leave D.moment D.left_since D.failures result (Order row.now)
+            self.old self.new }
     {
-        self.held = None;
-        put(
-            self.alloc,
-            &mut self.disk,
-            &mut self.stage,
-            &mut self.refusals,
-            row,
-        )
+        self.record(row)
     }
 
     fn put_withdrawn(&mut self, number: u64) -> Result<(), OutError>
-        ensures done { OnOk result (option_map (seen_by self.new.stage) (D.content self.new.disk)
-            ≡ option_map (with_withdrawn number) (option_map (seen_by self.old.stage)
-            (D.content self.old.disk))) }
-        ensures unchanged { OnErr result (option_map (seen_by self.new.stage) (D.content self.new.disk)
-            ≡ option_map (seen_by self.old.stage) (D.content self.old.disk)) }
-        ensures in_order { IfSome (option_map (seen_by self.old.stage) (D.content self.old.disk)) IsInOrder
-            → IfSome (option_map (seen_by self.new.stage) (D.content self.new.disk)) IsInOrder }
-        ensures count { HasCause result (count_of (D.failures self.old.disk) self.old.refusals)
-            (count_of (D.failures self.new.disk) self.new.refusals) }
-        ensures any_moment { WhereTold (D.content self.old.disk) (λ file. LeavesOnly D.moment D.left_since
-            self.old.disk self.new.disk (StandsOrGrew (Withdrawn number) self.old.stage file)) }
-        ensures stands { WhereTold (D.content self.new.disk) (λ file. (image : List ℕ)
-            → D.may_leave self.new.disk image → StillStands self.new.stage file image) }
-        ensures doubt { DoubtsOnly result (Withdrawn number) (doubted self.old.stage (D.content self.old.disk))
-            (doubted self.new.stage (D.content self.new.disk)) }
-        ensures stays_open { is_open self.new.stage ≡ is_open self.old.stage }
-        ensures untouched { is_open self.old.stage ≡ false → self.new.disk ≡ self.old.disk }
-        ensures refuses { Refuses result (is_refused self.old.stage (Withdrawn number))
-            (D.failures self.old.disk)
-            (D.failures self.new.disk) self.old.refusals self.new.refusals }
+        ensures done { OnOk result (rows_told D.content self.new
+            ≡ option_map (with_withdrawn number) (rows_told D.content self.old)) }
+        ensures unchanged { OnErr result (rows_told D.content self.new ≡ rows_told D.content self.old) }
+        ensures in_order { IfSome (rows_told D.content self.old) IsInOrder
+            → IfSome (rows_told D.content self.new) IsInOrder }
+        ensures count { HasCause result (counted D.failures self.old) (counted D.failures self.new) }
+        ensures put { PutsEntry D.content D.may_leave D.moment D.left_since D.failures result (Withdrawn number)
+            self.old self.new }
     {
-        self.held = None;
-        put(
-            self.alloc,
-            &mut self.disk,
-            &mut self.stage,
-            &mut self.refusals,
-            &number,
-        )
+        self.record(&number)
     }
 
     fn migrate(&mut self) -> Result<(), OutError>
-        ensures done { OnOk result (option_map (seen_by self.new.stage) (D.content self.new.disk)
-            ≡ option_map migrated (option_map (seen_by self.old.stage) (D.content self.old.disk))) }
-        ensures unchanged { OnErr result (option_map (seen_by self.new.stage) (D.content self.new.disk)
-            ≡ option_map (seen_by self.old.stage) (D.content self.old.disk)) }
-        ensures count { HasCause result (count_of (D.failures self.old.disk) self.old.refusals)
-            (count_of (D.failures self.new.disk) self.new.refusals) }
+        ensures done { OnOk result (rows_told D.content self.new ≡ option_map migrated (rows_told D.content self.old)) }
+        ensures unchanged { OnErr result (rows_told D.content self.new ≡ rows_told D.content self.old) }
+        ensures count { HasCause result (counted D.failures self.old) (counted D.failures self.new) }
         ensures nothing { self.new ≡ self.old }
     {
         // A journal has form 2 from the start.

@@ -1,24 +1,16 @@
 -- Where a row is put: a search that has passed the first rows knows what is put among the others.
-use Rattle.std.proofs.Common.{◌≡◌, ℕ, ◌+◌, ◌<◌, List, [], ◌∷◌, ◌++◌, length, take, drop, slice_set, sym, ◌∙◌, ap}
+use Rattle.std.proofs.Common.{◌≡◌, ℕ, ◌+◌, ◌<◌, List, ◌∷◌, ◌++◌, length, take, drop, slice_set, sym, ◌∙◌, ap}
 use Rattle.std.proofs.Math.ListN.{get_or}
 use Rattle.std.proofs.Math.Numerals.{add-one}
-use Rattle.std.proofs.Math.Seq.{drop-length}
-use Rattle.std.proofs.lemmas.List.{append_assoc, take_more, drop_more, set_split}
-use Rattle.std.specs.List.{insert}
+use Rattle.std.proofs.lemmas.List.{drop_more, set_split}
 use Rattle.std.specs.declared.cmp.Ordering.{Ordering}
-use Rattle.std.specs.declared.cmp.Ordering.TheVariants.{Less, Equal, Greater}
+use Rattle.std.specs.declared.cmp.Ordering.TheVariants.{Equal}
 use Rattle.keeper.specs.Put.{put, put_by}
 
 module _ {R : Type 0} (C : R → R → Ordering) (row : R) (rows : List R) where
   -- the row belongs behind the first rows, so many
   abbrev pub IsBehind : ℕ → Type 0
   IsBehind place = put C row rows ≡ take place rows ++ put C row (drop place rows)
-
-  pub behind_all : IsBehind (length rows) → put C row rows ≡ insert rows (length rows) row
-  behind_all behind =
-      behind
-      ∙ ap (λ rest. take (length rows) rows ++ put C row rest) (drop-length rows)
-      ∙ ap (λ rest. take (length rows) rows ++ row ∷ rest) (sym (drop-length rows))
 
   module _ (place : ℕ) (other : R) (within : place < length rows) (here : other ≡ get_or rows place other) where
     rest_of : drop place rows ≡ other ∷ drop (place + 1) rows
@@ -31,18 +23,8 @@ module _ {R : Type 0} (C : R → R → Ordering) (row : R) (rows : List R) where
         ∙ ap (λ rest. take place rows ++ put C row rest) rest_of
         ∙ ap (λ order. take place rows ++ put_by order row other (drop (place + 1) rows) (put C row (drop (place + 1) rows))) is
 
-    pub put_in_front : C row other ≡ Less → IsBehind place → put C row rows ≡ insert rows place row
-    put_in_front is behind = by_order Less is behind ∙ ap (λ rest. take place rows ++ row ∷ rest) (sym rest_of)
-
     pub put_over : C row other ≡ Equal → IsBehind place → put C row rows ≡ slice_set rows place row
     put_over is behind =
         by_order Equal is behind
         ∙ ap (λ next. take place rows ++ row ∷ drop next rows) (add-one place)
         ∙ sym (set_split rows place row within)
-
-    pub behind_more : C row other ≡ Greater → IsBehind place → IsBehind (place + 1)
-    behind_more is behind =
-        by_order Greater is behind
-        ∙ sym (append_assoc (take place rows) (other ∷ []) (put C row (drop (place + 1) rows)))
-        ∙ ap (λ first. take place rows ++ first ∷ [] ++ put C row (drop (place + 1) rows)) here
-        ∙ ap (λ front. front ++ put C row (drop (place + 1) rows)) (sym (take_more rows place other within))

@@ -1,6 +1,6 @@
 use Rattle.std.proofs.Common.{refl, arith}
 use Rattle.disk.specs.Tape.{Wrote}
-use Rattle.disk.proofs.Disks.{keeps, within_file, has_place, has_bytes}
+use Rattle.disk.proofs.Disks.{keeps, begins_file, has_place, has_bytes}
 use Rattle.disk.proofs.memory_disk.MemoryDisk.write.Goals as goal
 
 pub invariant_of-self : goal.invariant_of-self
@@ -11,7 +11,7 @@ invariant_of-self c =
     let recorded = c.record_write.ensures in
     let made = c.write_into.ensures in
     keeps c.self.inside (Wrote c.args.at c.args.bytes.now) c.self.invariant refl recorded.done recorded.total
-    (within_file c.self.inside c.args.self.now c.args.at c.self.invariant c.self.view_is c.requires.within) made.content (record {
+    (begins_file c.self.inside c.args.self.now (Wrote c.args.at c.args.bytes.now) c.self.invariant c.self.view_is c.requires.within) made.content (record {
       calls = omega (arith, place, memory.calls, recorded.calls_len, recorded.calls_capacity);
       written = omega (arith, bytes, memory.written, recorded.written_len, recorded.written_capacity);
       content = omega (arith, bytes, memory.spare, made.len, made.content_capacity);

@@ -21,15 +21,15 @@ returns-in-Goes-clause-time c = rw (← c.self.view_is)
 
 pub returns-in-Fails-clause-torn : goal.returns-in-Fails-clause-torn
 returns-in-Fails-clause-torn c = rw (← c.self.view_is)
-    (_, ap Some (content_grew _ _ _ _ (TriedCut c.args.len) (record { first_is = c.try_cut.ensures.first; calls_are = c.try_cut.ensures.calls })), inl refl)
+    (_, ap Some (content_grew _ _ _ _ (TriedCut c.args.len) (record { first_is = c.record.ensures.first; calls_are = c.record.ensures.calls })), inl refl)
 
 pub returns-in-Fails-clause-crash : goal.returns-in-Fails-clause-crash
 returns-in-Fails-clause-crash c = rw (← c.self.view_is)
-    (image_from _ _ _ _ (TriedCut c.args.len) (record { first_is = c.try_cut.ensures.first; calls_are = c.try_cut.ensures.calls }))
+    (image_from _ _ _ _ (TriedCut c.args.len) (record { first_is = c.record.ensures.first; calls_are = c.record.ensures.calls }))
 
 pub returns-in-Fails-clause-time : goal.returns-in-Fails-clause-time
 returns-in-Fails-clause-time c = rw (← c.self.view_is)
-    (grew_time _ _ _ _ (TriedCut c.args.len) (record { first_is = c.try_cut.ensures.first; calls_are = c.try_cut.ensures.calls }))
+    (grew_time _ _ _ _ (TriedCut c.args.len) (record { first_is = c.record.ensures.first; calls_are = c.record.ensures.calls }))
 
 pub returns-in-Refused-clause-crash : goal.returns-in-Refused-clause-crash
 returns-in-Refused-clause-crash c = rw (← c.self.view_is)

@@ -22,12 +22,12 @@ returns-in-Goes-clause-time c = rw (← c.self.view_is)
 
 pub returns-in-Fails-clause-torn : goal.returns-in-Fails-clause-torn
 returns-in-Fails-clause-torn c = rw (← c.self.view_is)
-    (_, ap Some (content_grew _ _ _ _ (TriedWrite c.args.at (length c.args.bytes.now)) (record { first_is = c.try_write.ensures.first; calls_are = c.try_write.ensures.calls })), untouched c.args.at (length c.args.bytes.now) _)
+    (_, ap Some (content_grew _ _ _ _ (TriedWrite c.args.at (length c.args.bytes.now)) (record { first_is = c.record.ensures.first; calls_are = c.record.ensures.calls })), untouched c.args.at (length c.args.bytes.now) _)
 
 pub returns-in-Fails-clause-crash : goal.returns-in-Fails-clause-crash
 returns-in-Fails-clause-crash c = rw (← c.self.view_is)
-    (image_from _ _ _ _ (TriedWrite c.args.at (length c.args.bytes.now)) (record { first_is = c.try_write.ensures.first; calls_are = c.try_write.ensures.calls }))
+    (image_from _ _ _ _ (TriedWrite c.args.at (length c.args.bytes.now)) (record { first_is = c.record.ensures.first; calls_are = c.record.ensures.calls }))
 
 pub returns-in-Fails-clause-time : goal.returns-in-Fails-clause-time
 returns-in-Fails-clause-time c = rw (← c.self.view_is)
-    (grew_time _ _ _ _ (TriedWrite c.args.at (length c.args.bytes.now)) (record { first_is = c.try_write.ensures.first; calls_are = c.try_write.ensures.calls }))
+    (grew_time _ _ _ _ (TriedWrite c.args.at (length c.args.bytes.now)) (record { first_is = c.record.ensures.first; calls_are = c.record.ensures.calls }))
