@@ -2,7 +2,7 @@
 use Rattle.std.proofs.Common.{◌≡◌, ◌≢◌, ℕ, zero, suc, ◌-◌, ◌<◌, List, [], ◌∷◌, ◌++◌, length, Some, None, true, false, cond, refl, ap, arith, ◌==◌}
 use Rattle.std.proofs.lemmas.Bool.Decides.{nat_tests}
 use Rattle.matchit.specs.Rows.{RowsOf}
-use Rattle.matchit.specs.Seek.{own, step, seek, param_step, has_slash, segment}
+use Rattle.matchit.specs.Seek.{step, seek, param_step, has_slash, segment}
 
 -- the bytes of a name or a number: none is a slash
 abbrev pub IsPlain : List ℕ → Type 0
@@ -42,10 +42,6 @@ module _ {K : Type 0} where
   pub step-param : (r : RowsOf K) → step 256 (behind r) ≡ r
   step-param [] = refl
   step-param ((t, k) ∷ r) = ap (λ s. (t, k) ∷ s) (step-param r)
-
-  pub own-behind : (r : RowsOf K) → own (behind r) ≡ None
-  own-behind [] = refl
-  own-behind ((t, k) ∷ r) = own-behind r
 
   none_left : (p : List ℕ) → (param_step {K = K} [] p).1 ≡ []
   unfolding param_step

@@ -59,13 +59,6 @@ next_of held held' skipped n step small is_skipped first within rest more =
     before : skipped ≤ length held
     before = let most = skipped_within held in omega (arith, most, is_skipped)
 
--- and comes next in the stream
-pub reads_held : (step : HeadStep) (was : List ℕ) (first : Option (List ℕ)) (held held' : List ℕ) (left : Option (List ℕ)) → StreamStep SameStream was first held left
-    → ReadsHeld step held held' → StreamStep (ReadsHead step) was first held' left
-reads_held step was None held held' left same reads = tt
-reads_held step was (Some all) held held' None same reads = absurd same
-reads_held step was (Some all) held held' (Some rest) same reads = subst (λ (s : List ℕ). ReadsHead step s (held' ++ rest)) same (reads rest)
-
 -- what comes next in a stream does so in the one before it, which is the same
 pub same_before : (step : HeadStep) (was : List ℕ) (first : Option (List ℕ)) (held : List ℕ) (left : Option (List ℕ)) (held' : List ℕ) (left' : Option (List ℕ))
     → StreamStep SameStream was first held left → StreamStep (ReadsHead step) held left held' left' → StreamStep (ReadsHead step) was first held' left'

@@ -125,15 +125,6 @@ all_searched skipped seen held all known =
     let whole : take seen held ≡ held = take_all seen held (omega arith) in
     (known.skipped ∙ ap skipped_bytes whole, ap (λ (s : List ℕ). block_length (drop skipped s)) (sym whole) ∙ known.no_end)
 
-pub search_done : (skipped : ℕ) (held : List ℕ) → skipped ≡ skipped_bytes held → block_length (drop skipped held) ≡ None → IsSearched skipped (length held) held
-search_done skipped held is_skipped none =
-    let whole : take (length held) held ≡ held = take_all (length held) held (omega arith) in
-    record {
-      within = omega arith;
-      skipped = is_skipped ∙ ap skipped_bytes (sym whole);
-      no_end = ap (λ (s : List ℕ). block_length (drop skipped s)) whole ∙ none;
-    }
-
 -- where line ends alone were seen, there may be more of them
 pub more_skipped : (skipped seen more : ℕ) (held : List ℕ) → IsSearched skipped seen held → seen ≤ skipped → more ≡ skipped_bytes (drop seen held) → skipped + more ≡ skipped_bytes held
 more_skipped skipped seen more held known none is_more =
@@ -151,9 +142,6 @@ none_seen skipped seen held known =
     let before : skipped ≤ seen = omega (arith, known.skipped, skipped_within (take seen held), length-take seen held) in
     let same : take (seen - skipped) (drop skipped held) ≡ drop skipped (take seen held) = sym (drop-take skipped (seen - skipped) held) ∙ ap (λ (k : ℕ). drop skipped (take k held)) (omega arith) in
     ap block_length same ∙ known.no_end
-
-pub none_yet : (skipped seen : ℕ) (held : List ℕ) → seen ≤ skipped → block_length (take (seen - skipped) (drop skipped held)) ≡ None
-none_yet skipped seen held before = let none : seen - skipped ≡ 0 = omega arith in rw none refl
 
 -- what is behind the line ends in front begins with none
 pub skipped_once : (s : List ℕ) → skipped_bytes (drop (skipped_bytes s) s) ≡ 0

@@ -1,6 +1,9 @@
 //! The values of the fields of a name, where there is at most one.
 ghost use Rattle.std.specs.Prelude.{List, ℕ, [], ◌∷◌, ◌++◌};
 ghost use Rattle.http_wire.specs.Few.{IsFew};
+ghost use Rattle.http_wire.specs.Fields.{Field, values_of};
+
+use crate::word::same_word;
 
 /// The values of the fields of a name, where there is at most one.
 #[derive(Clone, Copy)]
@@ -20,6 +23,18 @@ impl<'a> Few<'a> {
             Few::None => Few::One(value),
             Few::One(_) => Few::More,
             Few::More => Few::More,
+        }
+    }
+
+    /// With one field more, whose value counts where it has this name.
+    pub fn with_field(self, word: &[u8], name: &[u8], value: &'a [u8]) -> Few<'a>
+        ensures { (fields : List Field) → IsFew (values_of word.now fields) self.entry
+            → IsFew (values_of word.now (fields ++ (name.now, value.now) ∷ [])) result }
+    {
+        if same_word(name, word) {
+            self.and(value)
+        } else {
+            self
         }
     }
 }

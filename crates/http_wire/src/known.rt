@@ -1,6 +1,6 @@
 //! What the fields of a head say, as far as the reader knows them.
-ghost use Rattle.std.specs.Prelude.{List, [], ◌∷◌, ◌++◌};
-ghost use Rattle.http_wire.specs.Fields.{Field};
+ghost use Rattle.std.specs.Prelude.{◌≡◌, ◌&&◌, List, [], ◌∷◌, ◌++◌, codes};
+ghost use Rattle.http_wire.specs.Fields.{Field, is_continue, same_word, says_close};
 ghost use Rattle.http_wire.specs.Known.{AreKnown};
 
 use crate::few::Few;
@@ -39,18 +39,25 @@ impl<'a> KnownFields<'a> {
         ensures { (fields : List Field) → AreKnown fields self.old
             → AreKnown (fields ++ (name.now, value.now) ∷ []) self.new }
     {
-        if same_word(name, b"Host") {
-            self.host = self.host.and(value);
-        } else if same_word(name, b"Content-Length") {
-            self.length = self.length.and(value);
-        } else if same_word(name, b"X-Caller") {
-            self.caller = self.caller.and(value);
-        } else if same_word(name, b"Connection") {
-            self.close |= says_close(value);
-        } else if same_word(name, b"Transfer-Encoding") {
-            self.coding = self.coding.and(value);
-        } else if same_word(name, b"Expect") {
-            self.expect |= is_continue(value);
-        }
+        self.host = self.host.with_field(b"Host", name, value);
+        self.length = self.length.with_field(b"Content-Length", name, value);
+        self.caller = self.caller.with_field(b"X-Caller", name, value);
+        self.coding = self.coding.with_field(b"Transfer-Encoding", name, value);
+        self.close |= asks_to_close(name, value);
+        self.expect |= awaits_continue(name, value);
     }
+}
+
+// Whether a field asks to close.
+fn asks_to_close(name: &[u8], value: &[u8]) -> bool
+    ensures { result ≡ (same_word name.now (codes "Connection") && says_close value.now) }
+{
+    same_word(name, b"Connection") && says_close(value)
+}
+
+// Whether a field awaits 100 Continue.
+fn awaits_continue(name: &[u8], value: &[u8]) -> bool
+    ensures { result ≡ (same_word name.now (codes "Expect") && is_continue value.now) }
+{
+    same_word(name, b"Expect") && is_continue(value)
 }
