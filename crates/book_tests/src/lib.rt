@@ -4,8 +4,6 @@
 #[cfg(test)]
 mod completing;
 #[cfg(test)]
-mod formulas;
-#[cfg(test)]
 mod outside;
 #[cfg(test)]
 mod printing;

@@ -1,7 +1,5 @@
-//! Tests of the doors, of what no contract says: what a connection over TCP carries, and that memory is found.
+//! Tests of the door over TCP, of what no contract says: what a connection carries.
 #![tactic(auto)]
 
-#[cfg(test)]
-mod memory;
 #[cfg(test)]
 mod tcp;

@@ -19,10 +19,6 @@ const DAY: &[u8] =
 const TWICE: &[u8] =
     b"PUT /drafts/D HTTP/1.1\r\nHost: localhost\r\nX-Caller: ANNA\r\nContent-Length: 4\r\n\r\nbookPUT /drafts/D HTTP/1.1\r\nHost: localhost\r\nX-Caller: ANNA\r\nContent-Length: 4\r\n\r\nbook";
 
-// Three drafts.
-const THREE: &[u8] =
-    b"PUT /drafts/D HTTP/1.1\r\nHost: localhost\r\nX-Caller: ANNA\r\nContent-Length: 4\r\n\r\nbookPUT /drafts/E HTTP/1.1\r\nHost: localhost\r\nX-Caller: ANNA\r\nContent-Length: 4\r\n\r\nbookPUT /drafts/F HTTP/1.1\r\nHost: localhost\r\nX-Caller: ANNA\r\nContent-Length: 4\r\n\r\nbook";
-
 // What a new draft is answered with.
 const CREATED: &[u8] =
     b"HTTP/1.1 201 Created\r\nContent-Type: text/plain\r\nContent-Length: 9\r\n\r\nkept D 1\n";
@@ -128,23 +124,6 @@ fn a_put_whose_last_sync_failed_is_made_again_and_there_once(rt: HostRuntime) ->
     let mut answers = FAULT.to_vec(alloc)?;
     answers.extend_from_slice(CREATED)?;
     assert_eq!(rt; link.taken(), answers.as_slice());
-    assert_eq!(rt; kept_after(&rt, alloc, &disk)?, 1);
-    Ok(())
-}
-
-#[test]
-fn what_was_never_synced_is_not_taken_for_a_record(rt: HostRuntime) -> Result<(), Fail> {
-    let alloc = rt.alloc();
-    let mut link = link_of(alloc, THREE)?;
-    // The first write of the second put fails, and the disk stops in that of the third. In the image each byte that was
-    // written reads as 1.
-    let second = START + PUT;
-    let disk = run(
-        alloc,
-        disk_of(alloc, b"", &[second], Some(second + 1))?,
-        &mut link,
-    );
-    assert_eq!(rt; created(link.taken()), 1);
     assert_eq!(rt; kept_after(&rt, alloc, &disk)?, 1);
     Ok(())
 }

@@ -5,5 +5,3 @@
 mod effort;
 #[cfg(test)]
 mod generated;
-#[cfg(test)]
-mod shared;

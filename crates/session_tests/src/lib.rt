@@ -1,5 +1,5 @@
-//! Tests of sessions: holders with too few steps and one that is overtaken, the gate at the judging, and a link that gives a
-//! request only when all before it is answered.
+//! Tests of sessions: a holder with too few steps, the gate at the judging, and a link that gives a request only when all
+//! before it is answered.
 #![tactic(auto)]
 
 #[cfg(test)]
@@ -8,7 +8,5 @@ mod gate;
 mod holders;
 #[cfg(test)]
 mod lock_step;
-#[cfg(test)]
-mod overtaken;
 #[cfg(test)]
 mod setting;

@@ -1,5 +1,4 @@
 //! What the tests begin with.
-ghost use Rattle.order_desk.specs.Valid.{IsValid};
 
 use keeper::{MemoryKeeper, Rows};
 use order_desk::{Desk, NotStarted};
@@ -16,9 +15,7 @@ pub(crate) fn link_of(alloc: Global, stream: &[u8]) -> Result<MemoryLink, Fail> 
 }
 
 /// The desk of an empty store.
-pub(crate) fn started<A: Abort>(rt: &A, alloc: Global) -> Desk<MemoryKeeper>
-    ensures { IsValid result.tables }
-{
+pub(crate) fn started<A: Abort>(rt: &A, alloc: Global) -> Desk<MemoryKeeper> {
     let rows = Rows {
         form: 0,
         drafts: Vec::new(alloc),
