@@ -1,6 +1,5 @@
 -- A call of a pass is a step of the one who holds it.
-use Rattle.std.proofs.Common.{◌≡◌, ◌∙◌, ℕ, zero, suc, ◌+◌, ◌-◌, Some, take, List, [], ◌∷◌, ◌++◌, length, refl, sym, ap, subst, arith, length-append}
-use Rattle.std.specs.Prelude.{slice_get}
+use Rattle.std.proofs.Common.{◌≡◌, ◌∙◌, ℕ, ◌+◌, ◌-◌, List, [], ◌∷◌, ◌++◌, length, refl, sym, ap, subst, arith, length-append}
 use Rattle.turn_book.specs.History.{AddsCall, IsHistory, end_of, entry}
 use Rattle.turn_book.specs.Places.{Rises, at_places}
 use Rattle.turn_book.specs.Standing.{Opened, Standing}
@@ -17,26 +16,6 @@ use Rattle.order_desk.specs.Turn.{IsTurn}
 use Rattle.order_desk.specs.Valid.{IsValid}
 use Rattle.answering.specs.Hand.{Made, Stepped}
 use Rattle.answering.specs.Seat.{IsSeated, hand_of, sitting, steps_of}
-
--- a pass that has seen nothing
-pub seated_new : (book : Opened State) (pass : Standing State Event Answer) → pass.table ≡ book.table → pass.seen ≡ [] → pass.own ≡ []
-    → IsValid book.start.tables → IsSeated (sitting book pass)
-seated_new book pass table seen own valid = record {
-  table = table;
-  legal = subst (IsLegal book.start) (sym seen) tt;
-  valid = subst (λ (l : List (Entry State Event Answer)). IsValid (end_of book.start l).tables) (sym seen) valid;
-  rises = subst (Rises 0 (length pass.seen)) (sym own) (omega arith);
-}
-
--- a pass that was cut off another
-pub seated_cut : (book : Opened State) (pass cut : Standing State Event Answer) → cut.table ≡ pass.table → cut.seen ≡ pass.seen → cut.own ≡ []
-    → IsSeated (sitting book pass) → IsSeated (sitting book cut)
-seated_cut book pass cut table seen own seated = record {
-  table = table ∙ seated.table;
-  legal = subst (IsLegal book.start) (sym seen) seated.legal;
-  valid = subst (λ (l : List (Entry State Event Answer)). IsValid (end_of book.start l).tables) (sym seen) seated.valid;
-  rises = subst (Rises 0 (length cut.seen)) (sym own) (omega arith);
-}
 
 abbrev Log : Type 0
 Log = List (Entry State Event Answer)
@@ -65,16 +44,6 @@ rises_steps start log places rises = subst (λ (n : ℕ). Rises 0 n places) (sym
 -- as many as there are places
 pub length_made : (start : State) (log : Log) (places : List ℕ) → Rises 0 (length log) places → length (at_places (steps_of start log) places) ≡ length places
 length_made start log places rises = length_at_places 0 (steps_of start log) places (rises_steps start log places rises)
-
--- each begins at the state to which all entries before it lead
-step_begins : (start : State) (log : Log) (place : ℕ) (one : Made) → slice_get (steps_of start log) place ≡ Some one
-    → one.before ≡ end_of start (take place log)
-step_begins start [] place one is = cc
-step_begins start (e ∷ es) zero one is =
-    let first : Made = record { before = start; event = e.call; answer = e.reply; after = e.after } in
-    let same : first ≡ one = cc in
-    sym (ap (λ (m : Made). m.before) same)
-step_begins start (e ∷ es) (suc place) one is = step_begins e.after es place one is
 
 -- the steps at places of a history stay as it grows
 pub steps_longer : (start : State) (log later : Log) (places : List ℕ) → Rises 0 (length log) places

@@ -5,17 +5,16 @@ use Rattle.pb_base.specs.declared.answer.Memory.{Memory}
 use Rattle.pb_base.specs.declared.limits.TheConstants.{DEFAULT_BUDGET, MOST_TEXT_BYTES}
 use Rattle.book_model.specs.Contents.{Contents}
 use Rattle.book_text.specs.BookText.{book_of}
-use Rattle.pb_outside.specs.Files.{NamedBytes, FilesTold, content_of, ReadsFile, FailsToRead, within_room}
+use Rattle.pb_outside.specs.Files.{NamedBytes, FilesTold, content_of, ReadsFile, within_room}
 use Rattle.release_check.specs.NotReleased.{IsRefusal}
 use Rattle.release_check.specs.declared.not_released.NotReleased.{NotReleased}
-use Rattle.book_commands.specs.BookFile.{RepliesToContent, IsBookOf, HasBook, unread, kept_back, no_memory, IsBookFile, IsKeptBackStatus, IsBookText, IsValidBook}
+use Rattle.book_commands.specs.BookFile.{RepliesToContent, IsBookOf, HasBook, kept_back, no_memory, IsBookFile, IsKeptBackStatus, IsBookText, IsValidBook}
 use Rattle.book_commands.specs.Checks.{kept_back_reply}
 use Rattle.book_commands.specs.CompareReply.{IsKeptBack, IsReleased}
 use Rattle.book_commands.specs.Ends.{IsCheckStatus, EndsCheck}
-use Rattle.book_commands.specs.RunReply.{RunReply, read_fault_reply}
+use Rattle.book_commands.specs.RunReply.{RunReply}
 use Rattle.book_commands.specs.declared.book_file.BookFile.{BookFile}
 use Rattle.book_commands.specs.declared.book_file.BookFile.TheVariants.{Released, KeptBack}
-use Rattle.book_commands.specs.declared.object.Object.TheVariants.{Files}
 use Rattle.book_commands.specs.declared.run_status.RunStatus.{RunStatus}
 use Rattle.book_commands.specs.declared.run_status.RunStatus.TheVariants as statuses
 use Rattle.book_commands.proofs.Statuses.{proof-kind, proof-answered}
@@ -36,12 +35,6 @@ pub found_book : (file : List ℕ) (files files' : FilesTold) (content : Option 
 found_book file files files' content (Released r) read count is = released_found file files files' content r.book read count is
 found_book file files files' content (KeptBack (Ok reply)) read count is = kept_back content read count is
 found_book file files files' content (KeptBack (Err wanting)) read count is = no_memory refl
-
-pub unread_book : (file : List ℕ) (files files' : FilesTold) (made : Result RunReply Memory) (first last : ℕ) → FailsToRead file files files'
-    → first ≡ files.faults.count → last ≡ files'.faults.count → IfOk made (λ reply. reply ≡ read_fault_reply Files first last) → IsBookFile file files files' (KeptBack made)
-unread_book file files files' (Ok reply) first last fails before after is =
-    unread fails (is ∙ ap (λ n. read_fault_reply Files n last) before ∙ ap (read_fault_reply Files files.faults.count) after)
-unread_book file files files' (Err wanting) first last fails before after is = no_memory refl
 
 -- ---- statuses
 

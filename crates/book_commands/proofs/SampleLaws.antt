@@ -84,14 +84,6 @@ no_order_fault start codes b s may e groups =
     (subst (λ (c : Contents). order_fault c (order_at (codes / 4) s.state).day (order_at (codes / 4) s.state).codes ≡ None) (of_law start codes b may e)
     ((whole_law start codes may).orders s.state))
 
-no_fault : (found : Option OrderFault) (o : Outcome) (fault : OrderFault) → found ≡ None → unless found (Ok o) ≡ Err fault → ⊥
-no_fault None o fault none e = cc
-no_fault (Some f) o fault none e = cc
-
--- an order without fault comes to an outcome
-pub never_faulty : (b : Contents) (day : ℕ) (names : List (List ℕ)) (fault : OrderFault) → order_fault b day names ≡ None → outcome_of b day names ≡ Err fault → ⊥
-never_faulty b day names fault none e = no_fault (order_fault b day names) _ fault none e
-
 fewer : (p : ℕ → Bool) (xs : List ℕ) → length (filter p xs) ≤ length xs
 fewer p [] = omega arith
 fewer p (x ∷ xs) =

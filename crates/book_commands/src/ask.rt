@@ -4,7 +4,6 @@ ghost use Rattle.blame.specs.Blame.{IsTold};
 ghost use Rattle.book_model.specs.Activity.{is_within};
 ghost use Rattle.book_model.specs.Book.{RuleFits};
 ghost use Rattle.book_text.specs.BookText.{book_of};
-ghost use Rattle.desk_words.specs.FaultText.{rule_place};
 ghost use Rattle.left_laws.specs.Laws.{OrdersMeet};
 ghost use Rattle.rule_text.specs.Reading.{rule_of};
 ghost use Rattle.book_commands.specs.Ask.{RepliesToAsk, RepliesOnDay, RepliesByRule, IsAskReply, ask_notes, ask_status, rule_fault_reply, rule_fault_text, told_reply};
@@ -18,7 +17,7 @@ use blame_text::ask_text;
 use book_model::{Book, active};
 use book_text::read_book;
 use command_words::{Budget, RuleWord};
-use desk_words::{put_number, put_optional};
+use desk_words::put_rule_fault;
 use left_laws::left_laws;
 use parts_usage::OrderFault;
 use pb_base::{Body, Day, Fail, Formula, Memory, Text};
@@ -148,21 +147,7 @@ fn rule_fault_text(alloc: Global, fault: &RuleFault) -> Result<Body, Memory>
 {
     let mut text = Text::new(alloc);
     text.put(b"rule fault")?;
-    put_number(&mut text, u64::from(fault.number()))?;
-    put_optional(&mut text, rule_place(fault))?;
+    put_rule_fault(&mut text, fault)?;
     text.put(b"\n")?;
     Ok(text.into_body())
-}
-
-fn rule_place(fault: &RuleFault) -> Option<u64>
-    ensures { result ≡ rule_place fault.now }
-{
-    match fault {
-        RuleFault::Empty => None,
-        RuleFault::BadByte(at) => Some(u64::from(*at)),
-        RuleFault::UnknownCode(at) => Some(u64::from(*at)),
-        RuleFault::Expected(at) => Some(u64::from(*at)),
-        RuleFault::TooDeep(at) => Some(u64::from(*at)),
-        RuleFault::TooLong(at) => Some(u64::from(*at)),
-    }
 }

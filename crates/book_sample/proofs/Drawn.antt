@@ -70,14 +70,8 @@ one_less n j below = omega arith
 next_is : (j : ℕ) → suc j ≡ j + 1
 next_is j = omega arith
 
-none_left : (n : ℕ) → n - n ≡ 0
-none_left n = omega arith
-
 pub behind_more : (n j x : ℕ) → j < n → behind_groups (n - (j + 1)) (j + 1) (behind_group j x) ≡ behind_groups (n - j) j x
 behind_more n j x below = rw (one_less n j below) (ap (λ k. behind_groups (n - (j + 1)) k (behind_group j x)) (sym (next_is j)))
-
-pub behind_end : (n j x : ℕ) → n ≤ j → behind_groups (n - j) j x ≡ x
-behind_end n j x past = let none : n - j ≡ 0 = omega arith in rw none refl
 
 pub codes_more : (n j : ℕ) (text : List ℕ) → j < n → (text ++ code_line j) ++ codes_text (n - (j + 1)) (j + 1) ≡ text ++ codes_text (n - j) j
 unfolding codes_text

@@ -41,9 +41,6 @@ pub record StocksFrom (books : List KeptBook) (rest orders : List (OrderKey × O
   pub under : All (IsUnder books) rest
   pub more : (others : List Stock) → AreStock books rest others → AreStock books orders (stock ++ others)
 
-pub stocks_first : (books : List KeptBook) (orders : List (OrderKey × OrderWords)) → All (IsUnder books) orders → StocksFrom books orders orders []
-stocks_first books orders under = record { under = under; more = λ others h. h }
-
 pub stocks_next : (books : List KeptBook) (rest rest' orders : List (OrderKey × OrderWords)) (key : OrderKey) (order : OrderWords) (book : Release)
     (s : Stock) (stock : List Stock) → StocksFrom books rest orders stock → rest ≡ (key, order) ∷ rest'
     → Some book ≡ option_map (λ (kept : KeptBook). kept.released) (book_at books order.book) → IsStock book key order s
@@ -64,17 +61,6 @@ stocks_next books rest rest' orders key order book s stock from is there same =
       more = λ others h.
           subst (λ (all : List Stock). AreStock books orders all) (sym (append_assoc stock (s ∷ []) others)) (from'.more (s ∷ others) (kept, h));
     }
-
--- the order's own book is there
-pub never_none : (books : List KeptBook) (rest rest' orders : List (OrderKey × OrderWords)) (key : OrderKey) (order : OrderWords) (stock : List Stock)
-    → StocksFrom books rest orders stock → rest ≡ (key, order) ∷ rest'
-    → None ≡ option_map (λ (kept : KeptBook). kept.released) (book_at books order.book) → ⊥
-never_none books rest rest' orders key order stock from is none =
-    let from' : StocksFrom books ((key, order) ∷ rest') orders stock =
-    subst (λ (r : List (OrderKey × OrderWords)). StocksFrom books r orders stock) is from in
-    let under = All-head (IsUnder books) (key, order) rest' from'.under in
-    let clash : None ≡ Some under.book.released = none ∙ ap (option_map (λ (kept : KeptBook). kept.released)) under.there in
-    cc
 
 pub stocks_last : (books : List KeptBook) (rest orders : List (OrderKey × OrderWords)) (stock : List Stock) → StocksFrom books rest orders stock
     → rest ≡ [] → AreStock books orders stock

@@ -30,7 +30,8 @@ fn put_kind_detail(text: &mut Text, kind: &BookKind) -> Result<(), Memory>
     }
 }
 
-fn put_rule_fault(text: &mut Text, fault: &RuleFault) -> Result<(), Memory>
+/// Puts the number of a rule's fault, and its place in the text where it has one, without the end of a line.
+pub fn put_rule_fault(text: &mut Text, fault: &RuleFault) -> Result<(), Memory>
     ensures { OnOk result (text.new ≡ text.old ++ rule_fault_text fault.now) }
 {
     put_number(text, u64::from(fault.number()))?;

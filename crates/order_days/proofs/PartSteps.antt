@@ -1,5 +1,5 @@
 -- Two lists of positions' parts, one position after the other.
-use Rattle.std.proofs.Common.{◌≡◌, ℕ, ◌+◌, ◌<◌, true, false, ◌&&◌, List, ◌∷◌, length, get_or, drop, map, sym, ap, ◌∙◌}
+use Rattle.std.proofs.Common.{◌≡◌, ℕ, ◌+◌, ◌<◌, true, ◌&&◌, List, ◌∷◌, length, get_or, drop, map, sym, ap, ◌∙◌}
 use Rattle.std.proofs.lemmas.List.{drop_more}
 use Rattle.book_model.specs.declared.record.Position.{Position}
 use Rattle.chosen_parts.specs.declared.part_use.PartUse.{PartUse}
@@ -13,8 +13,3 @@ module _ (f g : Position → List PartUse) (ps : List Position) (i : ℕ) (p : P
   parts_more same =
       ap (λ (qs : List Position). are_same_parts (map f qs) (map g qs)) rest
       ∙ ap (λ t. t && are_same_parts (map f (drop (i + 1) ps)) (map g (drop (i + 1) ps))) same
-
-  pub parts_stop : are_same_uses (f p) (g p) ≡ false → are_same_parts (map f (drop i ps)) (map g (drop i ps)) ≡ false
-  parts_stop other =
-      ap (λ (qs : List Position). are_same_parts (map f qs) (map g qs)) rest
-      ∙ ap (λ t. t && are_same_parts (map f (drop (i + 1) ps)) (map g (drop (i + 1) ps))) other

@@ -21,7 +21,7 @@ use Rattle.order_desk.specs.RightRows.{first_wrong, has_reached, have_one_revisi
 use Rattle.order_desk.specs.Rows.{book_row, book_rows, draft_row, withdrawn_rows}
 use Rattle.order_desk.specs.Tables.{by_name, draft_at, is_of}
 use Rattle.order_desk.proofs.Conjunction.{left_of, right_of, not_left, not_right}
-use Rattle.order_desk.proofs.FirstWrong.{IsRead, read_more, read_none, read_wrong}
+use Rattle.order_desk.proofs.FirstWrong.{IsRead, read_more, read_wrong}
 use Rattle.order_desk.proofs.RowsAfter.{withdrawn_rows-push}
 use Rattle.order_desk.proofs.Validity.{all-push}
 
@@ -154,12 +154,6 @@ reached_before d row less = grind (arith, less)
 pub reached_now : (d : DraftRow) (row : BookRow) → row.revision ≤ d.revision → same_name row.text d.text ≡ true → has_reached (Some d) row ≡ true
 reached_now d row within same = grind (arith, within, same)
 
-pub reached_later : (d : DraftRow) (row : BookRow) → d.revision < row.revision → has_reached (Some d) row ≡ false
-reached_later d row less = grind (arith, less)
-
-pub reached_otherwise : (d : DraftRow) (row : BookRow) → d.revision ≤ row.revision → same_name row.text d.text ≡ false → has_reached (Some d) row ≡ false
-reached_otherwise d row within other = grind (arith, within, other)
-
 -- a book that is read goes behind the others, under the next number
 pub book_rows-append : (n : ℕ) (books : List KeptBook) (book : KeptBook)
     → book_rows n (books ++ book ∷ []) ≡ book_rows n books ++ book_row (length books + n) book ∷ []
@@ -174,9 +168,6 @@ pub record AreRead (drafts : List DraftRow) (rows : List BookRow) (books : List 
   pub few : length books ≤ MOST_BOOKS
   pub in_force : withdrawn_rows 1 books ≡ []
   pub released : AllByRecursion (λ b. IsRelease b.released) books
-
-pub none_read : (drafts : List DraftRow) (rows : List BookRow) → AreRead drafts rows [] rows
-none_read drafts rows = record { read = read_none (is_book_row drafts) rows; few = omega arith; in_force = refl; released = tt }
 
 -- what a row says of its book
 pub record IsBookOf (drafts : List DraftRow) (books : List KeptBook) (row : BookRow) (book : KeptBook) : Type 0 where

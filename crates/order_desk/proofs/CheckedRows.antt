@@ -20,7 +20,7 @@ use Rattle.order_desk.specs.declared.kept_book.KeptBook.{KeptBook}
 use Rattle.order_desk.specs.Checked.{AreChecked, IsChecked, with_texts}
 use Rattle.order_desk.specs.RightRows.{first_wrong, is_book_row}
 use Rattle.order_desk.specs.Rows.{book_rows}
-use Rattle.order_desk.proofs.BookRows.{AreRead, IsBookOf, book_wrong, books_more, none_read, not_released}
+use Rattle.order_desk.proofs.BookRows.{AreRead, IsBookOf, book_wrong, books_more, not_released}
 
 -- ---- all places, by each of them
 
@@ -99,9 +99,6 @@ pub record AreLeft (drafts : List DraftRow) (rows : List BookRow) (books : List 
   pub checked : AllZip IsChecked rest places
 
 module _ (drafts : List DraftRow) (rows : List BookRow) where
-  pub all_left : (places : List BookPlace) → AllZip IsChecked rows places → AreLeft drafts rows [] places
-  all_left places checked = record { rest = rows; are = none_read drafts rows; checked = checked }
-
   none_rest : (books : List KeptBook) (rest : List BookRow) → AllZip IsChecked rest [] → AreRead drafts rows books rest
       → AreRead drafts rows books []
   none_rest books [] checked are = are

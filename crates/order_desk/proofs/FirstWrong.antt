@@ -9,9 +9,6 @@ pub record IsRead {R : Type 0} (is_right : List R → R → Bool) (rows seen res
   pub first : first_wrong is_right [] rows ≡ first_wrong is_right seen rest
 
 module _ {R : Type 0} (is_right : List R → R → Bool) where
-  pub read_none : (rows : List R) → IsRead is_right rows [] rows
-  read_none rows = record { whole = refl; first = refl }
-
   turn : (b : Bool) → List R → R → List R → Option ℕ
   turn b seen row rest = if b then first_wrong is_right (seen ++ row ∷ []) rest else Some (length seen + 1)
 

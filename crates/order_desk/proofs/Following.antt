@@ -4,7 +4,6 @@ use Rattle.std.specs.Prelude.{Result, Ok, Err, IfSome}
 use Rattle.std.specs.Option.{option_map}
 use Rattle.pb_outside.specs.declared.error.OutError.{OutError}
 use Rattle.pb_outside.specs.declared.error.OutError.TheVariants as out
-use Rattle.keeper.specs.Causes.{HasCause}
 use Rattle.keeper.specs.Rows.{Kept}
 use Rattle.desk_words.specs.declared.reply.Reply.TheVariants as reply
 use Rattle.order_desk.specs.declared.answer.Answer.{Answer}
@@ -14,28 +13,12 @@ use Rattle.order_desk.specs.Rows.{rows_of, IsDesk}
 use Rattle.order_desk.specs.Step.{Follows, Shows}
 use Rattle.order_desk.specs.Tables.{Tables, State}
 use Rattle.order_desk.specs.Valid.{IsValid}
-use Rattle.order_desk.specs.Writing.{IsAnswered, IsOneCall, IsWritten}
+use Rattle.order_desk.specs.Writing.{IsWritten}
 
 pub follows_from_shows : (u : Effect) (old : State) (given : Answer) → Shows u given → Follows u old given old
 follows_from_shows (says due) old given so = (so, refl)
 follows_from_shows (shows due) old given so = (so, refl)
 follows_from_shows (keeps due tables) old given so = absurd so
-
-pub follows_write : (due : Answer) (tables : Tables) (old new : State) (given : Answer) (written : Result (Unit {0}) OutError)
-    → HasCause written old.faults new.faults → IsAnswered written due given old.faults.count new.faults.count
-    → IsWritten written old.tables tables new.tables → IsOneCall written old.calls new.calls → Follows (keeps due tables) old given new
-follows_write due tables old new given (Ok done) cause said is once =
-    (cause.later, inl (record { said = said.done; changed = is.done; count = cause.stays; once = once.made }))
-follows_write due tables old new given (Err out.Memory) cause said is once =
-    (cause.later, inr (record { said = inl (said.memory refl); unchanged = is.unchanged; at_most_once = once.at_most }))
-follows_write due tables old new given (Err out.Failed) cause said is once = (
-  cause.later,
-  inr (record {
-    said = inr (record { said = said.failed refl; fails = cause.cause refl; once = once.failed refl });
-    unchanged = is.unchanged;
-    at_most_once = once.at_most;
-  }),
-)
 
 -- where no memory was found before the write
 pub follows_memory : (due : Answer) (tables : Tables) (old : State) → Follows (keeps due tables) old (answer.Say reply.Memory) old

@@ -122,9 +122,6 @@ grows-over : (t : Tables) (name : List ℕ) (old new : Draft) → draft_at t.dra
     → Grows t (with_draft t name new)
 grows-over t name old new is later = grows-with_draft t name new (subst (λ o. Stays IsLaterDraft o (Some new)) (sym is) later)
 
-pub grows-new : (t : Tables) (name : List ℕ) (new : Draft) → draft_at t.drafts name ≡ None → Grows t (with_draft t name new)
-grows-new t name new none = grows-with_draft t name new (subst (λ o. Stays IsLaterDraft o (Some new)) (sym none) tt)
-
 -- what was found is there
 found-draft : (o : Option Draft) (d : Draft) → ok_or o (reply.NoSuch missing.Draft) ≡ Ok d → o ≡ Some d
 found-draft None d is = cc

@@ -1,5 +1,5 @@
 -- Lists of books and of orders, line after line.
-use Rattle.std.proofs.Common.{◌≡◌, ℕ, zero, suc, ◌+◌, ◌≤◌, Bool, true, false, not, ◌&&◌, cond, List, [], ◌∷◌, ◌++◌, length, take, refl, sym, ap, subst, ◌∙◌, arith, append_assoc, Bor}
+use Rattle.std.proofs.Common.{◌≡◌, ℕ, suc, ◌+◌, ◌≤◌, Bool, true, false, not, ◌&&◌, cond, List, [], ◌∷◌, ◌++◌, length, take, refl, sym, ap, subst, ◌∙◌, arith, append_assoc, Bor}
 use Rattle.std.specs.Prelude.{Option, None, Some, is_some, nat_lt}
 use Rattle.std.specs.List.{AllByRecursion, flat_map}
 use Rattle.std.specs.BTreeMap.Range.{entries_between, range_contains}
@@ -27,13 +27,6 @@ use Rattle.order_desk.proofs.Keys.{by_name_exact, by_name_total}
 abbrev pub list_of : ℕ → List (OrderKey × OrderWords) → List ℕ
 list_of n own = flat_map order_line (take n own) ++ last_line (nat_lt n (length own))
 
--- none is left
-pub list_end : (n : ℕ) → list_of n [] ≡ last_line false
-list_end zero = refl
-list_end (suc n) =
-    let none : nat_lt (suc n) 0 ≡ false = grind (arith, nat_tests) in
-    ap last_line none
-
 -- one more line
 pub list_more : (n : ℕ) (e : OrderKey × OrderWords) (rest : List (OrderKey × OrderWords)) → list_of (suc n) (e ∷ rest) ≡ order_line e ++ list_of n rest
 list_more n e rest =
@@ -48,12 +41,6 @@ more_left orders rest None (none, _) = sym (ap (λ (l : List (OrderKey × OrderW
 more_left orders rest (Some x) first =
     let some : nat_lt 0 (length orders) ≡ true = grind (arith, nat_tests, ap length first) in
     sym some
-
--- the text, once the orders that are left are listed, is the whole
-pub listed_none : (left : ℕ) (orders : List (OrderKey × OrderWords)) (text put whole : List ℕ) → orders ≡ [] → put ≡ text ++ last_line false
-    → text ++ list_of left orders ≡ whole → put ≡ whole
-listed_none left orders text put whole none is so =
-    is ∙ ap (λ (t : List ℕ). text ++ t) (sym (ap (list_of left) none ∙ list_end left)) ∙ so
 
 pub listed_more : (left further : ℕ) (e : OrderKey × OrderWords) (orders rest : List (OrderKey × OrderWords)) (text put whole : List ℕ) → left ≡ further + 1
     → orders ≡ e ∷ rest → put ≡ text ++ order_line e → text ++ list_of left orders ≡ whole → put ++ list_of further rest ≡ whole

@@ -29,7 +29,7 @@ use Rattle.order_desk.specs.Judging.{accepts, accepted_by}
 use Rattle.order_desk.specs.RightRows.{accepts_row, codes_in, comes_last, is_order_row, is_under}
 use Rattle.order_desk.specs.Rows.{book_row, book_rows, codes_text, order_row}
 use Rattle.order_desk.specs.Tables.{book_at, by_key}
-use Rattle.order_desk.proofs.Conjunction.{each_of, none_after, one_fails}
+use Rattle.order_desk.proofs.Conjunction.{each_of, one_fails}
 use Rattle.order_desk.proofs.Entries.{all-insert}
 use Rattle.order_desk.proofs.Growth.{place_of_number}
 use Rattle.order_desk.proofs.Keys.{by_key_total, by_key_exact}
@@ -74,23 +74,8 @@ module _ (books : List BookRow) (before : List OrderRow) (row : OrderRow) where
   pub order_row_is : IsOrderRow books before row → is_order_row books before row ≡ true
   order_row_is is = grind (arith, is.caller, is.least, is.most, is.rises, is.room, is.codes, is.day, is.under)
 
-  pub no_caller : is_name row.caller ≡ false → is_order_row books before row ≡ false
-  no_caller h = none_after (is_name row.caller) tests h
-
-  pub no_number : nat_le 1 row.number ≡ false → is_order_row books before row ≡ false
-  no_number h = one_fails (is_name row.caller) tests 0 (ap Some h)
-
-  pub past_numbers : nat_le row.number MOST_ORDER_NUMBER ≡ false → is_order_row books before row ≡ false
-  past_numbers h = one_fails (is_name row.caller) tests 1 (ap Some h)
-
   pub not_last : comes_last by_caller before row ≡ false → is_order_row books before row ≡ false
   not_last h = one_fails (is_name row.caller) tests 2 (ap Some h)
-
-  pub no_room : nat_lt (length before) MOST_ORDERS ≡ false → is_order_row books before row ≡ false
-  no_room h = one_fails (is_name row.caller) tests 3 (ap Some h)
-
-  pub no_codes : list_all is_code_name (codes_in row.codes) ≡ false → is_order_row books before row ≡ false
-  no_codes h = one_fails (is_name row.caller) tests 4 (ap Some h)
 
   pub past_days : nat_le row.day LAST_DAY ≡ false → is_order_row books before row ≡ false
   past_days h = one_fails (is_name row.caller) tests 5 (ap Some h)

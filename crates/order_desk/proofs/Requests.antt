@@ -18,11 +18,11 @@ use Rattle.order_desk.specs.declared.draft.Draft.{Draft}
 use Rattle.order_desk.specs.declared.kept_book.KeptBook.{KeptBook}
 use Rattle.order_desk.specs.declared.limits.TheConstants.{MOST_BOOKS, MOST_DRAFTS, MOST_ORDERS, MOST_REVISION}
 use Rattle.order_desk.specs.declared.order_key.OrderKey.{OrderKey}
-use Rattle.order_desk.specs.Effect.{Effect, says, keeps, go_on, owned, next_of, next_draft, give_draft, to_release, unless_released, book_of, withdraw, shows_kept, same_order, unless_kept, to_place}
+use Rattle.order_desk.specs.Effect.{Effect, says, keeps, go_on, owned, next_of, next_draft, to_release, unless_released, book_of, withdraw, shows_kept, same_order, unless_kept, to_place}
 use Rattle.order_desk.specs.Fits.{IsPut}
 use Rattle.order_desk.specs.History.{Stays, IsLaterDraft}
 use Rattle.order_desk.specs.Step.{Shows}
-use Rattle.order_desk.specs.Tables.{Tables, by_name, draft_at, book_at, order_at, released_as, with_draft, with_withdrawn}
+use Rattle.order_desk.specs.Tables.{Tables, by_name, draft_at, book_at, order_at, released_as, with_withdrawn}
 use Rattle.order_desk.specs.Valid.{IsDraft, IsValid}
 use Rattle.order_desk.proofs.Growth.{next_later, draft_there, book_there, handed_over}
 use Rattle.order_desk.proofs.Keys.{by_name_exact}
@@ -116,12 +116,6 @@ pub given_is_later : (t : Tables) (caller name to : List ℕ) (d : Draft) → ow
     → Stays IsLaterDraft (draft_at t.drafts name) (Some (record d { owner = to }))
 given_is_later t caller name to d is =
     subst (λ o. Stays IsLaterDraft o (Some (record d { owner = to }))) (sym (draft_there t caller name d is)) (handed_over d to)
-
-pub gives : (t : Tables) (caller name to : List ℕ) (d : Draft) → owned t caller name ≡ Ok d
-    → give_draft t caller name to ≡ keeps (answer.Say (reply.Given name to)) (with_draft t name (record d { owner = to }))
-unfolding give_draft
-gives t caller name to d is =
-    ap (λ r. go_on r (λ draft. keeps (answer.Say (reply.Given name to)) (with_draft t name (record draft { owner = to })))) is
 
 -- ---- a release
 

@@ -1,11 +1,11 @@
 -- Rows of withdrawn books as they are read.
-use Rattle.std.proofs.Common.{◌≡◌, ℕ, ◌+◌, ◌-◌, ◌<◌, ◌≤◌, ◌==◌, zero, suc, Bool, true, false, ◌&&◌, List, [], ◌∷◌, ◌++◌, None, Some, length, drop, refl, sym, ap, subst, ◌∙◌, arith}
+use Rattle.std.proofs.Common.{◌≡◌, ℕ, ◌+◌, ◌-◌, ◌<◌, ◌≤◌, ◌==◌, zero, suc, Bool, true, false, ◌&&◌, List, [], ◌∷◌, ◌++◌, Some, length, drop, refl, sym, ap, subst, ◌∙◌, arith}
 use Rattle.std.specs.Prelude.{nat_le, nat_lt, slice_get, slice_set, if◌then◌else◌}
 use Rattle.std.specs.List.{AllByRecursion}
 use Rattle.std.specs.Ordering.{is_lt, nat_cmp}
 use Rattle.std.specs.declared.cmp.Ordering.TheVariants.{Greater}
 use Rattle.std.proofs.lemmas.Bool.{lt-ltb, ltb-true}
-use Rattle.std.proofs.lemmas.List.{drop_all, length_push}
+use Rattle.std.proofs.lemmas.List.{length_push}
 use Rattle.std.proofs.lemmas.List.Folds.{list_all-append}
 use Rattle.keeper.specs.Put.{put, put_by}
 use Rattle.keeper.specs.declared.rows.BookRow.{BookRow}
@@ -15,7 +15,7 @@ use Rattle.order_desk.specs.declared.limits.TheConstants.{MOST_BOOKS}
 use Rattle.order_desk.specs.RightRows.{comes_last, first_wrong, is_withdrawn_row}
 use Rattle.order_desk.specs.Rows.{book_rows, withdrawn_rows}
 use Rattle.order_desk.proofs.Conjunction.{left_of, right_of}
-use Rattle.order_desk.proofs.FirstWrong.{IsRead, read_none, read_more, read_wrong, read_right, read_all}
+use Rattle.order_desk.proofs.FirstWrong.{IsRead, read_more, read_wrong}
 use Rattle.order_desk.proofs.RowsAfter.{book_rows-set, withdrawn_rows-set}
 use Rattle.order_desk.proofs.Validity.{all-set}
 
@@ -30,9 +30,6 @@ is_above k n less = grind arith
 -- the numbers of books behind those before are the ones above the last
 pub record IsLast (before : List ℕ) (last : ℕ) : Type 0 where
   pub above : (n : ℕ) → (comes_last nat_cmp before n && nat_le 1 n) ≡ nat_lt last n
-
-last_none : IsLast [] 0
-last_none = record { above = λ n. grind arith }
 
 last_more : (before : List ℕ) (last number : ℕ) → IsLast before last → last < number → IsLast (before ++ number ∷ []) number
 last_more before last number is less = record {
@@ -125,20 +122,6 @@ pub record AreOut (form : ℕ) (rows : List BookRow) (numbers : List ℕ) (place
   pub kept : book_rows 1 books ≡ rows
   pub released : AllByRecursion (λ b. IsRelease b.released) books
 
-pub out_none : (form : ℕ) (numbers : List ℕ) (books : List KeptBook) → length books ≤ MOST_BOOKS → withdrawn_rows 1 books ≡ []
-    → AllByRecursion (λ b. IsRelease b.released) books → AreOut form (book_rows 1 books) numbers 0 0 books
-out_none form numbers books few in_force released = record {
-  read = subst (λ l. IsRead (is_withdrawn_row form (book_rows 1 books)) numbers l numbers) (sym in_force)
-      (read_none (is_withdrawn_row form (book_rows 1 books)) numbers);
-  count = ap length in_force;
-  rising = subst (λ l. IsLast l 0) (sym in_force) last_none;
-  within = omega arith;
-  most = omega arith;
-  few = few;
-  kept = refl;
-  released = released;
-}
-
 module _ (form : ℕ) (rows : List BookRow) (numbers : List ℕ) (place last : ℕ) (books : List KeptBook)
     (are : AreOut form rows numbers place last books) where
   length-rows : length rows ≡ length books
@@ -182,12 +165,3 @@ module _ (form : ℕ) (rows : List BookRow) (numbers : List ℕ) (place last : �
   out_wrong number here wrong =
       read_wrong (is_withdrawn_row form rows) numbers (withdrawn_rows 1 books) number (drop (place + 1) numbers) (turn number here) (tests number ∙ wrong)
       ∙ ap (λ n. Some (n + 1)) are.count
-
-  all_seen : length numbers ≤ place → IsRead (is_withdrawn_row form rows) numbers (withdrawn_rows 1 books) []
-  all_seen past = subst (IsRead (is_withdrawn_row form rows) numbers (withdrawn_rows 1 books)) (drop_all place numbers past) are.read
-
-  pub out_right : length numbers ≤ place → first_wrong (is_withdrawn_row form rows) [] numbers ≡ None
-  out_right past = read_right (is_withdrawn_row form rows) numbers (withdrawn_rows 1 books) (all_seen past)
-
-  pub out_all : length numbers ≤ place → withdrawn_rows 1 books ≡ numbers
-  out_all past = read_all (is_withdrawn_row form rows) numbers (withdrawn_rows 1 books) (all_seen past)

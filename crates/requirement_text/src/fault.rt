@@ -1,13 +1,11 @@
 //! The line of a fault.
 ghost use Rattle.std.specs.Prelude.{◌≡◌, ◌++◌, IfOk, OnOk};
-ghost use Rattle.desk_words.specs.FaultText.{rule_fault_text, rule_place};
 ghost use Rattle.requirement_text.specs.FaultText.{kind_detail, requirement_fault_text};
 
 use book_text::BookKind;
-use desk_words::{put_number, put_optional};
+use desk_words::{put_number, put_rule_fault};
 use pb_base::{Body, Memory, Text};
 use requirements::{RequirementFault, RequirementKind};
-use rule_text::RuleFault;
 use std::alloc::Global;
 
 /// `requirement fault ROW KIND`, with what the kind has to add: of a rule its fault and place, and ` requirements` of too many.
@@ -30,25 +28,5 @@ fn put_kind_detail(text: &mut Text, kind: &RequirementKind) -> Result<(), Memory
         RequirementKind::AsInBooks(BookKind::BadRule(fault)) => put_rule_fault(text, fault),
         RequirementKind::AsInBooks(_) => Ok(()),
         RequirementKind::TooMany => text.put(b" requirements"),
-    }
-}
-
-fn put_rule_fault(text: &mut Text, fault: &RuleFault) -> Result<(), Memory>
-    ensures { OnOk result (text.new ≡ text.old ++ rule_fault_text fault.now) }
-{
-    put_number(text, u64::from(fault.number()))?;
-    put_optional(text, rule_place(fault))
-}
-
-fn rule_place(fault: &RuleFault) -> Option<u64>
-    ensures { result ≡ rule_place fault.now }
-{
-    match fault {
-        RuleFault::Empty => None,
-        RuleFault::BadByte(at) => Some(u64::from(*at)),
-        RuleFault::UnknownCode(at) => Some(u64::from(*at)),
-        RuleFault::Expected(at) => Some(u64::from(*at)),
-        RuleFault::TooDeep(at) => Some(u64::from(*at)),
-        RuleFault::TooLong(at) => Some(u64::from(*at)),
     }
 }

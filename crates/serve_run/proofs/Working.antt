@@ -80,9 +80,5 @@ stops end h p over faults log none_out never_falls cause = record {
   cause = cause;
 }
 
--- nothing was done yet
-pub nothing_yet : (h : Hand) (p : PortTold) (log : List SessionEnd) → WorksOn h p log h p log
-nothing_yet h p log = λ end last more new w. w
-
 pub on_and_on : (h i j : Hand) (p q r : PortTold) (log log' log'' : List SessionEnd) → WorksOn h p log i q log' → WorksOn i q log' j r log'' → WorksOn h p log j r log''
 on_and_on h i j p q r log log' log'' first second = λ end last more new w. first end last more new (second end last more new w)

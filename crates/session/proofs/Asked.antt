@@ -1,26 +1,15 @@
 -- The text that is written for a message.
-use Rattle.std.proofs.Common.{◌≡◌, ℕ, List, refl, inl, inr}
+use Rattle.std.proofs.Common.{ℕ, List, refl, inl, inr}
 use Rattle.std.specs.Prelude.{Result, Ok, Err, IfOk}
 use Rattle.pb_base.specs.declared.answer.Memory.{Memory}
 use Rattle.desk_words.specs.declared.call.Call.{Call}
-use Rattle.desk_words.specs.declared.reply.Reply.{Reply}
 use Rattle.http_wire.specs.declared.head.Head.{Head}
 use Rattle.http_wire.specs.declared.message.Message.{Message}
-use Rattle.http_api.specs.Response.{IsDeniedResponse, response_of}
+use Rattle.http_api.specs.Response.{IsDeniedResponse}
 use Rattle.http_api.specs.declared.denied.Denied.{Denied}
-use Rattle.answering.specs.Answers.{Answers}
 use Rattle.answering.specs.Hand.{Hand}
-use Rattle.session.specs.Responses.{Asks, AnswersAsked, AnswersMessage, IsDenial, IsResponse, is_bare}
+use Rattle.session.specs.Responses.{Asks, AnswersAsked, AnswersMessage, IsDenial, is_bare}
 use Rattle.session.specs.Steps.{text_of}
-
-response : (head : Head) (reply : Reply) (made : Result (List ℕ) Memory) → IfOk made (λ text. text ≡ response_of reply head.close (is_bare head))
-    → IsResponse head reply (text_of head made)
-response head reply (Ok text) is = inl is
-response head reply (Err wanting) is = inr refl
-
-pub answers_asked : (call : Call) (head : Head) (h : Hand) (reply : Reply) (new : Hand) (made : Result (List ℕ) Memory) → Answers call h reply new
-    → IfOk made (λ text. text ≡ response_of reply head.close (is_bare head)) → AnswersAsked (Ok call) head h (text_of head made) new
-answers_asked call head h reply new made answers is = (reply, answers, response head reply made is)
 
 denial : (head : Head) (denied : Denied) (made : Result (List ℕ) Memory) → IfOk made (IsDeniedResponse denied head.target head.close (is_bare head))
     → IsDenial head denied (text_of head made)

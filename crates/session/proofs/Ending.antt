@@ -139,16 +139,6 @@ at_end held held' input input' output output' step count later same =
     })
     (silent Done output output' same)
 
-pub receives_head : (head : Kept) (held held' : List ℕ) (input input' : SourceTold) (output output' : SinkTold)
-    → StreamStep (ReadsHead (Head head)) held input.left held' input'.left → input'.faults.count ≡ input.faults.count → IsLater input.faults input'.faults
-    → head.length ≤ MOST_TEXT_BYTES → output' ≡ output → ReceivesHead head (seen held input output) (seen held' input' output')
-receives_head head held held' input input' output output' step count later small same = record {
-  read = reads_on (ReadsHead (Head head)) held held' input.left input'.left step;
-  small = small;
-  quiet = record { count = count; later = later };
-  output = same;
-}
-
 pub at_refusal : (refusal : Refusal) (end : SessionEnd) (held held' : List ℕ) (input input' : SourceTold) (output mid output' : SinkTold)
     → StreamStep (ReadsHead (Bad refusal)) held input.left held' input'.left → input'.faults.count ≡ input.faults.count → IsLater input.faults input'.faults
     → mid ≡ output → EndsRefused refusal end mid output' → EndsUnanswered end (seen held input output) (told input' output')

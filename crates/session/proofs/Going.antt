@@ -110,6 +110,3 @@ from_start held input output h none = λ end last new s.
     let empty : IsSession end h (seen [] input output) last new = subst (λ (k : List ℕ). IsSession end h (seen k input output) last new) none s in
     subst (λ (left : Option (List ℕ)). IsSession end h (told (record { left = left; faults = input.faults }) output) last new)
     (stream_of-nothing input.left) empty
-
-pub goes_twice : (h i j : Hand) (x y z : LinkTold) → GoesOn h x i y → GoesOn i y j z → GoesOn h x j z
-goes_twice h i j x y z first second = λ end last new s. first end last new (second end last new s)

@@ -3,7 +3,7 @@ use Rattle.std.proofs.Common.{◌≡◌, ◌∙◌, ℕ, Bool, true, false, List
 use Rattle.std.specs.Prelude.{Option, Some, None, IfSome, MatchBool, nat_lt, Result, Ok, Err, codes, if◌then◌else◌}
 use Rattle.http_wire.specs.Fields.{body_length, values_of}
 use Rattle.http_wire.specs.Front.{front}
-use Rattle.http_wire.specs.Items.{ReadsFront, ReadsHead, ReadsBody, Items, Last, ended, refused, cut, closed}
+use Rattle.http_wire.specs.Items.{ReadsFront, ReadsHead, ReadsBody, Items, Last, ended, refused, closed}
 use Rattle.http_wire.specs.Parts.{HeadParts, parts_of}
 use Rattle.http_wire.specs.Reading.{field_lines, judge, with_length, lacks_host, is_coded, ReadsLines, ReadsBlock}
 use Rattle.http_wire.specs.Stream.{StreamStep}
@@ -14,7 +14,7 @@ use Rattle.http_wire.specs.declared.head.HeadStep.TheVariants.{Head, End, Bad}
 use Rattle.http_wire.specs.declared.refusal.Refusal.{Refusal}
 use Rattle.http_wire.specs.declared.refusal.Refusal.TheVariants.{Malformed, LongHead, Coded}
 use Rattle.http_wire.specs.declared.message.Message.{Message as Whole}
-use Rattle.http_wire.specs.declared.message.BodyStep.TheVariants.{Message, Cut}
+use Rattle.http_wire.specs.declared.message.BodyStep.TheVariants.{Message}
 use Rattle.session.specs.Reading.{Stop, whole, unread, wanting, ReadsMessage, Reads}
 use Rattle.session.specs.Steps.{stream_of, ReadsOn}
 
@@ -92,9 +92,6 @@ stays_refused refusal s rest reads = at (front s) reads
 
 pub stops_refused : (refusal : Refusal) (s rest : List ℕ) → ReadsHead (Bad refusal) s rest → Items s [] (refused refusal)
 stops_refused refusal s rest reads = subst (λ (r : List ℕ). ReadsHead (Bad refusal) s r) (stays_refused refusal s rest reads) reads
-
-pub stops_cut : (head : Kept) (s t u : List ℕ) → ReadsHead (Head head) s t → ReadsBody head Cut t u → Items s [] (cut head)
-stops_cut head s t u reads short = (t, reads, short.0)
 
 -- at an end nothing is left, behind what is held
 pub nothing_left : (held rest : List ℕ) → held ++ rest ≡ [] → rest ≡ []
