@@ -26,6 +26,7 @@ WOULD = {
     "passes_end_after_the_first": "codes would be added to an order that it doesn't need once others are gone",
     "a_code_tried_beside_itself": "each code would be taken for one that isn't needed, and the order told wouldn't be accepted",
     "no_usage_is_given": "no question about a variant would have a literal to assume",
+    "another_set_is_told_of_a_common_car": "a set would be told of a car of both books that isn't that car's",
     "a_groups_pairs_without_their_guard": "codes of a group would be kept apart in searches that leave the group out",
     "told_with_no_second_search": "rules would be told as to blame by a hint alone, with no search over just these",
     "needed_where_the_search_was_left": "a rule would be told as needed though nothing was found without it",
