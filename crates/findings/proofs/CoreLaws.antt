@@ -194,12 +194,12 @@ found_by_meets b s x f order meets counted is knows = record {
 }
 
 -- a solver that derived further clauses was given the same ones
-pub usages_onwards : (b : Contents) (lits : List ℕ) (old new : Solving) → AreUsages b (given_of old.kernel) old.vars lits → Onwards old new → AreUsages b (given_of new.kernel) new.vars lits
+usages_onwards : (b : Contents) (lits : List ℕ) (old new : Solving) → AreUsages b (given_of old.kernel) old.vars lits → Onwards old new → AreUsages b (given_of new.kernel) new.vars lits
 usages_onwards b lits old new h on =
     subst (λ (vars : ℕ). AreUsages b (given_of new.kernel) vars lits) (sym on.same_vars)
     (subst (λ (cs : List (List ℕ)). AreUsages b cs old.vars lits) (sym on.extends.same_given) h)
 
-pub book_onwards : (b : Contents) (ps : List Slice) (old new : Solving) → IsOverBook b ps old → Onwards old new → IsOverBook b ps new
+book_onwards : (b : Contents) (ps : List Slice) (old new : Solving) → IsOverBook b ps old → Onwards old new → IsOverBook b ps new
 book_onwards b ps old new h on = record {
   codes = on.same_codes ∙ h.codes;
   periods = omega (arith, h.periods, on.same_vars);

@@ -11,7 +11,7 @@
 --     IsKnown b asking sets s     the solver, with literals of usages, and sets that are good on the slice's first day
 --     OwnOf i s q notes           the notes on a question
 --     AreToldOf i s qs notes      those on questions, in order
-use Rattle.std.specs.Prelude.{◌≡◌, ℕ, ◌+◌, ◌*◌, ◌<◌, ◌≤◌, Bool, true, not, ◌&&◌, List, ◌++◌, None, IsTrue, filter, if◌then◌else◌, length, All}
+use Rattle.std.specs.Prelude.{◌≡◌, ℕ, ◌+◌, ◌*◌, ◌<◌, ◌≤◌, Bool, true, not, ◌&&◌, List, ◌++◌, None, filter, if◌then◌else◌, length, All}
 use Rattle.std.specs.List.{flat_map, list_all, list_any}
 use Rattle.pb_base.specs.Rule.{holds}
 use Rattle.pb_base.specs.declared.limits.TheConstants.{MOST_BUDGET}

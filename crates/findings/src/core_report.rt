@@ -57,7 +57,7 @@ pub(crate) fn report_core(
     if is_not_void(book, asking, sets) {
         return tell_behind(alloc, book, asking, solver, sets, known);
     }
-    let searched = solver.solve(asking.on, asking.task.effort.budget)?;
+    let searched = known.search(solver, asking.on, asking.task.effort.budget)?;
     match searched {
         Answer::Set(set) => {
             sets.put(found_with(alloc, book, set)?)?;
@@ -253,7 +253,9 @@ fn answer_at(
     let Some(question) = questions.get(place) else {
         return Ok(());
     };
-    answer_soon(alloc, book, asking, *question, assumed, solver, sets, known)
+    let before = solver.kernel().pool().len();
+    answer_soon(alloc, book, asking, *question, assumed, solver, sets, known)?;
+    known.share_after(solver, before)
 }
 
 // Looks for what answers a question before its turn, with few clauses learnt.

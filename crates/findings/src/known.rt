@@ -35,7 +35,8 @@ impl<'a> Known<'a> {
     ) -> Result<Known<'a>, Memory>
         ensures { Onwards solver.old solver.new }
     {
-        let refuting = Refuting::of(alloc, solver, &layout.gates, book.codes().len())?;
+        let mut refuting = Refuting::new(alloc, solver.vars(), &layout.gates, book.codes().len());
+        refuting.share(solver)?;
         Known::with(alloc, book, questions, layout, solver.kernel(), refuting)
     }
 

@@ -39,6 +39,8 @@ pub(crate) struct Refuting<'a> {
     conflict: Option<Ref>,
     // What is assumed first.
     with_first: Vec<Lit>,
+    // Whether what the given clauses say of disjunctions is derived.
+    shared: bool,
 }
 
 impl<'a> Deriver for Refuting<'a> {
@@ -70,26 +72,36 @@ impl<'a> Deriver for Refuting<'a> {
 }
 
 impl<'a> Refuting<'a> {
-    /// A refuter for a solver, once what its clauses, which have these gates, say of disjunctions is derived.
-    pub(crate) fn of(
-        alloc: Global,
-        solver: &mut Solver,
-        gates: &'a Gates,
-        codes: u32,
-    ) -> Result<Refuting<'a>, Memory>
-        ensures { Onwards solver.old solver.new }
-    {
-        let mut refuting = Refuting {
+    /// A refuter for a solver whose clauses are over so many variables and have these gates.
+    pub(crate) fn new(alloc: Global, vars: u32, gates: &'a Gates, codes: u32) -> Refuting<'a> {
+        Refuting {
             alloc,
             gates,
             refuter: Refuter::new(alloc, codes),
-            next: Derived::Shared(solver.vars()),
+            next: Derived::Shared(vars),
             found: None,
             conflict: None,
             with_first: Vec::new(alloc),
-        };
-        solver.derive_by(&mut refuting)?;
-        Ok(refuting)
+            shared: false,
+        }
+    }
+
+    /// Whether what the given clauses say of disjunctions is derived.
+    pub(crate) fn has_shared(&self) -> bool {
+        self.shared
+    }
+
+    /// Derives what the given clauses say of disjunctions, unless that is done.
+    #[tactic(auto, using(solver::proofs::PoolLaws::onwards_same))]
+    pub(crate) fn share(&mut self, solver: &mut Solver) -> Result<(), Memory>
+        ensures { Onwards solver.old solver.new }
+    {
+        if self.shared {
+            return Ok(());
+        }
+        self.shared = true;
+        self.derive_next(solver, Derived::Shared(solver.vars()))?;
+        Ok(())
     }
 
     /// Knows which disjunctions are of the same literals.

@@ -140,7 +140,7 @@ fn reports_by(
     requires usages { AreUsages book.now (given_of solver.old.kernel) solver.old.vars coded.usages.now }
     ensures { IfOk result (λ reports. AllZip (SliceNotes (inquiry book.now effort)) slices.now reports.items) }
 {
-    let mut known = BookKnown::of(alloc, book, coded.usages, coded.layout, solver)?;
+    let mut known = BookKnown::of(alloc, book, coded.usages, coded.layout, solver.vars())?;
     report_each(alloc, book, slices, effort, coded, solver, &mut known)
 }
 

@@ -8,14 +8,14 @@ use Rattle.solver.specs.Answer.{Begins}
 use Rattle.findings.proofs.CoreLaws.{begins_onwards, found_by_meets, known_onwards, periods_consistent, void_asks, void_met}
 use Rattle.findings.proofs.core_report.report_core.Goals as goal
 
-pub solve-requires-clause-below : goal.solve-requires-clause-below
-solve-requires-clause-below c =
+pub search-requires-clause-below : goal.search-requires-clause-below
+search-requires-clause-below c =
     let over = c.requires.known.over in
     (void_asks c.args.book.now c.args.asking.periods.now c.args.asking.task.slice (given_of c.args.solver.now.kernel) c.args.solver.now.vars c.args.asking.on.now over.clauses over.periods
     c.requires.asking.task.slice c.requires.asking.on).below
 
-pub solve-requires-clause-consistent : goal.solve-requires-clause-consistent
-solve-requires-clause-consistent c =
+pub search-requires-clause-consistent : goal.search-requires-clause-consistent
+search-requires-clause-consistent c =
     subst (λ (ls : List ℕ). IsConsistent ls) (sym c.requires.asking.on)
     (periods_consistent (length c.args.book.now.codes) c.args.asking.task.slice.first c.args.asking.periods.now)
 
@@ -25,12 +25,12 @@ tell_behind-requires-in-Set-clause-known c =
     let s = c.args.asking.task.slice in
     let x = c.in-Set.set in
     let old = c.args.solver.now in
-    let now = c.solve.new.self in
+    let now = c.search.new.solver in
     let known = c.requires.known in
     let begins : Begins (given_of now.kernel) c.args.asking.on.now now.codes x = rw c.in-Set.is at c.in_ok-searched.ensures.answer in
-    let meets : MeetsThrough b s Void x = void_met b c.args.asking c.args.sets.now old now x c.requires.asking known c.solve.ensures.onwards begins in
-    let counted : length x ≡ length b.codes = (begins_onwards b c.args.asking.periods.now c.args.asking.on.now x old now known.over c.solve.ensures.onwards begins).counted in
-    known_onwards b c.args.asking c.args.sets.now c.put.new.self old now known c.solve.ensures.onwards
+    let meets : MeetsThrough b s Void x = void_met b c.args.asking c.args.sets.now old now x c.requires.asking known c.search.ensures.onwards begins in
+    let counted : length x ≡ length b.codes = (begins_onwards b c.args.asking.periods.now c.args.asking.on.now x old now known.over c.search.ensures.onwards begins).counted in
+    known_onwards b c.args.asking c.args.sets.now c.put.new.self old now known c.search.ensures.onwards
     (c.put.ensures b s.first known.found
     (found_by_meets b s x c.in_ok-found_with-in-Set.field-0 c.requires.asking.task.slice.order meets counted c.in_ok-found_with-in-Set.ensures.set c.in_ok-found_with-in-Set.ensures.usages))
 
@@ -40,7 +40,7 @@ tell_behind-requires-in-Set-clause-some c =
     let s = c.args.asking.task.slice in
     let x = c.in-Set.set in
     let old = c.args.solver.now in
-    let now = c.solve.new.self in
+    let now = c.search.new.solver in
     let begins : Begins (given_of now.kernel) c.args.asking.on.now now.codes x = rw c.in-Set.is at c.in_ok-searched.ensures.answer in
     has_from_meets b s Void x c.requires.asking.task.slice.order
-    (void_met b c.args.asking c.args.sets.now old now x c.requires.asking c.requires.known c.solve.ensures.onwards begins)
+    (void_met b c.args.asking c.args.sets.now old now x c.requires.asking c.requires.known c.search.ensures.onwards begins)
