@@ -1,6 +1,6 @@
 -- Whether an order passes, by its codes and the rules alone.
 use Rattle.std.proofs.Common.{◌≡◌, ℕ, zero, suc, ◌+◌, Bool, true, false, ◌<◌, cond, List, [], ◌∷◌, Option, Some, None, Ok, Err, length, get_or, refl, sym, ap, subst, ◌∙◌, arith}
-use Rattle.std.specs.List.{list_any, position_from}
+use Rattle.std.specs.List.{list_any, position_from, remove}
 use Rattle.std.specs.Option.{is_none}
 use Rattle.std.specs.Prelude.{◌&&◌, ◌||◌, not, Result, if◌then◌else◌}
 use Rattle.std.proofs.lemmas.Bool.{false_from_ne_true, false≢true}
@@ -16,7 +16,7 @@ use Rattle.parts_usage.specs.Broken.{first_broken_of}
 use Rattle.parts_usage.specs.Fault.{order_fault}
 use Rattle.parts_usage.specs.Ordered.{unless_fault, ordered_of}
 use Rattle.parts_usage.proofs.OrderedLaws.{ordered_is}
-use Rattle.parts_usage.specs.Outcome.{judged, outcome_of, outcome_of_set}
+use Rattle.parts_usage.specs.Outcome.{judged, outcome_of_set}
 use Rattle.parts_usage.specs.Unfit.{first_unfit_of}
 use Rattle.parts_usage.specs.declared.fault.OrderFault.{OrderFault}
 use Rattle.parts_usage.specs.declared.judgement.Outcome.{Outcome}
@@ -26,7 +26,7 @@ use Rattle.supplement.specs.Completing.{Completing}
 use Rattle.supplement.specs.Completion.{completion_of}
 use Rattle.supplement.specs.declared.completed.Completed.{Completed}
 use Rattle.order_added.specs.Accepted.{is_acceptance, is_accepted, is_unbroken, is_constructible}
-use Rattle.order_added.specs.Judging.{Judging, passes, is_buildable}
+use Rattle.order_added.specs.Judging.{Judging, is_buildable, passes, passes_set, passes_with, with_codes, IsFew}
 use Rattle.order_added.specs.Settled.{broken_after}
 
 -- the codes of an order
@@ -61,9 +61,15 @@ faulty j names h = by j.positions (order_fault j.book j.day names) h
     by false (Some fault) none = refl
 
 -- a judge's completer is that of its book and day
-pub same_completing : (b : Contents) (day : ℕ) (positions : Bool) (w : Completing) (j : Judging) → w ≡ record { book = b; day = day }
-    → record { book = b; day = day; positions = positions } ≡ j → w ≡ record { book = j.book; day = j.day }
-same_completing b day positions w j is view = subst (λ (k : Judging). w ≡ record { book = k.book; day = k.day }) view is
+pub same_completing : (b : Contents) (day : ℕ) (ordered : List Bool) (positions : Bool) (w : Completing) (j : Judging) → w ≡ record { book = b; day = day }
+    → record { book = b; day = day; ordered = ordered; positions = positions } ≡ j → w ≡ record { book = j.book; day = j.day }
+same_completing b day ordered positions w j is view = subst (λ (k : Judging). w ≡ record { book = k.book; day = k.day }) view is
+
+-- a set by its completion
+pub passes_when_done : (j : Judging) (w : Completing) (x : List Bool) (done : Completed) → w ≡ record { book = j.book; day = j.day }
+    → done ≡ completion_of w.book w.day x → is_buildable j done.set ≡ passes_set j (Some x)
+passes_when_done j w x done is completed =
+    ap (λ (d : Completed). is_buildable j d.set) (completed ∙ ap (λ (k : Completing). completion_of k.book k.day x) is)
 
 pub passes_by : (j : Judging) (names : List (List ℕ)) (w : Completing) (ordered : List Bool) (done : Completed)
     → w ≡ record { book = j.book; day = j.day } → ordered_of j.book j.day names ≡ Some ordered → done ≡ completion_of w.book w.day ordered
@@ -79,14 +85,31 @@ passes_by j names w ordered done is h completed =
     ∙ sym (ap (λ fault. if j.positions then is_acceptance (unless fault (Ok (outcome_of_set j.book j.day y))) else is_unbroken (unless fault (Ok (outcome_of_set j.book j.day y)))) o.faultless)
 
 -- what breaks a rule doesn't pass
-pub refused_when_broken : (b : Contents) (day : ℕ) (positions : Bool) (j : Judging) (names : List (List ℕ)) (ordered : List Bool)
-    → record { book = b; day = day; positions = positions } ≡ j → ordered_of j.book j.day names ≡ Some ordered → is_none (broken_after b day ordered) ≡ false
-    → false ≡ passes j names
-refused_when_broken b day positions j names ordered view h broken =
-    let y : List Bool = (completion_of j.book j.day ordered).set in
-    let broken_here : is_none (broken_after j.book j.day ordered) ≡ false = subst (λ (k : Judging). is_none (broken_after k.book k.day ordered) ≡ false) view broken in
+pub refused_when_broken : (b : Contents) (day : ℕ) (ordered : List Bool) (positions : Bool) (j : Judging) (x : List Bool)
+    → record { book = b; day = day; ordered = ordered; positions = positions } ≡ j → is_none (broken_after b day x) ≡ false → false ≡ passes_set j (Some x)
+refused_when_broken b day ordered positions j x view broken =
+    let y : List Bool = (completion_of j.book j.day x).set in
+    let broken_here : is_none (broken_after j.book j.day x) ≡ false = subst (λ (k : Judging). is_none (broken_after k.book k.day x) ≡ false) view broken in
     sym (ap (λ t. t && (not j.positions || is_none (first_unfit_of j.book j.day y))) broken_here)
-    ∙ passes_by j names (record { book = j.book; day = j.day }) ordered (completion_of j.book j.day ordered) refl h refl
+
+-- codes that are put to a set
+pub passes_when_put : (b : Contents) (day : ℕ) (ordered : List Bool) (positions : Bool) (j : Judging) (added : List ℕ) (set : Option (List Bool))
+    → record { book = b; day = day; ordered = ordered; positions = positions } ≡ j → with_codes ordered added ≡ set → passes_set j set ≡ passes_with j added
+unfolding passes_with
+passes_when_put b day ordered positions j added set view put =
+    ap (passes_set j) (sym put ∙ ap (λ (k : Judging). with_codes k.ordered added) view)
+
+-- the added codes by their places, and all by their names
+pub passes_named : (j : Judging) (names : List (List ℕ)) (added : List ℕ) → with_codes j.ordered added ≡ ordered_of j.book j.day names
+    → passes_with j added ≡ passes j names
+unfolding passes_with
+passes_named j names added same = by (ordered_of j.book j.day names) refl
+  where
+    by : (set : Option (List Bool)) → ordered_of j.book j.day names ≡ set → passes_set j (with_codes j.ordered added) ≡ passes j names
+    by None none = ap (passes_set j) (same ∙ none) ∙ sym (faulty j names none)
+    by (Some x) some =
+        ap (passes_set j) (same ∙ some)
+        ∙ passes_by j names (record { book = j.book; day = j.day }) x (completion_of j.book j.day x) refl some refl
 
 -- what is accepted breaks no rule
 
@@ -96,19 +119,47 @@ unbroken_of (Ok (outcome.Refused rule)) h = absurd (false≢true h)
 unbroken_of (Ok (outcome.Unfit position count)) h = refl
 unbroken_of (Err fault) h = absurd (false≢true h)
 
-module _ (b : Contents) (day : ℕ) (j : Judging) where
-  pub passes_when : j ≡ record { book = b; day = day; positions = true } → (names : List (List ℕ)) → passes j names ≡ is_accepted b day names
+module _ (b : Contents) (day : ℕ) (ordered : List Bool) where
+  abbrev pub by_all : Judging
+  by_all = record { book = b; day = day; ordered = ordered; positions = true }
+
+  pub accepted_when : (names : List (List ℕ)) → passes by_all names ≡ is_accepted b day names
   unfolding passes
-  passes_when is names = ap (λ (k : Judging). if k.positions then is_accepted k.book k.day names else is_constructible k.book k.day names) is
+  accepted_when names = refl
 
-  pub unbroken_when : j ≡ record { book = b; day = day; positions = false } → (names : List (List ℕ)) → is_accepted b day names ≡ true → passes j names ≡ true
-  unfolding passes is_accepted is_constructible
-  unbroken_when is names accepted =
-      ap (λ (k : Judging). if k.positions then is_acceptance (outcome_of k.book k.day names) else is_unbroken (outcome_of k.book k.day names)) is
-      ∙ unbroken_of (outcome_of b day names) accepted
+-- the same where the codes are told by their places
+pub unbroken_when : (j : Judging) (added : List ℕ) → j.positions ≡ true → passes_with j added ≡ true
+    → passes_with (record { book = j.book; day = j.day; ordered = j.ordered; positions = false }) added ≡ true
+unfolding passes_with
+unbroken_when j added counted passed = by (with_codes j.ordered added) passed
+  where
+    first : (s t : Bool) → (s && t) ≡ true → s ≡ true
+    first true t h = refl
+    first false t h = absurd (false≢true h)
 
-  pub refused_when : j ≡ record { book = b; day = day; positions = false } → (names : List (List ℕ)) → passes j names ≡ false → is_accepted b day names ≡ false
-  refused_when is names broken = false_from_ne_true (is_accepted b day names) (λ accepted. false≢true (sym broken ∙ unbroken_when is names accepted))
+    both : (s : Bool) → s ≡ true → (s && true) ≡ true
+    both s h = rw h refl
+
+    by : (set : Option (List Bool)) → passes_set j set ≡ true → passes_set (record { book = j.book; day = j.day; ordered = j.ordered; positions = false }) set ≡ true
+    by None h = absurd (false≢true h)
+    by (Some x) h = both (is_none (broken_after j.book j.day x)) (first (is_none (broken_after j.book j.day x)) _ h)
+
+pub refused_when : (j : Judging) (added : List ℕ) → j.positions ≡ true
+    → passes_with (record { book = j.book; day = j.day; ordered = j.ordered; positions = false }) added ≡ false → passes_with j added ≡ false
+refused_when j added counted broken = false_from_ne_true (passes_with j added) (λ passed. false≢true (sym broken ∙ unbroken_when j added counted passed))
+
+-- few by the rules are few by the positions too, where the order passes with them
+pub few_counted : (old rules all : Judging) (few : List ℕ) → old.positions ≡ true → rules ≡ record { book = old.book; day = old.day; ordered = old.ordered; positions = false }
+    → all ≡ record { book = rules.book; day = rules.day; ordered = rules.ordered; positions = true } → passes_with all few ≡ true → IsFew rules few → IsFew old few
+few_counted old rules all few counted by_rules by_all passed are =
+    let same : all ≡ old =
+    by_all
+    ∙ ap (λ (k : Judging). record { book = k.book; day = k.day; ordered = k.ordered; positions = true }) by_rules
+    ∙ ap (λ (t : Bool). record { book = old.book; day = old.day; ordered = old.ordered; positions = t }) (sym counted) in
+    record {
+      passes = ap (λ (k : Judging). passes_with k few) (sym same) ∙ passed;
+      needed = λ place within. refused_when old (remove few place) counted (ap (λ (k : Judging). passes_with k (remove few place)) (sym by_rules) ∙ are.needed place within);
+    }
 
 -- a rule that is broken at some place
 module _ (day : ℕ) (y : List Bool) (c : Construct) where

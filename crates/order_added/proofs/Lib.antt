@@ -1,3 +1,4 @@
 mod AcceptLaws
 mod PassLaws
 mod SettledLaws
+pub mod OrderLaws

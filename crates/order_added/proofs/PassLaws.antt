@@ -1,13 +1,9 @@
 -- What passes over the added codes come to.
-use Rattle.std.proofs.Common.{◌≡◌, ℕ, zero, suc, ◌+◌, ◌<◌, ◌≤◌, Bool, true, false, List, [], ◌∷◌, ◌++◌, length, take, drop, refl, sym, ap, subst, ◌∙◌, inl, inr, arith, append-nil, length-append, length-take-le}
+use Rattle.std.proofs.Common.{◌≡◌, ℕ, zero, suc, ◌+◌, ◌<◌, ◌≤◌, true, List, [], ◌∷◌, ◌++◌, length, take, drop, map, refl, sym, ap, subst, ◌∙◌, inl, inr, arith}
 use Rattle.std.specs.List.{remove}
-use Rattle.std.proofs.lemmas.Bool.{cases_eq}
 use Rattle.std.proofs.lemmas.List.Edits.{length-remove}
-use Rattle.book_model.specs.Contents.{Contents}
-use Rattle.order_added.specs.Accepted.{is_accepted}
-use Rattle.order_added.specs.Added.{Among, IsAdded}
-use Rattle.order_added.specs.Judging.{Judging, passes, IsFew, IsPassed, IsStep, NeededFrom}
-use Rattle.order_added.proofs.AcceptLaws.{passes_when, refused_when}
+use Rattle.order_added.specs.Added.{Among}
+use Rattle.order_added.specs.Judging.{Judging, passes_with, AreNeeded, IsPassed}
 
 module _ {X : Type 0} where
   pub among_self : (xs : List X) → Among xs xs
@@ -54,127 +50,81 @@ module _ {X : Type 0} where
   among_cut (x ∷ xs) (suc at) zero order = absurd (omega (arith, order))
   among_cut (x ∷ xs) (suc at) (suc end) order = inr (take at xs ++ drop end xs, refl, among_cut xs at end (omega (arith, order)))
 
-  pub cut_in_range : (xs : List X) (at end : ℕ) → at ≤ end → end ≤ length xs → at ≤ length (take at xs ++ drop end xs)
-  cut_in_range xs at end order within =
-      omega (arith, length-append (take at xs) (drop end xs), length-take-le at xs (omega (arith, order, within)))
+-- the images of some elements
+pub among_map : {X Y : Type 0} (f : X → Y) (xs ys : List X) → Among xs ys → Among (map f xs) (map f ys)
+among_map f [] ys h = ap (map f) h
+among_map f (x ∷ xs) ys (inl h) = inl (among_map f xs ys h)
+among_map f (x ∷ xs) ys (inr h) = inr (map f h.0, ap (map f) h.1, among_map f xs h.0 h.2)
 
-module _ (j : Judging) (ordered : List (List ℕ)) where
-  -- nothing was tried yet
-  pub passed_none : (added : List (List ℕ)) (first count : ℕ) → length added ≡ first → length added ≡ count → IsPassed j ordered count first added false
-  passed_none added first count start same = (same, λ place from within. absurd (omega arith))
-
-  at_most : (removed : Bool) (count first : ℕ) (added : List (List ℕ)) → IsPassed j ordered count first added removed → length added ≤ count
-  at_most true count first added h = omega arith
-  at_most false count first added h = omega (arith, h.0)
-
-  -- one more was taken out
-  pub passed_out : (removed : Bool) (count first at : ℕ) (old new : List (List ℕ)) → at < length old → new ≡ remove old at
-      → IsPassed j ordered count first old removed → IsPassed j ordered count at new true
-  passed_out removed count first at old new within is h =
-      omega (arith, at_most removed count first old h, length-remove old at within, ap length is)
-
-  -- one more is needed
-  pub passed_needed : (removed : Bool) (count first at : ℕ) (old new : List (List ℕ)) → first ≡ at + 1 → new ≡ old
-      → passes j (ordered ++ remove old at) ≡ false → IsPassed j ordered count first old removed → IsPassed j ordered count at new removed
-  passed_needed true count first at old new next is needed h = omega (arith, h, ap length is)
-  passed_needed false count first at old new next is needed h = (
-    ap length is ∙ h.0,
-    λ place from within. subst (λ (names : List (List ℕ)). passes j (ordered ++ remove names place) ≡ false) (sym is)
-        (elim (cases_eq place at) [
-          | inl same ↦ ap (λ k. passes j (ordered ++ remove old k)) same ∙ needed
-          | inr other ↦ h.1 place (omega arith) (omega (arith, ap length is))
-        ]),
-  )
-
-  pub few_by : (added : List (List ℕ)) → passes j (ordered ++ added) ≡ true → NeededFrom j ordered 0 added → IsFew j ordered added
-  few_by added passed needed = record { passes_with = passed; needed = λ place within. needed place (omega arith) within }
-
--- what is told of a judge's codes is so of accepted orders
-module _ (b : Contents) (day : ℕ) (ordered added : List (List ℕ)) where
-  pub added_few : (j : Judging) → j ≡ record { book = b; day = day; positions = true } → IsFew j ordered added → IsAdded b day ordered added
-  added_few j is few = record {
-    accepted = sym (passes_when b day j is (ordered ++ added)) ∙ few.passes_with;
-    needed = λ place within. sym (passes_when b day j is (ordered ++ remove added place)) ∙ few.needed place within;
-  }
-
-  pub added_none : added ≡ [] → is_accepted b day ordered ≡ true → IsAdded b day ordered added
-  added_none none accepted = record {
-    accepted = ap (λ (names : List (List ℕ)). is_accepted b day (ordered ++ names)) none ∙ ap (is_accepted b day) (append-nil ordered) ∙ accepted;
-    needed = λ place within. absurd (omega (arith, ap length none));
-  }
-
-  -- those that it needs to break no rule, where it is accepted with them
-  pub added_unbroken : is_accepted b day (ordered ++ added) ≡ true → IsFew (record { book = b; day = day; positions = false }) ordered added → IsAdded b day ordered added
-  added_unbroken accepted few = record {
-    accepted = accepted;
-    needed = λ place within. refused_when b day (record { book = b; day = day; positions = false }) refl (ordered ++ remove added place) (few.needed place within);
-  }
-
--- a pass on its way down
-pub record Passing (j : Judging) (ordered before : List (List ℕ)) (at : ℕ) (added : List (List ℕ)) (removed : Bool) : Type 0 where
+-- a pass on its way down: which codes were tried since one was taken out, and which are known to be needed from before
+pub record Passing (j : Judging) (before : List ℕ) (at end first : ℕ) (added : List ℕ) : Type 0 where
   pub in_range : at ≤ length added
-  pub passed_with : passes j (ordered ++ added) ≡ true
+  pub most : length added ≤ length before
+  pub passes : passes_with j added ≡ true
   pub among : Among before added
-  pub passed : IsPassed j ordered (length before) at added removed
+  pub tried : AreNeeded j at end added
+  pub known : AreNeeded j 0 first added
+  pub fewer : end < length added → length added < length before
 
-pub passing_begun : (j : Judging) (ordered added : List (List ℕ)) (first : ℕ) → first ≡ length added → passes j (ordered ++ added) ≡ true
-    → Passing j ordered added first added false
-passing_begun j ordered added first start passed_with = record {
+pub passing_begun : (j : Judging) (added : List ℕ) (end first : ℕ) → end ≡ length added → passes_with j added ≡ true → AreNeeded j 0 first added
+    → Passing j added end end first added
+passing_begun j added end first start passes known = record {
   in_range = omega (arith, start);
-  passed_with = passed_with;
+  most = omega arith;
+  passes = passes;
   among = among_self added;
-  passed = passed_none j ordered added first (length added) (sym start) refl;
+  tried = λ place from until within. absurd (omega arith);
+  known = known;
+  fewer = λ less. absurd (omega (arith, start));
 }
 
-pub passing_more : (j : Judging) (ordered before old new : List (List ℕ)) (first at : ℕ) (removed after : Bool) → first ≡ at + 1
-    → Passing j ordered before first old removed → IsStep j ordered at old new removed after → Passing j ordered before at new after
-passing_more j ordered before old new first at removed after next h step =
+-- a code is taken out: none was tried since
+pub passing_out : (j : Judging) (before old new : List ℕ) (from at end first : ℕ) → from ≡ at + 1 → Passing j before from end first old
+    → new ≡ remove old at → passes_with j new ≡ true → Passing j before at at 0 new
+passing_out j before old new from at end first next h is passes =
     let there : at < length old = omega (arith, h.in_range, next) in
-    elim step.cases [
-      | inl out ↦ record {
-        in_range = omega (arith, there, length-remove old at there, ap length out.0);
-        passed_with = step.passes_still;
-        among = among_one before old new at there out.0 h.among;
-        passed = subst (IsPassed j ordered (length before) at new) (sym out.1) (passed_out j ordered removed (length before) first at old new there out.0 h.passed);
-      }
-      | inr stays ↦ record {
-        in_range = omega (arith, there, ap length stays.0);
-        passed_with = step.passes_still;
-        among = subst (Among before) (sym stays.0) h.among;
-        passed = subst (IsPassed j ordered (length before) at new) (sym stays.1) (passed_needed j ordered removed (length before) first at old new next stays.0 stays.2 h.passed);
-      }
-    ]
+    let count : length new + 1 ≡ length old = ap (λ (xs : List ℕ). length xs + 1) is ∙ length-remove old at there in
+    record {
+      in_range = omega arith;
+      most = omega (arith, h.most);
+      passes = passes;
+      among = among_one before old new at there is h.among;
+      tried = λ place low high within. absurd (omega arith);
+      known = λ place low high within. absurd (omega arith);
+      fewer = λ less. omega (arith, h.most);
+    }
 
 -- and all passes
-pub record Needing (j : Judging) (ordered others added : List (List ℕ)) (more : Bool) : Type 0 where
-  pub passed_with : passes j (ordered ++ added) ≡ true
+pub record Needing (j : Judging) (others added : List ℕ) (needed : ℕ) : Type 0 where
+  pub passes : passes_with j added ≡ true
   pub among : Among others added
-  pub needed : more ≡ false → NeededFrom j ordered 0 added
+  pub are_needed : AreNeeded j 0 needed added
 
-needed_after : (j : Judging) (ordered : List (List ℕ)) (count : ℕ) (added : List (List ℕ)) (more : Bool) → IsPassed j ordered count 0 added more
-    → more ≡ false → NeededFrom j ordered 0 added
-needed_after j ordered count added true h none = absurd (cc)
-needed_after j ordered count added false h none = h.1
+pub needing_begun : (j : Judging) (others : List ℕ) → passes_with j others ≡ true → Needing j others others 0
+needing_begun j others passes = record {
+  passes = passes;
+  among = among_self others;
+  are_needed = λ place low high within. absurd (omega arith);
+}
 
-pub needing_more : (j : Judging) (ordered others old new : List (List ℕ)) (before more : Bool) → Needing j ordered others old before
-    → passes j (ordered ++ new) ≡ true → Among old new → IsPassed j ordered (length old) 0 new more → Needing j ordered others new more
-needing_more j ordered others old new before more h passed_with among passed = record {
-  passed_with = passed_with;
+pub needing_more : (j : Judging) (others old new : List ℕ) (before needed : ℕ) → Needing j others old before
+    → passes_with j new ≡ true → Among old new → IsPassed j old new needed → Needing j others new needed
+needing_more j others old new before needed h passes among passed = record {
+  passes = passes;
   among = among_among others old new h.among among;
-  needed = needed_after j ordered (length old) new more passed;
+  are_needed = passed.are_needed;
 }
 
 -- what is left while runs are taken out, of which the next ends at a place
-pub record Cutting (j : Judging) (ordered before added : List (List ℕ)) (end : ℕ) : Type 0 where
-  pub passed_with : passes j (ordered ++ added) ≡ true
+pub record Cutting (j : Judging) (before added : List ℕ) (end : ℕ) : Type 0 where
+  pub passes : passes_with j added ≡ true
   pub among : Among before added
   pub in_range : end ≤ length added
 
-pub cutting_begun : (j : Judging) (ordered added : List (List ℕ)) (end : ℕ) → end ≤ length added → passes j (ordered ++ added) ≡ true
-    → Cutting j ordered added added end
-cutting_begun j ordered added end within passed_with = record { passed_with = passed_with; among = among_self added; in_range = within }
+pub cutting_begun : (j : Judging) (added : List ℕ) (end : ℕ) → end ≤ length added → passes_with j added ≡ true → Cutting j added added end
+cutting_begun j added end within passes = record { passes = passes; among = among_self added; in_range = within }
 
-pub cutting_more : (j : Judging) (ordered before old new : List (List ℕ)) (end at : ℕ) → Cutting j ordered before old end
-    → passes j (ordered ++ new) ≡ true → Among old new → at ≤ length new → Cutting j ordered before new at
-cutting_more j ordered before old new end at h passed_with among within =
-    record { passed_with = passed_with; among = among_among before old new h.among among; in_range = within }
+pub cutting_more : (j : Judging) (before old new : List ℕ) (end at : ℕ) → Cutting j before old end
+    → passes_with j new ≡ true → Among old new → at ≤ length new → Cutting j before new at
+cutting_more j before old new end at h passes among within =
+    record { passes = passes; among = among_among before old new h.among among; in_range = within }

@@ -1,4 +1,5 @@
 pub mod Accepted
 pub mod Added
 pub mod Judging
+pub mod Places
 pub mod Settled

@@ -4,6 +4,7 @@
 mod adding;
 mod demanding;
 mod judge;
+mod places;
 mod runs;
 mod settled;
 

@@ -4,10 +4,10 @@
 //! Only what is left is tried code by code.
 ghost use Rattle.std.specs.Prelude.{◌≡◌, ◌++◌, ◌≤◌, true, IfOk, OnOk, length, take, drop};
 ghost use Rattle.order_added.specs.Added.{Among};
-ghost use Rattle.order_added.specs.Judging.{passes};
+ghost use Rattle.order_added.specs.Judging.{passes_with};
 
 use crate::judge::Judge;
-use pb_base::{CodeName, Memory};
+use pb_base::Memory;
 use std::alloc::Global;
 
 // Shorter runs are not tried.
@@ -20,18 +20,17 @@ const MOST_IDLE: u32 = 3;
 pub(crate) fn take_runs_out(
     alloc: Global,
     judge: &Judge,
-    ordered: &[CodeName],
-    added: &mut Vec<CodeName>,
+    added: &mut Vec<u32>,
 ) -> Result<(), Memory>
-    requires { passes judge.now (ordered.now ++ added.old.items) ≡ true }
-    ensures passes { OnOk result (passes judge.now (ordered.now ++ added.new.items) ≡ true) }
+    requires { passes_with judge.now added.old.items ≡ true }
+    ensures passes { OnOk result (passes_with judge.now added.new.items ≡ true) }
     ensures among { OnOk result (Among added.old.items added.new.items) }
 {
     let mut size = added.len() / 2;
     let mut idle = 0;
     while size >= SHORTEST && idle < MOST_IDLE {
         let before = added.len();
-        round(alloc, judge, ordered, added, size)?;
+        round(alloc, judge, added, size)?;
         idle = idle_after(idle, before, added.len());
         size = size.min(added.len()) / 2;
     }
@@ -48,22 +47,16 @@ fn idle_after(idle: u32, before: usize, after: usize) -> u32 {
 }
 
 // The same of runs of so many codes, from the last to the first.
-fn round(
-    alloc: Global,
-    judge: &Judge,
-    ordered: &[CodeName],
-    added: &mut Vec<CodeName>,
-    size: usize,
-) -> Result<(), Memory>
-    requires passes { passes judge.now (ordered.now ++ added.old.items) ≡ true }
+fn round(alloc: Global, judge: &Judge, added: &mut Vec<u32>, size: usize) -> Result<(), Memory>
+    requires passes { passes_with judge.now added.old.items ≡ true }
     requires size { 1 ≤ size }
-    ensures passes { OnOk result (passes judge.now (ordered.now ++ added.new.items) ≡ true) }
+    ensures passes { OnOk result (passes_with judge.now added.new.items ≡ true) }
     ensures among { OnOk result (Among added.old.items added.new.items) }
 {
     let mut end = added.len();
     while end > 0 {
         let at = end.saturating_sub(size);
-        take_run_out(alloc, judge, ordered, added, at, end)?;
+        take_run_out(alloc, judge, added, at, end)?;
         end = at;
     }
     Ok(())
@@ -73,34 +66,26 @@ fn round(
 fn take_run_out(
     alloc: Global,
     judge: &Judge,
-    ordered: &[CodeName],
-    added: &mut Vec<CodeName>,
+    added: &mut Vec<u32>,
     at: usize,
     end: usize,
 ) -> Result<(), Memory>
     requires run { at ≤ end }
     requires there { end ≤ length added.old.items }
-    requires passes { passes judge.now (ordered.now ++ added.old.items) ≡ true }
-    ensures passes { OnOk result (passes judge.now (ordered.now ++ added.new.items) ≡ true) }
+    requires passes { passes_with judge.now added.old.items ≡ true }
+    ensures passes { OnOk result (passes_with judge.now added.new.items ≡ true) }
     ensures among { OnOk result (Among added.old.items added.new.items) }
     ensures in_range { OnOk result (at ≤ length added.new.items) }
 {
-    let fewer = without_run(alloc, added, at, end)?;
-    let names = behind(alloc, ordered, &fewer)?;
-    let passed = judge.passes(alloc, &names, &added[at..end])?;
+    let passed = judge.passes(alloc, &added[..at], &added[end..], &added[at..end])?;
     if passed {
-        *added = fewer;
+        *added = without_run(alloc, added, at, end)?;
     }
     Ok(())
 }
 
 // The codes but for those from one place up to another.
-fn without_run(
-    alloc: Global,
-    added: &[CodeName],
-    at: usize,
-    end: usize,
-) -> Result<Vec<CodeName>, Memory>
+fn without_run(alloc: Global, added: &[u32], at: usize, end: usize) -> Result<Vec<u32>, Memory>
     requires run { at ≤ end }
     requires there { end ≤ length added.now }
     ensures { IfOk result (λ fewer. fewer.items ≡ take at added.now ++ drop end added.now) }
@@ -108,17 +93,4 @@ fn without_run(
     let mut fewer = Vec::from_slice(alloc, &added[..at])?;
     fewer.extend_from_slice(&added[end..])?;
     Ok(fewer)
-}
-
-/// The codes of the order, and then these.
-pub(crate) fn behind(
-    alloc: Global,
-    ordered: &[CodeName],
-    added: &[CodeName],
-) -> Result<Vec<CodeName>, Memory>
-    ensures { IfOk result (λ names. names.items ≡ ordered.now ++ added.now) }
-{
-    let mut names = Vec::from_slice(alloc, ordered)?;
-    names.extend_from_slice(added)?;
-    Ok(names)
 }

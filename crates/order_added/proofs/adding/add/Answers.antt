@@ -1,21 +1,10 @@
-use Rattle.std.proofs.Common.{◌≡◌, true, sym, subst, ◌∙◌}
-use Rattle.std.proofs.lemmas.Bool.{false≢true}
-use Rattle.order_added.specs.Accepted.{is_accepted}
-use Rattle.order_added.specs.Added.{Among}
-use Rattle.order_added.proofs.AcceptLaws.{passes_when}
-use Rattle.order_added.proofs.PassLaws.{added_none, among_none}
+use Rattle.order_added.proofs.OrderLaws.{faultless_when, ordered_faultless}
 use Rattle.order_added.proofs.adding.add.Goals as goal
 
-pub returns-then-accepted-clause-added : goal.returns-then-accepted-clause-added
-returns-then-accepted-clause-added c =
-    let accepted : is_accepted c.args.book.now c.args.day c.args.ordered.now ≡ true =
-    sym (passes_when c.args.book.now c.args.day c.in_ok-judge.judge c.in_ok-judge.ensures c.args.ordered.now) ∙ sym c.in_ok-accepted.ensures ∙ c.if-accepted.true in
-    added_none c.args.book.now c.args.day c.args.ordered.now c.new-then-accepted.result.items c.new-then-accepted.ensures.items accepted
+pub faultless_set-requires : goal.faultless_set-requires
+faultless_set-requires c = (faultless_when c.args.book.now c.args.day c.args.ordered.now c.args.others.items c.requires).faultless
 
-pub returns-then-accepted-clause-among : goal.returns-then-accepted-clause-among
-returns-then-accepted-clause-among c = subst (Among c.args.others.items) (sym c.new-then-accepted.ensures.items) (among_none c.args.others.items)
-
-pub returns-clause-none : goal.returns-clause-none
-returns-clause-none c = λ accepted.
-    absurd (false≢true
-    (sym c.if-accepted.false ∙ c.in_ok-accepted.ensures ∙ passes_when c.args.book.now c.args.day c.in_ok-judge.judge c.in_ok-judge.ensures c.args.ordered.now ∙ accepted))
+pub add_to-requires-clause-set : goal.add_to-requires-clause-set
+add_to-requires-clause-set c =
+    ordered_faultless c.args.book.now c.args.day c.args.ordered.now c.in_ok-set.set
+    (faultless_when c.args.book.now c.args.day c.args.ordered.now c.args.others.items c.requires).faultless c.in_ok-set.ensures

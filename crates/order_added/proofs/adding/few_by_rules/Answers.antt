@@ -1,9 +1,9 @@
-use Rattle.std.proofs.Common.{◌≡◌, ◌++◌, List, ℕ, true, sym, subst}
-use Rattle.order_added.specs.Judging.{passes}
+use Rattle.std.proofs.Common.{◌∙◌, ℕ, List, ap₂}
+use Rattle.order_added.specs.Judging.{Judging, passes_with}
 use Rattle.order_added.proofs.AcceptLaws.{unbroken_when}
 use Rattle.order_added.proofs.adding.few_by_rules.Goals as goal
 
 pub few_of-requires : goal.few_of-requires
 few_of-requires c =
-    subst (λ (names : List (List ℕ)). passes c.in_ok-judge.judge (c.args.ordered.now ++ names) ≡ true) (sym c.in_ok-all.ensures.items)
-    (unbroken_when c.args.book.now c.args.day c.in_ok-judge.judge c.in_ok-judge.ensures (c.args.ordered.now ++ c.args.others.now) c.requires)
+    ap₂ (λ (j : Judging) (xs : List ℕ). passes_with j xs) c.in_ok-leave_positions.ensures c.in_ok-all.ensures.items
+    ∙ unbroken_when c.args.judge.now c.args.others.now c.requires.positions c.requires.passes

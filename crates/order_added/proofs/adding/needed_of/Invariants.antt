@@ -1,9 +1,9 @@
-use Rattle.std.proofs.Common.{◌+◌, cond, length}
+use Rattle.std.proofs.Common.{◌+◌, cond, length, ltb}
 use Rattle.order_added.proofs.PassLaws.{Needing}
 use Rattle.order_added.proofs.adding.needed_of.Given as goal
 
-abbrev pub invariant-loop-more : goal.invariant-loop-more
-invariant-loop-more l = Needing l.judge l.ordered l.initial.added.items l.added.items l.more
+abbrev pub invariant-loop-needed : goal.invariant-loop-needed
+invariant-loop-needed l = Needing l.judge l.initial.added.items l.added.items l.needed
 
-abbrev pub decreases-loop-more : goal.decreases-loop-more
-decreases-loop-more l = cond l.more (length l.added.items + 1) 0
+abbrev pub decreases-loop-needed : goal.decreases-loop-needed
+decreases-loop-needed l = cond (ltb l.needed (length l.added.items)) (length l.added.items + 1) 0

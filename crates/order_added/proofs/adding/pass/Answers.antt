@@ -1,14 +1,17 @@
-use Rattle.std.proofs.Common.{◌≡◌, ◌+◌, ◌-◌, length, rules, arith}
-use Rattle.order_added.proofs.PassLaws.{passing_begun, passing_more}
+use Rattle.std.proofs.Common.{◌≡◌, ◌+◌, ◌-◌, ◌∙◌, Bool, length, cond, ap, rules, arith}
+use Rattle.std.specs.List.{remove}
+use Rattle.order_added.proofs.PassLaws.{passing_begun, passing_out}
 use Rattle.order_added.proofs.adding.pass.Goals as goal
 
-pub loop-at-init : goal.loop-at-init
-loop-at-init c =
-    let start : c.len-at.result ≡ length c.args.added.now.items = first_of (omega arith, search rules) in
-    passing_begun c.args.judge.now c.args.ordered.now c.args.added.now.items c.len-at.result start c.requires
+pub loop-first-init : goal.loop-first-init
+loop-first-init c =
+    let start : c.len-end.result ≡ length c.args.added.now.items = first_of (omega arith, search rules) in
+    passing_begun c.args.judge.now c.args.added.now.items c.len-end.result c.args.needed start c.requires.passes c.requires.needed
 
-pub loop-at-preserved : goal.loop-at-preserved
-loop-at-preserved c =
-    let next : c.loop-at.at ≡ c.loop-at.at - 1 + 1 = omega arith in
-    passing_more c.args.judge.now c.args.ordered.now c.args.added.now.items c.loop-at.added.items c.take_out.new.added.items c.loop-at.at (c.loop-at.at - 1)
-    c.loop-at.removed c.in_ok-removed.removed next c.loop-at.invariant c.in_ok-removed.ensures
+pub loop-first-preserved-then-branch : goal.loop-first-preserved-then-branch
+loop-first-preserved-then-branch c =
+    let next : c.loop-first.at ≡ c.loop-first.at - 1 + 1 = omega arith in
+    let step = c.in_ok-take_out.ensures in
+    passing_out c.args.judge.now c.args.added.now.items c.loop-first.added.items c.take_out.new.added.items c.loop-first.at (c.loop-first.at - 1)
+    c.loop-first.end c.loop-first.first next c.loop-first.invariant
+    (step.is ∙ ap (λ (t : Bool). cond t (remove c.loop-first.added.items (c.loop-first.at - 1)) c.loop-first.added.items) c.if-branch.true) step.passes

@@ -1,8 +1,8 @@
 use Rattle.order_added.proofs.PassLaws.{Passing}
 use Rattle.order_added.proofs.adding.pass.Given as goal
 
-abbrev pub invariant-loop-at : goal.invariant-loop-at
-invariant-loop-at l = Passing l.judge l.ordered l.initial.added.items l.at l.added.items l.removed
+abbrev pub invariant-loop-first : goal.invariant-loop-first
+invariant-loop-first l = Passing l.judge l.initial.added.items l.at l.end l.first l.added.items
 
-abbrev pub decreases-loop-at : goal.decreases-loop-at
-decreases-loop-at l = l.at
+abbrev pub decreases-loop-first : goal.decreases-loop-first
+decreases-loop-first l = l.at
