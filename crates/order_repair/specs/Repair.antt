@@ -1,7 +1,7 @@
 -- What an order comes to, and how it would be accepted. Its chosen codes are told by their places in the book.
 --     IsAddition b day kept added        the kept codes and then the added ones are accepted, and none that is added can go
 --     IsUnfitCar b day kept x unfit      a car with the kept codes can't be built
---     IsKept b day chosen k              what clashes, which of the chosen codes stay, and what is changed then
+--     IsKept b day chosen budget k       what clashes, which of the chosen codes stay, and what is changed then
 --     IsRepair b day chosen budget accepted r    what is told of an order that is accepted, or isn't
 --     IsMended b day r                   what is told to change makes the order accepted, and at a book that can be released it is told
 --     IsAnswer b day names budget a      what is added to the order, what it comes to, and how it would be accepted
@@ -49,8 +49,8 @@ IsChange b day kept (Add added) = IsAddition b day kept added.items
 IsChange b day kept (Unfit x unfit) = IsUnfitCar b day kept x unfit
 
 -- of the chosen codes these stay: some car has them, and none of the others can be put to them. All stay where nothing clashes
-pub record IsKept (b : Contents) (day : ℕ) (chosen : List ℕ) (k : Kept) : Type 0 where
-  pub clash : IfSome k.clash (AreBlamed b day chosen always)
+pub record IsKept (b : Contents) (day : ℕ) (chosen : List ℕ) (budget : ℕ) (k : Kept) : Type 0 where
+  pub clash : IfSome k.clash (AreBlamed b day chosen always budget)
   pub all : k.clash ≡ None → k.codes.items ≡ chosen
   pub car : List Bool
   pub stay : IsStay b day chosen (record { kept = k.codes; car = car })
@@ -58,15 +58,15 @@ pub record IsKept (b : Contents) (day : ℕ) (chosen : List ℕ) (k : Kept) : Ty
   pub change : IsChange b day k.codes.items k.change
 
 -- no car can be ordered on the day at all
-pub record IsVoid (b : Contents) (day : ℕ) (chosen : List ℕ) (m : Blamed) : Type 0 where
+pub record IsVoid (b : Contents) (day : ℕ) (chosen : List ℕ) (budget : ℕ) (m : Blamed) : Type 0 where
   pub void : (x : List Bool) → is_good b day x ≡ false
-  pub clash : AreBlamed b day chosen always m
+  pub clash : AreBlamed b day chosen always budget m
 
 abbrev pub IsRepair : Contents → ℕ → List ℕ → ℕ → Bool → Repair → Type 0
 IsRepair b day chosen budget accepted NotNeeded = accepted ≡ true
-IsRepair b day chosen budget accepted (Undecided learnt) = (accepted ≡ false) × IsLeftWith b day budget learnt.clauses
-IsRepair b day chosen budget accepted (NoOrder m) = (accepted ≡ false) × IsVoid b day chosen m
-IsRepair b day chosen budget accepted (Keep k) = (accepted ≡ false) × IsKept b day chosen k
+IsRepair b day chosen budget accepted (Undecided learnt) = (accepted ≡ false) × IsLeftWith b day chosen budget learnt.clauses
+IsRepair b day chosen budget accepted (NoOrder m) = (accepted ≡ false) × IsVoid b day chosen budget m
+IsRepair b day chosen budget accepted (Keep k) = (accepted ≡ false) × IsKept b day chosen budget k
 
 -- the kept codes with the added ones are accepted; each car of a book that can be released can be built
 abbrev pub IsMendedBy : Contents → ℕ → List ℕ → Change → Type 0

@@ -75,7 +75,7 @@ fn keep_some(
     staying: Staying,
 ) -> Result<Repair, Memory>
     requires ordered { AreOrdered book.now day chosen.now }
-    requires clash { AreBlamed book.now day chosen.now true_rule clash }
+    requires clash { AreBlamed book.now day chosen.now true_rule budget clash }
     requires staying { IsStaying book.now day chosen.now budget staying }
     ensures { IfOk result (IsRepair book.now day chosen.now budget false) }
 {
@@ -97,7 +97,7 @@ fn keep_these(
     stay: Stay,
 ) -> Result<Repair, Memory>
     requires ordered { AreOrdered book.now day chosen.now }
-    requires clash { AreBlamed book.now day chosen.now true_rule clash }
+    requires clash { AreBlamed book.now day chosen.now true_rule budget clash }
     requires stay { IsStay book.now day chosen.now stay }
     ensures { IfOk result (IsRepair book.now day chosen.now budget false) }
 {

@@ -66,8 +66,8 @@ module _ (b : Contents) (day : ℕ) (x : List Bool) where
       and_from (has x c) (list_all (has x) cs) (one_there kept c all parts.0) (all_there kept cs all parts.1)
 
 -- no car has the codes that are to blame
-pub none_blamed : (b : Contents) (day : ℕ) (chosen : List ℕ) (m : Blamed) → AreBlamed b day chosen always m → NoneWith b day (codes_of m.entries.items)
-none_blamed b day chosen m h x car =
+pub none_blamed : (b : Contents) (day : ℕ) (chosen : List ℕ) (budget : ℕ) (m : Blamed) → AreBlamed b day chosen always budget m → NoneWith b day (codes_of m.entries.items)
+none_blamed b day chosen budget m h x car =
     let each = all_among (IsRuleMet b day x) (all_entries b day chosen) m.entries.items (car_meets b day x chosen car.good) h.among in
     true≢false (h.blame.none x (length_from_good b day x car.good) (all_met b day x m.entries.items each car.has_kept))
 

@@ -1,5 +1,5 @@
 -- Codes that stay together, with one more.
-use Rattle.std.proofs.Common.{◌≡◌, ℕ, ◌+◌, ◌<◌, ◌≤◌, Bool, true, false, ◌&&◌, ◌||◌, ◌==◌, List, [], ◌∷◌, ◌++◌, length, take, drop, drop-cons, suc, get_or, refl, sym, ap, subst, ◌∙◌, inl, inr, arith, All}
+use Rattle.std.proofs.Common.{◌≡◌, ℕ, ◌+◌, ◌<◌, ◌≤◌, Bool, true, false, ◌&&◌, ◌||◌, ◌==◌, List, [], ◌∷◌, ◌++◌, length, take, drop, drop-cons, zero, suc, get_or, refl, sym, ap, subst, ◌∙◌, inl, inr, arith, All}
 use Rattle.std.specs.List.{list_all, list_any, AllByRecursion}
 use Rattle.std.proofs.lemmas.Bool.{and_parts, and_from, false_from_ne_true, eq-eqb}
 use Rattle.std.proofs.Math.Bool.{or-true}
@@ -16,8 +16,8 @@ use Rattle.book_model.specs.Good.{is_good}
 use Rattle.clausify.proofs.ItemLaws.{length_from_good}
 use Rattle.clausify.proofs.ListLaws.{all_weaker, all-append}
 use Rattle.blame.specs.Entries.{Among}
-use Rattle.blame.proofs.ListLaws.{pushed_next, passed_next, all_among, length-among, length-first}
-use Rattle.order_stays.specs.Stays.{IsCarWith, NoneBeside, NoneWith, StaysOrNot, IsGreedy, IsStay, IsOneMore}
+use Rattle.blame.proofs.ListLaws.{among_among, pushed_next, passed_next, all_among, length-among, length-first}
+use Rattle.order_stays.specs.Stays.{IsCarWith, NoneBeside, NoneWith, StaysOrNot, IsGreedy, IsLeftWith, IsStay, IsOneMore}
 use Rattle.order_stays.specs.declared.stay.Stay.{Stay}
 
 -- how far the search has come
@@ -118,6 +118,28 @@ module _ (b : Contents) (day : ℕ) where
             list_all-append (has x) kept (c ∷ [])
             ∙ and_from (list_all (has x) kept) (has x c && true) h.has_kept (and_from (has x c) true there refl);
       }))
+
+pub among_none : (xs : List ℕ) → Among xs []
+among_none [] = refl
+among_none (x ∷ xs) = inl (among_none xs)
+
+-- what is among the first ones is among all
+among_first : (n : ℕ) (xs ys : List ℕ) → Among (take n xs) ys → Among xs ys
+among_first zero xs ys h = subst (Among xs) (sym h) (among_none xs)
+among_first (suc n) [] ys h = h
+among_first (suc n) (x ∷ xs) ys (inl h) = inl (among_first n xs ys h)
+among_first (suc n) (x ∷ xs) ys (inr h) = inr (h.0, h.1, among_first n xs h.0 h.2)
+
+-- a search with one more code was left
+pub left_further : (b : Contents) (day : ℕ) (chosen : List ℕ) (i c d budget : ℕ) (s : Stay) (learnt : List (List ℕ)) → i < length chosen → c ≡ get_or chosen i d → StaysUpTo b day chosen i s
+    → IsLeftWith b day (s.kept.items ++ c ∷ []) budget learnt → IsLeftWith b day chosen budget learnt
+left_further b day chosen i c d budget s learnt within is h left = record {
+  kept = left.kept;
+  among =
+      among_among chosen (s.kept.items ++ c ∷ []) left.kept
+      (among_first (i + 1) chosen (s.kept.items ++ c ∷ []) (pushed_next chosen s.kept.items (s.kept.items ++ c ∷ []) i c d within is refl h.among)) left.among;
+  left = left.left;
+}
 
 -- what the next code is tried beside
 pub kept_within : (b : Contents) (day : ℕ) (chosen : List ℕ) (i : ℕ) (s : Stay) → All (λ (c : ℕ). c < length b.codes) chosen → StaysUpTo b day chosen i s

@@ -51,20 +51,21 @@ pub record IsStay (b : Contents) (day : ℕ) (chosen : List ℕ) (s : Stay) : Ty
   pub each : AllByRecursion (StaysOrNot b day s.kept.items) chosen
 
 -- a search for a car with some of the codes was left
-pub record IsLeftWith (b : Contents) (day : ℕ) (budget : ℕ) (learnt : List (List ℕ)) : Type 0 where
+pub record IsLeftWith (b : Contents) (day : ℕ) (chosen : List ℕ) (budget : ℕ) (learnt : List (List ℕ)) : Type 0 where
   pub kept : List ℕ
+  pub among : Among chosen kept
   pub left : IsGivenUp b always (all_entries b day kept) budget learnt
 
 abbrev pub IsStaying : Contents → ℕ → List ℕ → ℕ → Staying → Type 0
 IsStaying b day chosen budget (Codes s) = IsStay b day chosen s
 IsStaying b day chosen budget NoCar = (x : List Bool) → is_good b day x ≡ false
-IsStaying b day chosen budget (Undecided learnt) = IsLeftWith b day budget learnt.clauses
+IsStaying b day chosen budget (Undecided learnt) = IsLeftWith b day chosen budget learnt.clauses
 
 -- a car with all the codes; or none has them, by what is to blame, and these stay; or a search was left
 abbrev pub IsTogether : Contents → ℕ → List ℕ → ℕ → Together → Type 0
 IsTogether b day chosen budget (together.Car x) = IsCarWith b day chosen x
-IsTogether b day chosen budget (together.Apart clash staying) = AreBlamed b day chosen always clash × IsStaying b day chosen budget staying
-IsTogether b day chosen budget (together.Undecided learnt) = IsLeftWith b day budget learnt.clauses
+IsTogether b day chosen budget (together.Apart clash staying) = AreBlamed b day chosen always budget clash × IsStaying b day chosen budget staying
+IsTogether b day chosen budget (together.Undecided learnt) = IsLeftWith b day chosen budget learnt.clauses
 
 -- one more code: it stays, with a car that has it, or none beside those that stay has it, or the search was left
 pub record IsOneMore (b : Contents) (day : ℕ) (code : ℕ) (old new : Stay) : Type 0 where
@@ -73,7 +74,7 @@ pub record IsOneMore (b : Contents) (day : ℕ) (code : ℕ) (old new : Stay) : 
 
 abbrev pub IsTried : Contents → ℕ → ℕ → ℕ → Stay → Stay → Option PoolContents → Type 0
 IsTried b day budget code old new None = IsOneMore b day code old new
-IsTried b day budget code old new (Some learnt) = IsLeftWith b day budget learnt.clauses
+IsTried b day budget code old new (Some learnt) = IsLeftWith b day (old.kept.items ++ code ∷ []) budget learnt.clauses
 
 -- no car has all the codes
 abbrev pub NoneWith : Contents → ℕ → List ℕ → Type 0

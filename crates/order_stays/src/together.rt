@@ -59,7 +59,7 @@ fn apart(
 ) -> Result<Together, Memory>
     requires chosen { All (λ c. c < length book.now.codes) chosen.now }
     requires few { length chosen.now ≤ MOST_CODES }
-    requires clash { AreBlamed book.now day chosen.now true_rule clash }
+    requires clash { AreBlamed book.now day chosen.now true_rule budget clash }
     requires some { 0 < budget }
     requires most { budget ≤ MOST_BUDGET }
     ensures { IfOk result (IsTogether book.now day chosen.now budget) }
@@ -156,7 +156,7 @@ fn apart_with(
 ) -> Result<Together, Memory>
     requires chosen { All (λ c. c < length book.now.codes) chosen.now }
     requires few { length chosen.now ≤ MOST_CODES }
-    requires clash { AreBlamed book.now day chosen.now true_rule clash }
+    requires clash { AreBlamed book.now day chosen.now true_rule budget clash }
     requires over { IsOver (length book.now.codes) (rule_items book.now day) solver.old }
     requires some { 0 < budget }
     requires most { budget ≤ MOST_BUDGET }

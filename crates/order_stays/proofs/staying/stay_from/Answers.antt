@@ -1,6 +1,6 @@
 use Rattle.std.proofs.Common.{ℕ, ◌<◌, length, refl, rules, arith}
 use Rattle.std.proofs.lemmas.List.Elements.{All-get_or}
-use Rattle.order_stays.proofs.StayLaws.{up_to_none, up_to_more, up_to_all, kept_within, kept_few}
+use Rattle.order_stays.proofs.StayLaws.{up_to_none, up_to_more, up_to_all, kept_within, kept_few, left_further}
 use Rattle.order_stays.proofs.staying.stay_from.Goals as goal
 
 pub loop-code-init : goal.loop-code-init
@@ -30,7 +30,9 @@ loop-code-preserved c = record {
 }
 
 pub returns-in-Some : goal.returns-in-Some
-returns-in-Some c = rw c.in-Some.is at c.in_ok-left.ensures.tried
+returns-in-Some c =
+    left_further c.args.book.now c.args.day c.args.chosen.now c.loop-code.code-index _ 0 c.args.budget c.loop-code.stay _ (omega arith) refl
+    c.loop-code.invariant.stays (rw c.in-Some.is at c.in_ok-left.ensures.tried)
 
 pub returns : goal.returns
 returns c = up_to_all c.args.book.now c.args.day c.args.chosen.now c.loop-code.code-index c.loop-code.stay (omega arith) c.loop-code.invariant.stays

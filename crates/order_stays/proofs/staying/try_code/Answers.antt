@@ -1,5 +1,7 @@
-use Rattle.std.proofs.Common.{◌≡◌, ℕ, ◌+◌, ◌-◌, List, [], ◌∷◌, length, take, refl, sym, ap, ◌∙◌, arith}
+use Rattle.std.proofs.Common.{◌≡◌, ℕ, ◌+◌, ◌-◌, List, [], ◌∷◌, ◌++◌, length, take, refl, sym, ap, subst, ◌∙◌, arith}
 use Rattle.std.proofs.lemmas.List.{length-append}
+use Rattle.blame.specs.Entries.{Among}
+use Rattle.blame.proofs.ListLaws.{among_self}
 use Rattle.order_stays.proofs.StayLaws.{tried_within, tried_few, stays_there, stays_by, stays_not, within_car}
 use Rattle.order_stays.proofs.staying.try_code.Goals as goal
 
@@ -39,4 +41,8 @@ returns-in-NoCar-clause-tried c =
     (rw c.in-NoCar.is at c.in_ok-found.ensures.found)
 
 pub returns-in-Undecided-clause-tried : goal.returns-in-Undecided-clause-tried
-returns-in-Undecided-clause-tried c = record { kept = c.deref.result.now; left = rw c.in-Undecided.is at c.in_ok-found.ensures.found }
+returns-in-Undecided-clause-tried c = record {
+  kept = c.deref.result.now;
+  among = subst (Among (c.args.stay.now.kept.items ++ c.args.code ∷ [])) (sym (c.deref.ensures.value ∙ c.in_ok-push.ensures.items)) (among_self (c.args.stay.now.kept.items ++ c.args.code ∷ []));
+  left = rw c.in-Undecided.is at c.in_ok-found.ensures.found;
+}

@@ -6,4 +6,4 @@ use Rattle.order_stays.proofs.together.apart_with.Goals as goal
 pub staying_by-requires-clause-clash : goal.staying_by-requires-clause-clash
 staying_by-requires-clause-clash c =
     subst (NoneWith c.args.book.now c.args.day) (sym (c.deref-3.ensures.value ∙ c.in_ok-codes.ensures ∙ ap codes_of c.deref.ensures.value))
-    (none_blamed c.args.book.now c.args.day c.args.chosen.now c.args.clash c.requires.clash)
+    (none_blamed c.args.book.now c.args.day c.args.chosen.now c.args.budget c.args.clash c.requires.clash)

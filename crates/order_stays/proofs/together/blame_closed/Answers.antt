@@ -9,5 +9,5 @@ blame_by-requires-clause-rule c = always_fits (length c.args.book.now.codes) c.a
 
 pub apart_with-requires-clause-clash : goal.apart_with-requires-clause-clash
 apart_with-requires-clause-clash c =
-    subst (λ (f : Rule). AreBlamed c.args.book.now c.args.day c.args.chosen.now f c.in-Some.clash) c.requires.always
+    subst (λ (f : Rule). AreBlamed c.args.book.now c.args.day c.args.chosen.now f c.args.budget c.in-Some.clash) c.requires.always
     (rw c.in-Some.is at c.in_ok-hinted.ensures)

@@ -9,5 +9,5 @@ blame_near-requires-clause-rule c = always_fits (length c.args.book.now.codes) c
 
 pub apart-requires-clause-clash : goal.apart-requires-clause-clash
 apart-requires-clause-clash c =
-    subst (λ (f : Rule). AreBlamed c.args.book.now c.args.day c.args.chosen.now f c.in-Some.clash) c.in_ok-always.ensures
+    subst (λ (f : Rule). AreBlamed c.args.book.now c.args.day c.args.chosen.now f c.args.budget c.in-Some.clash) c.in_ok-always.ensures
     (rw c.in-Some.is at c.in_ok-near.ensures)
