@@ -66,11 +66,11 @@ past_used (t ∷ used) zero h = absurd (omega arith)
 past_used (t ∷ used) (suc v) h = past_used used v (omega (arith, h))
 
 -- so many values of an assignment from a variable on
-abbrev values : (ℕ → Bool) → ℕ → ℕ → List Bool
+abbrev pub values : (ℕ → Bool) → ℕ → ℕ → List Bool
 values a i zero = []
 values a i (suc k) = a i ∷ values a (suc i) k
 
-length-values : (a : ℕ → Bool) (i k : ℕ) → length (values a i k) ≡ k
+pub length-values : (a : ℕ → Bool) (i k : ℕ) → length (values a i k) ≡ k
 length-values a i zero = refl
 length-values a i (suc k) = ap (λ (n : ℕ). suc n) (length-values a (suc i) k)
 
@@ -79,7 +79,7 @@ values_at a i zero j h = absurd (omega arith)
 values_at a i (suc k) zero h = ap a (let e : i ≡ i + 0 = omega arith in e)
 values_at a i (suc k) (suc j) h = values_at a (suc i) k j (omega (arith, h)) ∙ ap a (let e : suc i + j ≡ i + suc j = omega arith in e)
 
-value_at : (a : ℕ → Bool) (k j : ℕ) → j < k → has (values a 0 k) j ≡ a j
+pub value_at : (a : ℕ → Bool) (k j : ℕ) → j < k → has (values a 0 k) j ≡ a j
 value_at a k j h = values_at a 0 k j h ∙ ap a (let e : 0 + j ≡ j = omega arith in e)
 
 module _ (a : ℕ → Bool) (used : List Bool) where

@@ -1,5 +1,5 @@
 -- A solver over entries, each behind its guard: which sets pass its test, and what it says that no set passes.
-use Rattle.std.proofs.Common.{◌≡◌, ◌==◌, ◌⊎◌, ℕ, ◌+◌, ◌*◌, ◌<◌, ◌≤◌, Bool, true, false, not, ◌&&◌, ◌||◌, List, [], ◌∷◌, ◌++◌, Some, None, length, map, get_or, slice_get, refl, sym, ap, subst, ◌∙◌, inl, inr, arith, All, length-append, eqb, filter, slice_index_or, replicate}
+use Rattle.std.proofs.Common.{Vec, Global, ◌/◌, ◌%◌, if◌then◌else◌, ◌≡◌, ◌==◌, ◌⊎◌, ℕ, ◌+◌, ◌*◌, ◌<◌, ◌≤◌, Bool, true, false, not, ◌&&◌, ◌||◌, List, [], ◌∷◌, ◌++◌, Some, None, length, map, get_or, slice_get, refl, sym, ap, subst, ◌∙◌, inl, inr, arith, All, length-append, eqb, filter, slice_index_or, replicate}
 use Rattle.std.proofs.lemmas.Bool.{and_from, and_parts, eq-eqb, cases_Bool, cond-true, cond-false, or_cases, or_left, or_right, eqb-true, false_from_ne_true, false≢true}
 use Rattle.std.proofs.lemmas.List.{append-nil, length-replicate}
 use Rattle.std.proofs.lemmas.List.Elements.{recursion_from_All}
@@ -19,29 +19,31 @@ use Rattle.clausify.specs.Lifting.{CodesJust}
 use Rattle.clausify.specs.declared.encoder.Encoder.{Encoder}
 use Rattle.clausify.proofs.Bounds.{connectives_below}
 use Rattle.clausify.proofs.ItemLaws.{meets, item_fits}
-use Rattle.clausify.proofs.ListLaws.{all-append}
+use Rattle.clausify.proofs.ListLaws.{all-append, all_first, all_last}
 use Rattle.clausify.proofs.Truth.{true_positive, true_negative}
-use Rattle.guarded_rules.specs.Guarded.{GuardedItem, guarded, guarded_variables, meets_all_guarded, AllGuardedFit, EncodesGuarded, IsGuarded}
+use Rattle.guarded_rules.specs.Guarded.{GuardedItem, guarded, guarded_variables, meets_guarded, meets_all_guarded, AllGuardedFit, EncodesGuarded, IsGuarded}
 use Rattle.clausify.proofs.AgreeLaws.{Agree, appended_agree, meets_agree, fits_more}
 use Rattle.guarded_rules.proofs.FitLaws.{guard_appended, fits_guarded}
-use Rattle.guarded_rules.proofs.GuardedLaws.{AllMeetGuarded, all_from_met}
+use Rattle.guarded_rules.proofs.GuardedLaws.{AllMeetGuarded, all_from_met, met_from_all, met_where_on}
 use Rattle.guarded_rules.proofs.MadeLaws.{guarded_variables-append, guarded_item, guarded_plain, made_below, made_just}
 use Rattle.item_search.specs.Search.{CodesSets, IsRefused}
 use Rattle.item_search.proofs.SearchLaws.{refused_denied, core_refused}
 use Rattle.propagate.specs.Trail.{AreBelow as AreLiterals}
 use Rattle.propagate.specs.Quiet.{IsConsistent}
-use Rattle.solver.specs.Answer.{IsCore}
+use Rattle.solver.specs.Answer.{Begins, IsCore}
 use Rattle.solver.specs.Solver.{Solving, Onwards}
 use Rattle.blame.specs.Absent.{absent_clause, are_absent, IsUnused, IsDenied}
 use Rattle.blame.specs.Blame.{AreFew, entry_item}
 use Rattle.blame.specs.Entries.{EntryFits}
-use Rattle.blame.specs.Guarding.{IsOn, AreItems, MayAdd, AreFurther, further_true, IsMade, MeetsKept, AreMarked, IsGuardOf, AreGuards, AreFewer, AreStill, IsUntried, GuardedSets, IsGuarding}
+use Rattle.blame.specs.Guards.{MeetsKept, MeetsGuarded, IsGuardOf, AreGuards, AreAllGuards, GuardedSets, IsGuarding}
+use Rattle.blame.specs.Plain.{further_true}
+use Rattle.blame.specs.Guarding.{plain_entry, IsOn, MeetsOn, AreItems, MayAdd, AreFurther, IsMade, MeetsBut, AreMarked, AreFewer, AreStill, IsUntried, IsFoundGuarded, WasLeft}
 use Rattle.blame.specs.declared.entries.Entry.{Entry}
 use Rattle.blame.specs.declared.marks.Marks.{Marks}
-use Rattle.blame.proofs.AbsentLaws.{just_absent, absent_below, unused_low, absented}
+use Rattle.blame.proofs.AbsentLaws.{values, length-values, value_at, just_absent, absent_below, unused_low, absented}
 use Rattle.blame.proofs.CodeLaws.{entry_meets, entry_small, entry_at}
 use Rattle.blame.proofs.KeptLaws.{none_needed}
-use Rattle.blame.proofs.PlainLaws.{just_further, further_below}
+use Rattle.blame.proofs.PlainLaws.{just_further, further_below, or_last}
 
 -- how far the clauses of the items are made
 pub record Guarding (b : Contents) (m : List Entry) (i : ℕ) (e : Encoder) : Type 0 where
@@ -51,9 +53,10 @@ pub record Guarding (b : Contents) (m : List Entry) (i : ℕ) (e : Encoder) : Ty
   pub fit : AllGuardedFit (length b.codes + length m) items
   pub small : guarded_variables items ≤ 512 * i
   pub met : (y : List Bool) → IsOn b m y → AllMeetGuarded y items
+  pub back : (y : List Bool) → AllMeetGuarded y items → MeetsOn b m false i y
 
 pub guarding_none : (b : Contents) (m : List Entry) (e : Encoder) → IsGuarded [] e → e.truth ≡ length b.codes + length m → Guarding b m 0 e
-guarding_none b m e made truth = record { truth = truth; items = []; made = made; fit = tt; small = omega arith; met = λ y on. tt }
+guarding_none b m e made truth = record { truth = truth; items = []; made = made; fit = tt; small = omega arith; met = λ y on. tt; back = λ y met k e inside. absurd (omega (arith, inside)) }
 
 unless_on : (on met : Bool) → (on ≡ true → met ≡ true) → (not on || met) ≡ true
 unless_on true met h = h refl
@@ -65,7 +68,7 @@ module _ (b : Contents) (day : ℕ) (book : IsBook b) where
       fits_more (length b.codes) (length b.codes + length m) (omega arith) (entry_item b (get_or m i d)) (entry_small b book (get_or m i d) (entry_at b day m i d fit within).there).fits
 
   pub guarding_more : (m : List Entry) (i g : ℕ) (d : Entry) (e e2 : Encoder) → All (EntryFits b day) m → i < length m → g ≡ length b.codes + i → Guarding b m i e
-      → MayAdd e e2 (guarded (Some g) (entry_item b (get_or m i d))) → Guarding b m (i + 1) e2
+      → MayAdd (plain_entry b (get_or m i d)) e e2 (guarded (Some g) (entry_item b (get_or m i d))) → Guarding b m (i + 1) e2
   guarding_more m i g d e e2 fit within is h (inl more) =
       let x : Entry = get_or m i d in
       let one : GuardedItem = guarded (Some g) (entry_item b x) in
@@ -79,23 +82,36 @@ module _ (b : Contents) (day : ℕ) (book : IsBook b) where
         met = λ y on.
             all-append _ h.items (one ∷ []) (h.met y on)
             (unless_on (has y g) (meets y (entry_item b x)) (λ there. on i x (slice_get-get_or m i d within) (ap (has y) (sym is) ∙ there)), tt);
+        back = λ y met k o inside there plain on.
+            elim (or_last m i k d o there inside) [
+              | inl before ↦ h.back y (all_first (λ j. meets_guarded y j ≡ true) h.items (one ∷ []) met) k o before there plain on
+              | inr last ↦
+                  subst (λ (p : Entry). meets y (entry_item b p) ≡ true) last.1
+                  (met_where_on (has y g) (meets y (entry_item b x)) (ap (has y) (is ∙ ap (λ (j : ℕ). length b.codes + j) (sym last.0)) ∙ on)
+                  (all_last (λ j. meets_guarded y j ≡ true) h.items (one ∷ []) met).0)
+            ];
       }
   guarding_more m i g d e e2 fit within is h (inr none) = record {
-    truth = none.truth ∙ h.truth;
+    truth = none.1.truth ∙ h.truth;
     items = h.items;
-    made = subst (λ (js : List GuardedItem). IsGuarded js e2) (append-nil h.items) (guarded_plain h.items [] e e2 h.made none);
+    made = subst (λ (js : List GuardedItem). IsGuarded js e2) (append-nil h.items) (guarded_plain h.items [] e e2 h.made none.1);
     fit = h.fit;
     small = omega (arith, h.small);
     met = h.met;
+    back = λ y met k o inside there plain on.
+        elim (or_last m i k d o there inside) [
+          | inl before ↦ h.back y met k o before there plain on
+          | inr last ↦ absurd (false≢true (sym plain ∙ sym (ap (plain_entry b) last.1) ∙ none.0))
+        ];
   }
 
   rule_fits : (f : Rule) → RuleFits (length b.codes) f → item_fits (length b.codes) (rule_item None f) ≡ true
   rule_fits f rule = and_from _ _ rule.in_range refl
 
   -- all of them, with the rule
-  pub guarding_all : (m : List Entry) (f : Rule) (i : ℕ) (e e2 : Encoder) → RuleFits (length b.codes) f → Guarding b m i e → EncodesGuarded e e2 (guarded None (rule_item None f))
+  pub guarding_all : (m : List Entry) (f : Rule) (i : ℕ) (e e2 : Encoder) → RuleFits (length b.codes) f → length m ≤ i → Guarding b m i e → EncodesGuarded e e2 (guarded None (rule_item None f))
       → AreItems b m f e2
-  guarding_all m f i e e2 rule h more =
+  guarding_all m f i e e2 rule end h more =
       let one : GuardedItem = guarded None (rule_item None f) in
       record {
         items = h.items ++ one ∷ [];
@@ -104,6 +120,11 @@ module _ (b : Contents) (day : ℕ) (book : IsBook b) where
             all-append _ h.items (one ∷ []) h.fit
             (fits_guarded (length b.codes) (length b.codes + length m) (omega arith) None tt (rule_item None f) (rule_fits f rule), tt);
         met = λ y on holds_. all_from_met y (h.items ++ one ∷ []) (all-append _ h.items (one ∷ []) (h.met y on) (holds_, tt));
+        back = λ y met.
+            let all : AllMeetGuarded y (h.items ++ one ∷ []) = met_from_all y (h.items ++ one ∷ []) met in (
+              λ k o inside there plain on. h.back y (all_first (λ j. meets_guarded y j ≡ true) h.items (one ∷ []) all) k o (omega (arith, inside, end)) there plain on,
+              (all_last (λ j. meets_guarded y j ≡ true) h.items (one ∷ []) all).0,
+            );
       }
 
   found_fits : (m : List Entry) (k : ℕ) (e : Entry) → All (EntryFits b day) m → slice_get m k ≡ Some e → EntryFits b day e
@@ -120,7 +141,7 @@ module _ (b : Contents) (day : ℕ) (book : IsBook b) where
       ∙ met k e there (sym (guards k) ∙ on)
 
   -- what the clauses of the items and the further ones say
-  just_second : (m : List Entry) (f : Rule) (first second : Encoder) (items : AreItems b m f first) (further : AreFurther b m first second)
+  just_second : (m : List Entry) (f : Rule) (first second : Encoder) (items : AreItems b m f first) (further : AreFurther b m (length m) first second)
       → first.truth ≡ length b.codes + length m
       → CodesJust (length b.codes + length m) (λ x. meets_all_guarded items.items x && further_true further.lists x) second.pool.clauses second.next
   just_second m f first second items further truth =
@@ -138,10 +159,30 @@ module _ (b : Contents) (day : ℕ) (book : IsBook b) where
   first_truth : (m : List Entry) (f : Rule) (e : Encoder) (made : IsMade b m f e) → e.truth ≡ length b.codes + length m → made.first.truth ≡ length b.codes + length m
   first_truth m f e made truth = sym made.further.made.truth ∙ sym made.denied.made.truth ∙ truth
 
+  -- what meets the items and the further clauses
+  made_reads : (m : List Entry) (f : Rule) (e : Encoder) → All (EntryFits b day) m → RuleFits (length b.codes) f → (made : IsMade b m f e) (x y : List Bool)
+      → Agree (length b.codes) x y → (meets_all_guarded made.items.items y && further_true made.further.lists y) ≡ true → MeetsGuarded b day f m x y
+  made_reads m f e fit rule made x y agree pass =
+      let n : ℕ = length b.codes in
+      let parts = and_parts (meets_all_guarded made.items.items y) (further_true made.further.lists y) pass in
+      let read = made.items.back y parts.0 in
+      record {
+        holds_there = sym (meets_agree n x y agree (rule_item None f) (rule_fits f rule)) ∙ read.1;
+        meets = λ k o there on.
+            let fits : EntryFits b day o = found_fits m k o fit there in
+            let inside : k < length m = slice_get_within m k o there in
+            let met : meets y (entry_item b o) ≡ true =
+            elim (cases_Bool (plain_entry b o)) [
+              | inl plain ↦ made.further.back y parts.1 k o inside there plain on
+              | inr other ↦ read.0 k o inside there other on
+            ] in
+            sym (entry_meets b day x o fits.active) ∙ sym (meets_agree n x y agree (entry_item b o) (entry_small b book o fits.there).fits) ∙ met;
+      }
+
   -- what the solver over all of them says
   pub guarding_by : (m : List Entry) (f : Rule) (e : Encoder) (s : Solving) → All (EntryFits b day) m → RuleFits (length b.codes) f
-      → e.truth ≡ length b.codes + length m → IsMade b m f e → given_of s.kernel ≡ e.pool.clauses → s.vars ≡ e.next → IsGuarding b day f m s
-  guarding_by m f e s fit rule truth made clauses variables =
+      → e.truth ≡ length b.codes + length m → IsMade b m f e → given_of s.kernel ≡ e.pool.clauses → s.vars ≡ e.next → s.codes ≡ length b.codes → IsGuarding b day f m s
+  guarding_by m f e s fit rule truth made clauses variables decides =
       let n : ℕ = length b.codes in
       let all : ℕ = n + length m in
       let second : Encoder = made.second in
@@ -160,7 +201,9 @@ module _ (b : Contents) (day : ℕ) (book : IsBook b) where
               (subst (λ (cs : List (List ℕ)). CodesJust all (λ x. both x && are_absent us x) cs second.next) (sym (clauses ∙ denied.made.clauses))
               (just_absent all second.next both second.pool.clauses us (unused_low denied.used all us room free) just));
           within = omega (arith, truth, first_truth m f e made truth, next, made.further.made.next, made.items.made.variables);
+          decides = decides;
         };
+        reads = λ x y counted begins pass. made_reads m f e fit rule made x y begins (and_parts (both y) (are_absent us y) pass).0;
         passes = λ x kept counted marked met h.
             let y : List Bool = x ++ kept in
             let agree : Agree n x y = subst (λ (k : ℕ). Agree k x y) counted (appended_agree x kept) in
@@ -181,7 +224,7 @@ module _ (b : Contents) (day : ℕ) (book : IsBook b) where
       let n : ℕ = length b.codes in
       let all : ℕ = n + length m in
       let denied : IsDenied n made.second e = made.denied in
-      let further : AreFurther b m made.first made.second = made.further in
+      let further : AreFurther b m (length m) made.first made.second = made.further in
       let started : made.first.truth ≡ all = first_truth m f e made truth in
       let next : e.next ≡ made.first.next = omega (arith, denied.made.next, further.made.next) in
       let room : all ≤ e.next = omega (arith, next, made.items.made.variables, started) in
@@ -267,7 +310,7 @@ not_itself : (s : Bool) → not s ≡ s → ⊥
 not_itself true h = false≢true h
 not_itself false h = false≢true (sym h)
 
-abbrev value_but : List Bool → ℕ → ℕ → Bool
+abbrev pub value_but : List Bool → ℕ → ℕ → Bool
 value_but kept but place = has kept place && not (place == but)
 
 -- what a search asks of the literals of guards
@@ -287,7 +330,7 @@ guards_consistent n kept but lits h l is_in other =
     let place : o.place ≡ g.place = omega (arith, same) in
     not_itself s (same_value (n + g.place) (n + o.place) (not s) (value_but kept but o.place) both ∙ ap (value_but kept but) place)
 
-value_true : (a : ℕ → Bool) (u : ℕ) (v : Bool) → a u ≡ v → is_true a (literal u v) ≡ true
+pub value_true : (a : ℕ → Bool) (u : ℕ) (v : Bool) → a u ≡ v → is_true a (literal u v) ≡ true
 value_true a u true h = true_positive a u ∙ h
 value_true a u false h = true_negative a u ∙ ap not h
 
@@ -343,43 +386,106 @@ module _ (b : Contents) (day : ℕ) (f : Rule) (m : List Entry) (s : Solving) (g
             ap (is_true (has p.0)) g.is ∙ value_true (has p.0) (n + g.place) v so;
       }))
 
-  pub marked_used : new.needed.items ≡ old.needed.items → AreMarked b day f m old → AreMarked b day f m new
-  marked_used same h = record {
+  pub marked_used : (budget : ℕ) → new.needed ≡ old.needed → new.left ≡ old.left → AreMarked b day f m budget old → AreMarked b day f m budget new
+  marked_used budget same left h = record {
     kept_counted = fewer.counted ∙ h.kept_counted;
-    needed_counted = ap length same ∙ h.needed_counted;
     none = none_used h.kept_counted;
-    each = λ j needed.
-        let e = h.each j (sym (ap (λ (ts : List Bool). has ts j) same) ∙ needed) in (
-          e.0,
-          record { counted = e.1.counted; meets = λ i d there kept other. e.1.meets i d there (fewer.fewer i kept) other; holds_there = e.1.holds_there },
-        );
+    needed = record {
+      counted = ap (λ (v : Vec Bool Global). length v.items) same ∙ h.needed.counted;
+      each = λ j needed.
+          let e = h.needed.each j (sym (ap (λ (v : Vec Bool Global). has v.items j) same) ∙ needed) in (
+            e.0,
+            record { counted = e.1.counted; meets = λ i d there kept other. e.1.meets i d there (fewer.fewer i kept) other; holds_there = e.1.holds_there },
+          );
+    };
+    left_counted = ap (λ (v : Vec Bool Global). length v.items) left ∙ h.left_counted;
+    left = λ j is.
+        let was : WasLeft b day f m old.kept.items j budget = h.left j (sym (ap (λ (v : Vec Bool Global). has v.items j) left) ∙ is) in
+        record {
+          before = was.before;
+          counted = was.counted;
+          fewer = record { counted = fewer.counted ∙ was.fewer.counted; fewer = λ i on. was.fewer.fewer i (fewer.fewer i on) };
+          left = was.left;
+        };
   }
 
-  -- and so they are where all were kept, and none is known to be needed
-  pub marked_first : new.needed.items ≡ old.needed.items → IsUntried (length m) old → AreMarked b day f m new
-  marked_first same h =
+  -- and so they are where all were kept, and none was tried
+  pub marked_first : (budget : ℕ) → new.needed ≡ old.needed → new.left ≡ old.left → IsUntried (length m) old → AreMarked b day f m budget new
+  marked_first budget same also h =
       let counted_old : length old.kept.items ≡ length m = ap length h.kept ∙ length-replicate (length m) true in
-      let none : new.needed.items ≡ replicate (length m) false = same ∙ h.needed in
+      let none : new.needed.items ≡ replicate (length m) false = ap (λ (v : Vec Bool Global). v.items) same ∙ h.needed in
+      let none_left : new.left.items ≡ replicate (length m) false = ap (λ (v : Vec Bool Global). v.items) also ∙ h.left in
       record {
         kept_counted = fewer.counted ∙ counted_old;
-        needed_counted = ap length none ∙ length-replicate (length m) false;
         none = none_used counted_old;
-        each = λ j needed. absurd (false≢true (sym (none_needed (length m) j) ∙ sym (ap (λ (ts : List Bool). has ts j) none) ∙ needed));
+        needed = record {
+          counted = ap length none ∙ length-replicate (length m) false;
+          each = λ j needed. absurd (false≢true (sym (none_needed (length m) j) ∙ sym (ap (λ (ts : List Bool). has ts j) none) ∙ needed));
+        };
+        left_counted = ap length none_left ∙ length-replicate (length m) false;
+        left = λ j is. absurd (false≢true (sym (none_needed (length m) j) ∙ sym (ap (λ (ts : List Bool). has ts j) none_left) ∙ is));
       }
 
 -- what the solver derives changes nothing
-pub sets_onwards : (n : ℕ) (test : List Bool → Bool) (old new : Solving) → GuardedSets n test old → Onwards old new → GuardedSets n test new
-sets_onwards n test old new h more = record {
+pub sets_onwards : (codes n : ℕ) (test : List Bool → Bool) (old new : Solving) → GuardedSets codes n test old → Onwards old new → GuardedSets codes n test new
+sets_onwards codes n test old new h more = record {
   just =
       subst (λ (v : ℕ). CodesJust n test (given_of new.kernel) v) (sym more.same_vars)
       (subst (λ (cs : List (List ℕ)). CodesJust n test cs old.vars) (sym more.extends.same_given) h.just);
   within = omega (arith, more.same_vars, h.within);
+  decides = more.same_codes ∙ h.decides;
+}
+
+pub guarding_onwards : (b : Contents) (day : ℕ) (f : Rule) (m : List Entry) (old new : Solving) → ((codes n : ℕ) (test : List Bool → Bool) → GuardedSets codes n test old → GuardedSets codes n test new)
+    → IsGuarding b day f m old → IsGuarding b day f m new
+guarding_onwards b day f m old new sets h = record {
+  test = h.test;
+  sets = sets (length b.codes) (length b.codes + length m) h.test h.sets;
+  passes = h.passes;
+  reads = h.reads;
 }
 
 -- where the solver closes, no set passes with what its clause denies
-pub guarded_refused : (n : ℕ) (test : List Bool → Bool) (s : Solving) (lits : List ℕ) (at : ℕ) → GuardedSets n test s → AreLiterals lits (2 * n) → AllFollow s.kernel
+pub guarded_refused : (codes n : ℕ) (test : List Bool → Bool) (s : Solving) (lits : List ℕ) (at : ℕ) → GuardedSets codes n test s → AreLiterals lits (2 * n) → AllFollow s.kernel
     → IsCore s.kernel lits at → IsRefused n test s.kernel lits at
-guarded_refused n test s lits at h below follow core =
+guarded_refused codes n test s lits at h below follow core =
     let t : Solving = record { kernel = s.kernel; vars = s.vars; codes = n } in
     let sets : CodesSets n test t = record { just = h.just; codes = refl; within = h.within } in
     core_refused n test t sets lits below at follow core
+
+-- where it answers by a set, one passes that begins with it
+pub guarded_found : (codes n : ℕ) (test : List Bool → Bool) (s : Solving) (lits : List ℕ) (x : List Bool) → GuardedSets codes n test s → AreLiterals lits (2 * n)
+    → Begins (given_of s.kernel) lits s.codes x → IsFoundGuarded codes n test lits x
+guarded_found codes n test s lits x h below found =
+    let a : ℕ → Bool = found.assignment in
+    let whole : List Bool = values a 0 n in
+    let count : length whole ≡ n = length-values a 0 n in
+    record {
+      counted = found.counted ∙ h.decides;
+      whole = whole;
+      whole_counted = count;
+      begins = λ i low inside. value_at a n i inside ∙ found.begins i (subst (λ (k : ℕ). i < k) (sym h.decides) low);
+      passes = h.just.begins_so a whole count (λ i inside. sym (value_at a n i (subst (λ (k : ℕ). i < k) count inside))) found.satisfied;
+      lits_true = λ l is_in.
+          let low : l < 2 * n = below l is_in in
+          ap (λ (p : Bool). if l % 2 == 0 then p else not p) (value_at a n (l / 2) (omega (arith, low))) ∙ found.assumed l is_in;
+    }
+
+-- and it shows that the entry is needed which was left out
+pub found_but : (b : Contents) (day : ℕ) (f : Rule) (m : List Entry) (s : Solving) (guarding : IsGuarding b day f m s) (n : ℕ) (kept : List Bool) (at : ℕ) (lits : List ℕ) (x : List Bool)
+    → n ≡ length b.codes → length kept ≡ length m → AreAllGuards n kept at lits → IsFoundGuarded (length b.codes) (length b.codes + length m) guarding.test lits x
+    → MeetsBut b day f m kept at x
+found_but b day f m s guarding n kept at lits x first counted guards h =
+    let read = guarding.reads x h.whole h.whole_counted (λ i inside. h.begins i inside (omega (arith, inside))) h.passes in
+    record {
+      counted = h.counted;
+      holds_there = read.holds_there;
+      meets = λ k e there on other.
+          let inside : k < length kept = subst (λ (j : ℕ). k < j) (sym counted) (slice_get_within m k e there) in
+          let so : value_but kept at k ≡ true =
+          and_from (has kept k) (not (k == at)) on (ap not (false_from_ne_true (k == at) (λ same. other (eqb-true k at same)))) in
+          read.meets k e there
+          (ap (λ (j : ℕ). has h.whole (j + k)) (sym first)
+          ∙ sym (true_positive (has h.whole) (n + k))
+          ∙ h.lits_true (literal (n + k) true) (subst (λ (t : Bool). has_literal lits (literal (n + k) t) ≡ true) so (guards.each k inside)));
+    }

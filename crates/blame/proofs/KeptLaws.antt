@@ -6,9 +6,10 @@ use Rattle.std.proofs.lemmas.List.{length-replicate}
 use Rattle.pb_base.specs.Rule.{Rule}
 use Rattle.pb_base.specs.Sets.{has}
 use Rattle.book_model.specs.Contents.{Contents}
-use Rattle.blame.specs.Blame.{IsNone, IsBlame}
+use Rattle.blame.specs.Blame.{IsNone}
 use Rattle.blame.specs.Entries.{meets_entry, meets_all, Among}
-use Rattle.blame.specs.Guarding.{kept_of, MeetsKept, AreMarked}
+use Rattle.blame.specs.Guards.{MeetsKept}
+use Rattle.blame.specs.Guarding.{kept_of, AreMarked}
 use Rattle.blame.specs.declared.entries.Entry.{Entry}
 use Rattle.blame.specs.declared.marks.Marks.{Marks}
 
@@ -67,7 +68,12 @@ module _ {X : Type 0} where
   length-kept (x ∷ xs) (y ∷ ys) (true ∷ ts) same = ap (λ (k : ℕ). suc k) (length-kept xs ys ts (omega (arith, same)))
   length-kept (x ∷ xs) (y ∷ ys) (false ∷ ts) same = length-kept xs ys ts (omega (arith, same))
 
-some_same : (d e : Entry) → Some d ≡ Some e → d ≡ e
+pub has_within : (ts : List Bool) (k : ℕ) → has ts k ≡ true → k < length ts
+has_within [] k on = absurd (false≢true on)
+has_within (t ∷ ts) zero on = omega arith
+has_within (t ∷ ts) (suc k) on = omega (arith, has_within ts k on)
+
+pub some_same : (d e : Entry) → Some d ≡ Some e → d ≡ e
 some_same d e h = cc
 
 module _ (b : Contents) (day : ℕ) (x : List Bool) where
@@ -86,11 +92,31 @@ module _ (b : Contents) (day : ℕ) (x : List Bool) where
   met_kept (d ∷ m) (true ∷ ts) h = and_from (meets_entry b day x d) (meets_all b day x (kept_of m ts)) (h 0 d refl refl) (met_kept m ts (λ k e there on. h (suc k) e there on))
   met_kept (d ∷ m) (false ∷ ts) h = met_kept m ts (λ k e there on. h (suc k) e there on)
 
+-- at which place of all elements the one at a place of the kept ones stands
+abbrev pub place_of : List Bool → ℕ → ℕ
+place_of [] k = k
+place_of (false ∷ ts) k = suc (place_of ts k)
+place_of (true ∷ ts) zero = zero
+place_of (true ∷ ts) (suc k) = suc (place_of ts k)
+
+pub place_there : {X : Type 0} (xs : List X) (ts : List Bool) (k : ℕ) → k < length (kept_of xs ts) → slice_get (kept_of xs ts) k ≡ slice_get xs (place_of ts k)
+place_there [] ts k within = absurd (omega (arith, within))
+place_there (x ∷ xs) [] k within = absurd (omega (arith, within))
+place_there (x ∷ xs) (false ∷ ts) k within = place_there xs ts k within
+place_there (x ∷ xs) (true ∷ ts) zero within = refl
+place_there (x ∷ xs) (true ∷ ts) (suc k) within = place_there xs ts k (omega (arith, within))
+
+pub place_kept : {X : Type 0} (xs : List X) (ts : List Bool) (k : ℕ) → k < length (kept_of xs ts) → has ts (place_of ts k) ≡ true
+place_kept [] ts k within = absurd (omega (arith, within))
+place_kept (x ∷ xs) [] k within = absurd (omega (arith, within))
+place_kept (x ∷ xs) (false ∷ ts) k within = place_kept xs ts k within
+place_kept (x ∷ xs) (true ∷ ts) zero within = refl
+place_kept (x ∷ xs) (true ∷ ts) (suc k) within = place_kept xs ts k (omega (arith, within))
+
 -- where the element at a place of the list comes from
 pub record IsFrom (m : List Entry) (ts : List Bool) (needed : List Bool) (place : ℕ) : Type 0 where
-  pub at : ℕ
-  pub same : has (kept_of needed ts) place ≡ has needed at
-  pub others : (b : Contents) (day : ℕ) (x : List Bool) → ((k : ℕ) (e : Entry) → slice_get m k ≡ Some e → has ts k ≡ true → (k ≡ at → ⊥) → meets_entry b day x e ≡ true)
+  pub same : has (kept_of needed ts) place ≡ has needed (place_of ts place)
+  pub others : (b : Contents) (day : ℕ) (x : List Bool) → ((k : ℕ) (e : Entry) → slice_get m k ≡ Some e → has ts k ≡ true → (k ≡ place_of ts place → ⊥) → meets_entry b day x e ≡ true)
       → meets_all b day x (remove (kept_of m ts) place) ≡ true
 
 pub from_there : (m : List Entry) (ts needed : List Bool) (place : ℕ) → length needed ≡ length m → place < length (kept_of m ts) → IsFrom m ts needed place
@@ -98,44 +124,23 @@ from_there [] ts needed place same within = absurd (omega arith)
 from_there (d ∷ m) [] needed place same within = absurd (omega arith)
 from_there (d ∷ m) (t ∷ ts) [] place same within = absurd (omega (arith, same))
 from_there (d ∷ m) (true ∷ ts) (u ∷ needed) zero same within = record {
-  at = 0;
   same = refl;
   others = λ b day x h. met_kept b day x m ts (λ k e there on. h (suc k) e there on (λ (z : suc k ≡ 0). absurd (omega (arith, z))));
 }
 from_there (d ∷ m) (true ∷ ts) (u ∷ needed) (suc place) same within =
     let later : IsFrom m ts needed place = from_there m ts needed place (omega (arith, same)) (omega (arith, within)) in
     record {
-      at = suc later.at;
       same = later.same;
       others = λ b day x h.
-          and_from (meets_entry b day x d) (meets_all b day x (remove (kept_of m ts) place)) (h 0 d refl refl (λ (z : 0 ≡ suc later.at). absurd (omega (arith, z))))
-          (later.others b day x (λ k e there on other. h (suc k) e there on (λ (z : suc k ≡ suc later.at). other (omega (arith, z)))));
+          and_from (meets_entry b day x d) (meets_all b day x (remove (kept_of m ts) place)) (h 0 d refl refl (λ (z : 0 ≡ suc (place_of ts place)). absurd (omega (arith, z))))
+          (later.others b day x (λ k e there on other. h (suc k) e there on (λ (z : suc k ≡ suc (place_of ts place)). other (omega (arith, z)))));
     }
 from_there (d ∷ m) (false ∷ ts) (u ∷ needed) place same within =
     let later : IsFrom m ts needed place = from_there m ts needed place (omega (arith, same)) within in
     record {
-      at = suc later.at;
       same = later.same;
-      others = λ b day x h. later.others b day x (λ k e there on other. h (suc k) e there on (λ (z : suc k ≡ suc later.at). other (omega (arith, z))));
+      others = λ b day x h. later.others b day x (λ k e there on other. h (suc k) e there on (λ (z : suc k ≡ suc (place_of ts place)). other (omega (arith, z))));
     }
-
-pub blame_kept : (b : Contents) (day : ℕ) (f : Rule) (m kept : List Entry) (marks : Marks) (needed : List Bool) → AreMarked b day f m marks → kept ≡ kept_of m marks.kept.items
-    → needed ≡ kept_of marks.needed.items marks.kept.items → IsBlame b day f kept needed
-blame_kept b day f m kept marks needed h is also = record {
-  counted = ap length also ∙ length-kept marks.needed.items m marks.kept.items h.needed_counted ∙ sym (ap length is);
-  none = λ x counted met. h.none x counted (kept_met b day x m marks.kept.items (sym (ap (meets_all b day x) is) ∙ met));
-  each = λ place within needs.
-      let from : IsFrom m marks.kept.items marks.needed.items place =
-      from_there m marks.kept.items marks.needed.items place h.needed_counted (subst (λ (es : List Entry). place < length es) is within) in
-      let e = h.each from.at (sym from.same ∙ sym (ap (λ (ts : List Bool). has ts place) also) ∙ needs) in (
-        e.0,
-        record {
-          counted = e.1.counted;
-          meets = ap (λ (es : List Entry). meets_all b day e.0 (remove es place)) is ∙ from.others b day e.0 e.1.meets;
-          holds_there = e.1.holds_there;
-        },
-      );
-}
 
 pub among_kept : (m kept : List Entry) (ts : List Bool) → length ts ≡ length m → kept ≡ kept_of m ts → Among m kept
 among_kept m kept ts same is = subst (Among m) (sym is) (kept_among m ts same)
@@ -155,13 +160,17 @@ all_met : (b : Contents) (day : ℕ) (x : List Bool) (m : List Entry) → ((k : 
 all_met b day x [] h = refl
 all_met b day x (d ∷ m) h = and_from (meets_entry b day x d) (meets_all b day x m) (h 0 d refl) (all_met b day x m (λ k e there. h (suc k) e there))
 
-pub marked_untried : (b : Contents) (day : ℕ) (f : Rule) (m : List Entry) (count : ℕ) (marks : Marks) → count ≡ length m → marks.kept.items ≡ replicate count true → marks.needed.items ≡ replicate count false
-    → IsNone b day f m → AreMarked b day f m marks
-marked_untried b day f m count marks counted kept needed none =
+pub marked_untried : (b : Contents) (day : ℕ) (f : Rule) (m : List Entry) (budget count : ℕ) (marks : Marks) → count ≡ length m → marks.kept.items ≡ replicate count true
+    → marks.needed.items ≡ replicate count false → marks.left.items ≡ replicate count false → IsNone b day f m → AreMarked b day f m budget marks
+marked_untried b day f m budget count marks counted kept needed left none =
     let all : marks.kept.items ≡ replicate (length m) true = kept ∙ ap (λ (k : ℕ). replicate k true) counted in
     record {
       kept_counted = ap length kept ∙ length-replicate count true ∙ counted;
-      needed_counted = ap length needed ∙ length-replicate count false ∙ counted;
       none = λ x len met. none x len (all_met b day x m (λ k e there. met k e there (ap (λ (ts : List Bool). has ts k) all ∙ kept_all m k e there)));
-      each = λ k is. absurd (false≢true (sym (none_needed count k) ∙ sym (ap (λ (ts : List Bool). has ts k) needed) ∙ is));
+      needed = record {
+        counted = ap length needed ∙ length-replicate count false ∙ counted;
+        each = λ k is. absurd (false≢true (sym (none_needed count k) ∙ sym (ap (λ (ts : List Bool). has ts k) needed) ∙ is));
+      };
+      left_counted = ap length left ∙ length-replicate count false ∙ counted;
+      left = λ k is. absurd (false≢true (sym (none_needed count k) ∙ sym (ap (λ (ts : List Bool). has ts k) left) ∙ is));
     }

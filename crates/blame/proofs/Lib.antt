@@ -4,5 +4,7 @@ mod CodeLaws
 mod ToldLaws
 mod GuardLaws
 mod KeptLaws
+mod MarkLaws
+mod LeftLaws
 mod AbsentLaws
 mod PlainLaws

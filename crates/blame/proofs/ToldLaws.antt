@@ -36,9 +36,9 @@ no_car_by b day f chosen all is none x good there =
 none_among : (b : Contents) (day : ℕ) (f : Rule) (all m : List Entry) → Among all m → IsNone b day f m → IsNone b day f all
 none_among b day f all m among none x counted met = none x counted (list_all-among (meets_entry b day x) all m among met)
 
-pub blamed_by : (b : Contents) (day : ℕ) (f : Rule) (chosen : List ℕ) (all first : List Entry) (m : Blamed) → all ≡ all_entries b day chosen → Among all first
-    → Among first m.entries.items → IsBlame b day f m.entries.items m.needed.items → AreBlamed b day chosen f m
-blamed_by b day f chosen all first m is among among_first blame =
+pub blamed_by : (b : Contents) (day : ℕ) (f : Rule) (budget : ℕ) (chosen : List ℕ) (all first : List Entry) (m : Blamed) → all ≡ all_entries b day chosen → Among all first
+    → Among first m.entries.items → IsBlame b day f budget m.entries.items m.needed.items → AreBlamed b day chosen f budget m
+blamed_by b day f budget chosen all first m is among among_first blame =
     let some : Among all m.entries.items = among_among all first m.entries.items among among_first in
     record {
       no_car = no_car_by b day f chosen all is (none_among b day f all m.entries.items some blame.none);
@@ -46,7 +46,7 @@ blamed_by b day f chosen all first m is among among_first blame =
       blame = blame;
     }
 
-pub hinted_by : (b : Contents) (day : ℕ) (f : Rule) (chosen : List ℕ) (all first : List Entry) (found : Option Blamed) → all ≡ all_entries b day chosen → Among all first
-    → IfSome found (λ m. Among first m.entries.items) → IfSome found (λ m. IsBlame b day f m.entries.items m.needed.items) → IfSome found (AreBlamed b day chosen f)
-hinted_by b day f chosen all first None is among among_first blame = tt
-hinted_by b day f chosen all first (Some m) is among among_first blame = blamed_by b day f chosen all first m is among among_first blame
+pub hinted_by : (b : Contents) (day : ℕ) (f : Rule) (budget : ℕ) (chosen : List ℕ) (all first : List Entry) (found : Option Blamed) → all ≡ all_entries b day chosen → Among all first
+    → IfSome found (λ m. Among first m.entries.items) → IfSome found (λ m. IsBlame b day f budget m.entries.items m.needed.items) → IfSome found (AreBlamed b day chosen f budget)
+hinted_by b day f budget chosen all first None is among among_first blame = tt
+hinted_by b day f budget chosen all first (Some m) is among among_first blame = blamed_by b day f budget chosen all first m is among among_first blame

@@ -1,7 +1,12 @@
 -- Whether a car meets a rule, and what is to blame if none does. m are entries and f is the rule.
 --     IsNone b day f m           no set that meets all of m meets the rule
 --     IsMet b day f m            some set meets all of m and the rule
---     IsBlame b day f m needed   none does, and each entry that is said to be needed is: some set meets all others and the rule
+--     AsksFor b day f m given assumed    clauses and literals that are true together ask for such a set: what they find is one, and they find
+--                                some if there is one
+--     IsLeftFor b day f m budget a search by such clauses was left, with as many learnt ones as the budget
+--     IsLeftWithout b day f budget m place    so one was without the entry at a place, in which all others of m were asked for
+--     IsBlame b day f budget m needed    no set meets all of m and the rule. Where an entry is said to be needed, some set meets all others
+--                                and the rule; where it isn't, a search for such a set was left
 --     IsCar b day chosen f x     a car of the day that has the codes and meets the rule
 --     IsNoCar b day chosen f     there is none
 --     IsTold b day chosen f budget told    what is told: a car, or what is to blame, or that the search was left
@@ -14,6 +19,7 @@ use Rattle.pb_base.specs.declared.limits.TheConstants.{MOST_SUPPLEMENTS, MOST_CO
 use Rattle.book_model.specs.Contents.{Contents}
 use Rattle.book_model.specs.Good.{is_good}
 use Rattle.clausify.specs.Items.{Item, free_item, supplement_item, construct_item, rule_item}
+use Rattle.solver.specs.Answer.{Begins, IsSpent}
 use Rattle.item_search.specs.Search.{IsLeft}
 use Rattle.item_search.specs.declared.outcome.Outcome.{Outcome}
 use Rattle.item_search.specs.declared.outcome.Outcome.TheVariants as outcome
@@ -39,10 +45,31 @@ pub record IsMetBy (b : Contents) (day : ℕ) (f : Rule) (m : List Entry) (x : L
 abbrev pub IsMet : Contents → ℕ → Rule → List Entry → Type 0
 IsMet b day f m = (x : List Bool) × IsMetBy b day f m x
 
-pub record IsBlame (b : Contents) (day : ℕ) (f : Rule) (m : List Entry) (needed : List Bool) : Type 0 where
+pub record AsksFor (b : Contents) (day : ℕ) (f : Rule) (m : List Entry) (given : List (List ℕ)) (assumed : List ℕ) : Type 0 where
+  pub only : (x : List Bool) → Begins given assumed (length b.codes) x → IsMetBy b day f m x
+  pub some : IsMet b day f m → (x : List Bool) × Begins given assumed (length b.codes) x
+
+pub record IsLeftFor (b : Contents) (day : ℕ) (f : Rule) (m : List Entry) (budget : ℕ) : Type 0 where
+  pub given : List (List ℕ)
+  pub assumed : List ℕ
+  pub asks : AsksFor b day f m given assumed
+  pub vars : ℕ
+  pub learnt : List (List ℕ)
+  pub spent : IsSpent vars given assumed budget learnt
+
+pub record IsLeftWithout (b : Contents) (day : ℕ) (f : Rule) (budget : ℕ) (m : List Entry) (place : ℕ) : Type 0 where
+  -- the entries that were kept when this one was tried, and where it stood among them
+  pub before : List Entry
+  pub at : ℕ
+  pub same : slice_get before at ≡ slice_get m place
+  pub others : Among (remove before at) (remove m place)
+  pub left : IsLeftFor b day f (remove before at) budget
+
+pub record IsBlame (b : Contents) (day : ℕ) (f : Rule) (budget : ℕ) (m : List Entry) (needed : List Bool) : Type 0 where
   pub counted : length needed ≡ length m
   pub none : IsNone b day f m
   pub each : (place : ℕ) → place < length m → has needed place ≡ true → IsMet b day f (remove m place)
+  pub left : (place : ℕ) → place < length m → has needed place ≡ false → IsLeftWithout b day f budget m place
 
 -- what an entry asks, as an item of which clauses are made
 abbrev pub entry_item : Contents → Entry → Item
@@ -72,12 +99,12 @@ pub record IsCar (b : Contents) (day : ℕ) (chosen : List ℕ) (f : Rule) (x : 
 abbrev pub IsNoCar : Contents → ℕ → List ℕ → Rule → Type 0
 IsNoCar b day chosen f = (x : List Bool) → is_good b day x ≡ true → list_all (has x) chosen ≡ true → holds f x ≡ false
 
-pub record AreBlamed (b : Contents) (day : ℕ) (chosen : List ℕ) (f : Rule) (m : Blamed) : Type 0 where
+pub record AreBlamed (b : Contents) (day : ℕ) (chosen : List ℕ) (f : Rule) (budget : ℕ) (m : Blamed) : Type 0 where
   pub no_car : IsNoCar b day chosen f
   pub among : Among (all_entries b day chosen) m.entries.items
-  pub blame : IsBlame b day f m.entries.items m.needed.items
+  pub blame : IsBlame b day f budget m.entries.items m.needed.items
 
 abbrev pub IsTold : Contents → ℕ → List ℕ → Rule → ℕ → Told → Type 0
 IsTold b day chosen f budget (told.Car x) = IsCar b day chosen f x
-IsTold b day chosen f budget (told.NoCar m) = AreBlamed b day chosen f m
+IsTold b day chosen f budget (told.NoCar m) = AreBlamed b day chosen f budget m
 IsTold b day chosen f budget (told.Undecided learnt) = IsGivenUp b f (all_entries b day chosen) budget learnt.clauses

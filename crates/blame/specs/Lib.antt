@@ -1,4 +1,5 @@
 pub mod Entries
+pub mod Guards
 pub mod Blame
 pub mod Guarding
 pub mod Absent

@@ -6,7 +6,8 @@ ghost use Rattle.chains.specs.Growth.{given_of};
 ghost use Rattle.propagate.specs.Trail.{AreBelow as AreLiterals};
 ghost use Rattle.propagate.specs.Quiet.{IsConsistent};
 ghost use Rattle.solver.specs.Solver.{IsRight};
-ghost use Rattle.blame.specs.Guarding.{GuardedSets, IsGuardedAnswer};
+ghost use Rattle.blame.specs.Guards.{GuardedSets};
+ghost use Rattle.blame.specs.Guarding.{IsGuardedAnswer};
 
 use clause_pool::{Kernel, Lit};
 use clausify::{Encoded, Encoder};
@@ -21,6 +22,7 @@ pub(crate) fn solver_deciding(alloc: Global, encoder: Encoder, codes: u32) -> Re
     requires codes { codes ≤ encoder.next }
     ensures clauses { IfOk result (λ s. given_of s.kernel ≡ encoder.pool.clauses) }
     ensures variables { IfOk result (λ s. s.vars ≡ encoder.next) }
+    ensures decides { IfOk result (λ s. s.codes ≡ codes) }
 {
     let Encoded {
         pool,
@@ -42,10 +44,11 @@ pub(crate) fn search_guarded(
     requires consistent { IsConsistent lits.now }
     requires some { 0 < budget }
     requires most { budget ≤ MOST_BUDGET }
-    ensures sets { (n : ℕ) (test : List Bool → Bool) → GuardedSets n test solver.old
-        → GuardedSets n test solver.new }
-    ensures answer { (n : ℕ) (test : List Bool → Bool) → GuardedSets n test solver.old
-        → AreLiterals lits.now (2 * n) → IfOk result (IsGuardedAnswer n test solver.new lits.now) }
+    ensures sets { (codes n : ℕ) (test : List Bool → Bool) → GuardedSets codes n test solver.old
+        → GuardedSets codes n test solver.new }
+    ensures answer { (codes n : ℕ) (test : List Bool → Bool) → GuardedSets codes n test solver.old
+        → AreLiterals lits.now (2 * n)
+        → IfOk result (IsGuardedAnswer codes n test solver.new lits.now budget) }
 {
     let answer = solver.solve(lits, budget)?;
     Ok(read_answer(solver, lits, budget, answer))
@@ -54,8 +57,8 @@ pub(crate) fn search_guarded(
 // The solver's answer, with what it says.
 fn read_answer(solver: &Solver, lits: &[Lit], budget: u32, answer: Answer) -> Answer
     requires right { IsRight solver.now lits.now budget answer }
-    ensures { (n : ℕ) (test : List Bool → Bool) → GuardedSets n test solver.now
-        → AreLiterals lits.now (2 * n) → IsGuardedAnswer n test solver.now lits.now result }
+    ensures { (codes n : ℕ) (test : List Bool → Bool) → GuardedSets codes n test solver.now
+        → AreLiterals lits.now (2 * n) → IsGuardedAnswer codes n test solver.now lits.now budget result }
 {
     match answer {
         Answer::Set(set) => Answer::Set(set),

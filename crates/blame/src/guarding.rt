@@ -7,8 +7,9 @@ ghost use Rattle.clausify.specs.Formulas.{connectives};
 ghost use Rattle.guarded_rules.specs.Guarded.{guarded, EncodesGuarded};
 ghost use Rattle.blame.specs.Entries.{EntryFits, IsThere};
 ghost use Rattle.blame.specs.Blame.{AreFew, entry_item};
-ghost use Rattle.blame.specs.Guarding.{AreFurther, IsGuarding, IsMade, MayAdd};
-ghost use Rattle.blame.specs.Plain.{AddsPlain};
+ghost use Rattle.blame.specs.Guards.{IsGuarding};
+ghost use Rattle.blame.specs.Guarding.{AreFurther, IsMade, MayAdd, plain_entry};
+ghost use Rattle.blame.specs.Plain.{AddsPlain, plain_rule};
 
 use crate::deciding::solver_deciding;
 use crate::entries::Entry;
@@ -76,7 +77,7 @@ fn add_unless_plain(
     requires there { IsThere book.now entry }
     requires room { encoder.old.next + connectives (entry_item book.now entry).rule < 2 ^ 32 }
     ensures { let item = guarded (Some guard) (entry_item book.now entry) in
-        OnOk result (MayAdd encoder.old encoder.new item) }
+        OnOk result (MayAdd (plain_entry book.now entry) encoder.old encoder.new item) }
 {
     if is_plain(book, entry) {
         return Ok(());
@@ -85,7 +86,9 @@ fn add_unless_plain(
     Ok(())
 }
 
-fn is_plain(book: &Book, entry: Entry) -> bool {
+fn is_plain(book: &Book, entry: Entry) -> bool
+    ensures { result ≡ plain_entry book.now entry }
+{
     match entry {
         Entry::Supplement(_) => false,
         Entry::Construct(place) => match book.constructs().get(place as usize) {
@@ -106,7 +109,8 @@ fn add_plain_entries(
 ) -> Result<(), Memory>
     requires fit { All (EntryFits book.now day) entries.now }
     requires few { AreFew entries.now }
-    ensures { OnOk result (AreFurther book.now entries.now encoder.old encoder.new) }
+    ensures { OnOk result
+        (AreFurther book.now entries.now (length entries.now) encoder.old encoder.new) }
 {
     let codes = book.codes().len();
     for (place, entry) in entries.iter().enumerate() {
@@ -123,7 +127,8 @@ fn add_plain(
     guard: u32,
 ) -> Result<(), Memory>
     requires there { IsThere book.now entry }
-    ensures { OnOk result (AddsPlain guard (entry_item book.now entry) encoder.old encoder.new) }
+    ensures { let plain = plain_entry book.now entry in
+        OnOk result (AddsPlain plain guard (entry_item book.now entry) encoder.old encoder.new) }
 {
     match entry {
         Entry::Supplement(_) => Ok(()),
@@ -141,7 +146,7 @@ fn add_plain_construct(
 ) -> Result<(), Memory>
     requires { place < length book.now.constructs }
     ensures { let item = entry_item book.now (Entry.Construct place) in
-        OnOk result (AddsPlain guard item encoder.old encoder.new) }
+        OnOk result (AddsPlain (plain_rule item.rule) guard item encoder.old encoder.new) }
 {
     let constructs = book.constructs();
     let construct = &constructs[place as usize];

@@ -1,28 +1,24 @@
 //! The entries that are kept, as they are told.
 ghost use Rattle.std.specs.Prelude.{◌≡◌, IfOk, length};
-ghost use Rattle.blame.specs.Entries.{Among};
-ghost use Rattle.blame.specs.Blame.{IsBlame};
-ghost use Rattle.blame.specs.Guarding.{AreMarked, kept_of};
+ghost use Rattle.blame.specs.Guarding.{kept_of};
 
 use crate::blamed::Blamed;
 use crate::entries::Entry;
 use crate::marks::Marks;
-use book_model::Book;
-use pb_base::{Day, Formula, Memory};
+use pb_base::Memory;
 use std::alloc::Global;
 
 /// The kept entries, with what is known to be needed of them.
 pub(crate) fn blamed_by_marks(
     alloc: Global,
-    book: &Book,
-    day: Day,
-    rule: &Formula,
     entries: &[Entry],
     marks: &Marks,
 ) -> Result<Blamed, Memory>
-    requires { AreMarked book.now day rule.now entries.now marks.now }
-    ensures blame { IfOk result (λ m. IsBlame book.now day rule.now m.entries.items m.needed.items) }
-    ensures among { IfOk result (λ m. Among entries.now m.entries.items) }
+    requires kept { length marks.now.kept.items ≡ length entries.now }
+    requires needed { length marks.now.needed.items ≡ length entries.now }
+    ensures entries { IfOk result (λ m. m.entries.items ≡ kept_of entries.now marks.now.kept.items) }
+    ensures needed { IfOk result
+        (λ m. m.needed.items ≡ kept_of marks.now.needed.items marks.now.kept.items) }
 {
     let kept = kept_entries(alloc, entries, &marks.kept)?;
     let needed = kept_marks(alloc, &marks.needed, &marks.kept)?;

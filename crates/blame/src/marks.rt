@@ -1,4 +1,4 @@
-//! Which entries are kept, and which are needed.
+//! Which entries are kept, which are needed, and of which that is left open.
 ghost use Rattle.std.specs.Prelude.{IfOk};
 ghost use Rattle.blame.specs.Guarding.{IsUntried};
 
@@ -10,14 +10,17 @@ use std::alloc::Global;
 pub(crate) struct Marks {
     pub(crate) kept: Vec<bool>,
     pub(crate) needed: Vec<bool>,
+    /// A search without the entry was left.
+    pub(crate) left: Vec<bool>,
 }
 
-/// All of so many are kept, and none is known to be needed.
+/// All of so many are kept, and none was tried.
 pub(crate) fn untried(alloc: Global, count: usize) -> Result<Marks, Memory>
     ensures { IfOk result (IsUntried count) }
 {
     Ok(Marks {
         kept: vec![in alloc; true; count]?,
         needed: vec![in alloc; false; count]?,
+        left: vec![in alloc; false; count]?,
     })
 }

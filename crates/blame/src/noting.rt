@@ -1,7 +1,8 @@
 //! Notes which entries are needed, by sets that meet all kept ones but one.
-ghost use Rattle.std.specs.Prelude.{◌≡◌, ◌<◌, IfOk, length, true};
+ghost use Rattle.std.specs.Prelude.{◌≡◌, ◌<◌, length, true};
+ghost use Rattle.pb_base.specs.Sets.{has};
 ghost use Rattle.book_model.specs.Book.{RuleFits};
-ghost use Rattle.blame.specs.Guarding.{AreMarked, MeetsBut};
+ghost use Rattle.blame.specs.Guarding.{AreMore, AreNeeded, MeetsBut};
 
 use crate::entries::Entry;
 use crate::marks::Marks;
@@ -12,7 +13,7 @@ use book_model::Book;
 use pb_base::{CodeSet, Day, Formula, Memory};
 use std::alloc::Global;
 
-/// Notes that the entry at a place is needed, where the set, of which the codes of the book come first, meets all others that are kept.
+/// Notes that the entry at a place is needed: the set meets all others that are kept. And what else is needed by this set.
 pub(crate) fn note_need(
     alloc: Global,
     book: &Book,
@@ -25,31 +26,49 @@ pub(crate) fn note_need(
     set: &CodeSet,
 ) -> Result<(), Memory>
     requires rule { RuleFits (length book.now.codes) rule.now }
-    requires marked { AreMarked book.now day rule.now entries.now marks.old }
-    ensures marked { AreMarked book.now day rule.now entries.now marks.new }
+    requires inside { at < length marks.old.needed.items }
+    requires shown { MeetsBut book.now day rule.now entries.now marks.old.kept.items at set.now }
+    requires needed { AreNeeded book.now day rule.now entries.now marks.old.kept.items marks.old.needed.items }
+    ensures kept { marks.new.kept ≡ marks.old.kept }
+    ensures left { marks.new.left ≡ marks.old.left }
+    ensures needed { AreNeeded book.now day rule.now entries.now marks.old.kept.items marks.new.needed.items }
+    ensures more { AreMore marks.old.needed.items marks.new.needed.items }
+    ensures noted { has marks.new.needed.items at ≡ true }
 {
-    let first = first_codes(alloc, set, book.codes().len())?;
-    note_by(book, day, rule, entries, marks, at, &first);
-    rotate(alloc, book, day, rule, entries, places, marks, at, &first)
+    marks.needed[at] = true;
+    rotate(
+        alloc,
+        book,
+        day,
+        rule,
+        entries,
+        places,
+        &marks.kept,
+        &mut marks.needed,
+        at,
+        set,
+    )
 }
 
-/// The same by a set of the book's codes.
+/// Notes that the entry at a place is needed, if a set of the book's codes meets all others that are kept.
 pub(crate) fn note_by(
     book: &Book,
     day: Day,
     rule: &Formula,
     entries: &[Entry],
-    marks: &mut Marks,
+    kept: &[bool],
+    needed: &mut Vec<bool>,
     at: usize,
     set: &CodeSet,
 )
     requires counted { length set.now ≡ length book.now.codes }
     requires rule { RuleFits (length book.now.codes) rule.now }
-    requires marked { AreMarked book.now day rule.now entries.now marks.old }
-    ensures marked { AreMarked book.now day rule.now entries.now marks.new }
+    requires needed { AreNeeded book.now day rule.now entries.now kept.now needed.old.items }
+    ensures needed { AreNeeded book.now day rule.now entries.now kept.now needed.new.items }
+    ensures more { AreMore needed.old.items needed.new.items }
 {
-    if at < marks.needed.len() && shows_need(book, day, rule, entries, &marks.kept, at, set) {
-        marks.needed[at] = true;
+    if at < needed.len() && shows_need(book, day, rule, entries, kept, at, set) {
+        needed[at] = true;
     }
 }
 
@@ -73,17 +92,4 @@ fn shows_need(
         }
     }
     rule.holds(set)
-}
-
-// So many codes of a set, the first ones.
-fn first_codes(alloc: Global, set: &CodeSet, codes: u32) -> Result<CodeSet, Memory>
-    ensures { IfOk result (λ first. length first ≡ codes) }
-{
-    let mut first = CodeSet::none(alloc, codes)?;
-    for code in 0..codes {
-        if code < set.len() && set.has(code) {
-            first.with(code);
-        }
-    }
-    Ok(first)
 }

@@ -1,7 +1,7 @@
 //! Rules that are codes and negations of codes joined by `/`: they are one clause, with no variable of their own.
-ghost use Rattle.std.specs.Prelude.{◌≡◌, IfOk, IfSome, OnOk, true};
+ghost use Rattle.std.specs.Prelude.{◌≡◌, IfOk, IfSome, None, OnOk, false, true};
 ghost use Rattle.clausify.specs.Items.{demand_item, rule_item};
-ghost use Rattle.blame.specs.Plain.{AddsPlain, IsLiteral, IsPlain, begun_literals};
+ghost use Rattle.blame.specs.Plain.{AddsPlain, IsLiteral, IsPlain, begun_literals, is_literal_rule, plain_rule};
 
 use book_model::Demand;
 use clause_pool::Lit;
@@ -10,7 +10,9 @@ use pb_base::{Formula, FormulaPart, Memory, Shape};
 use std::alloc::Global;
 
 /// Whether a constructibility rule demands such a rule.
-pub(crate) fn is_plain_demand(demand: &Demand) -> bool {
+pub(crate) fn is_plain_demand(demand: &Demand) -> bool
+    ensures { result ≡ plain_rule (demand_item demand.now).rule }
+{
     match demand {
         Demand::Rule { on: _, rule } => is_plain(rule),
         Demand::One(_) => false,
@@ -18,7 +20,9 @@ pub(crate) fn is_plain_demand(demand: &Demand) -> bool {
     }
 }
 
-fn is_plain(rule: &Formula) -> bool {
+fn is_plain(rule: &Formula) -> bool
+    ensures { result ≡ plain_rule rule.now }
+{
     let mut rest = rule.part();
     'sides: loop {
         match rest.shape() {
@@ -40,7 +44,8 @@ pub(crate) fn add_plain_demand(
     guard: u32,
     demand: &Demand,
 ) -> Result<(), Memory>
-    ensures { OnOk result (AddsPlain guard (demand_item demand.now) encoder.old encoder.new) }
+    ensures { let item = demand_item demand.now in
+        OnOk result (AddsPlain (plain_rule item.rule) guard item encoder.old encoder.new) }
 {
     match demand {
         Demand::Rule { on, rule } => add_plain_rule(alloc, encoder, guard, *on, rule),
@@ -56,7 +61,8 @@ fn add_plain_rule(
     on: Option<u32>,
     rule: &Formula,
 ) -> Result<(), Memory>
-    ensures { OnOk result (AddsPlain guard (rule_item on rule.now) encoder.old encoder.new) }
+    ensures { OnOk result
+        (AddsPlain (plain_rule rule.now) guard (rule_item on rule.now) encoder.old encoder.new) }
 {
     let mut lits = begun_literals(alloc, guard, on)?;
     if push_literals(&mut lits, rule)? {
@@ -99,7 +105,8 @@ fn begun_literals(alloc: Global, guard: u32, on: Option<u32>) -> Result<Vec<Lit>
 
 // Puts the literals of such a rule behind others, and tells whether it is such.
 fn push_literals(lits: &mut Vec<Lit>, rule: &Formula) -> Result<bool, Memory>
-    ensures { IfOk result (λ plain. plain ≡ true → IsPlain rule.now lits.old.items lits.new.items) }
+    ensures is { IfOk result (λ plain. plain ≡ plain_rule rule.now) }
+    ensures plain { IfOk result (λ plain. plain ≡ true → IsPlain rule.now lits.old.items lits.new.items) }
 {
     let mut rest = rule.part();
     'sides: loop {
@@ -117,7 +124,8 @@ fn push_literals(lits: &mut Vec<Lit>, rule: &Formula) -> Result<bool, Memory>
 }
 
 fn push_last(lits: &mut Vec<Lit>, rest: &FormulaPart<'_>) -> Result<bool, Memory>
-    ensures { IfOk result (λ plain. plain ≡ true → IsPlain rest.now lits.old.items lits.new.items) }
+    ensures is { IfOk result (λ plain. plain ≡ is_literal_rule rest.now) }
+    ensures plain { IfOk result (λ plain. plain ≡ true → IsPlain rest.now lits.old.items lits.new.items) }
 {
     match literal_of(rest) {
         Some(lit) => {
@@ -130,7 +138,8 @@ fn push_last(lits: &mut Vec<Lit>, rest: &FormulaPart<'_>) -> Result<bool, Memory
 
 // The literal of a code or of its negation.
 fn literal_of(rule: &FormulaPart<'_>) -> Option<Lit>
-    ensures { IfSome result (IsLiteral rule.now) }
+    ensures is { IfSome result (IsLiteral rule.now) }
+    ensures other { result ≡ None → is_literal_rule rule.now ≡ false }
 {
     match rule.shape() {
         Shape::Code(code) => Some(Lit::new(code, true)),

@@ -5,10 +5,9 @@
 //! code of one of them is changed too, and where that one misses two, a third code.
 ghost use Rattle.std.specs.Prelude.{◌≡◌, length};
 ghost use Rattle.book_model.specs.Book.{RuleFits};
-ghost use Rattle.blame.specs.Guarding.{AreMarked};
+ghost use Rattle.blame.specs.Guarding.{AreMore, AreNeeded};
 
 use crate::entries::Entry;
-use crate::marks::Marks;
 use crate::missed::Missed;
 use crate::noting::note_by;
 use crate::places::Places;
@@ -47,13 +46,15 @@ pub(crate) fn rotate(
     rule: &Formula,
     entries: &[Entry],
     places: &Places,
-    marks: &mut Marks,
+    kept: &[bool],
+    needed: &mut Vec<bool>,
     at: usize,
     set: &CodeSet,
 ) -> Result<(), Memory>
     requires rule { RuleFits (length book.now.codes) rule.now }
-    requires marked { AreMarked book.now day rule.now entries.now marks.old }
-    ensures marked { AreMarked book.now day rule.now entries.now marks.new }
+    requires needed { AreNeeded book.now day rule.now entries.now kept.now needed.old.items }
+    ensures needed { AreNeeded book.now day rule.now entries.now kept.now needed.new.items }
+    ensures more { AreMore needed.old.items needed.new.items }
 {
     let mut seen = vec![in alloc; false; entries.len()]?;
     is_first(&mut seen, at);
@@ -73,7 +74,8 @@ pub(crate) fn rotate(
                     rule,
                     entries,
                     places,
-                    marks,
+                    kept,
+                    needed,
                     one,
                     &mut seen,
                     &mut lacking,
@@ -93,14 +95,16 @@ fn rotate_once(
     rule: &Formula,
     entries: &[Entry],
     places: &Places,
-    marks: &mut Marks,
+    kept: &[bool],
+    needed: &mut Vec<bool>,
     one: Lacking,
     seen: &mut [bool],
     lacking: &mut Vec<Lacking>,
 ) -> Result<(), Memory>
     requires rule { RuleFits (length book.now.codes) rule.now }
-    requires marked { AreMarked book.now day rule.now entries.now marks.old }
-    ensures marked { AreMarked book.now day rule.now entries.now marks.new }
+    requires needed { AreNeeded book.now day rule.now entries.now kept.now needed.old.items }
+    ensures needed { AreNeeded book.now day rule.now entries.now kept.now needed.new.items }
+    ensures more { AreMore needed.old.items needed.new.items }
 {
     let Lacking { mut values, at } = one;
     let mut steps = Vec::new(alloc);
@@ -121,7 +125,8 @@ fn rotate_once(
                     rule,
                     entries,
                     places,
-                    marks,
+                    kept,
+                    needed,
                     &mut values,
                     &step,
                     &mut steps,
@@ -143,7 +148,8 @@ fn go_on(
     rule: &Formula,
     entries: &[Entry],
     places: &Places,
-    marks: &mut Marks,
+    kept: &[bool],
+    needed: &mut Vec<bool>,
     values: &mut [bool],
     step: &Step,
     steps: &mut Vec<Step>,
@@ -151,16 +157,18 @@ fn go_on(
     lacking: &mut Vec<Lacking>,
 ) -> Result<(), Memory>
     requires rule { RuleFits (length book.now.codes) rule.now }
-    requires marked { AreMarked book.now day rule.now entries.now marks.old }
-    ensures marked { AreMarked book.now day rule.now entries.now marks.new }
+    requires needed { AreNeeded book.now day rule.now entries.now kept.now needed.old.items }
+    ensures needed { AreNeeded book.now day rule.now entries.now kept.now needed.new.items }
+    ensures more { AreMore needed.old.items needed.new.items }
 {
     flip_all(values, step);
     let first = step.missed.first;
     change_each(
-        alloc, book, day, rule, entries, places, marks, values, step, first, steps, seen, lacking,
+        alloc, book, day, rule, entries, places, kept, needed, values, step, first, steps, seen,
+        lacking,
     )?;
     change_second(
-        alloc, book, day, rule, entries, places, marks, values, step, steps, seen, lacking,
+        alloc, book, day, rule, entries, places, kept, needed, values, step, steps, seen, lacking,
     )?;
     flip_all(values, step);
     Ok(())
@@ -180,7 +188,8 @@ fn change_second(
     rule: &Formula,
     entries: &[Entry],
     places: &Places,
-    marks: &mut Marks,
+    kept: &[bool],
+    needed: &mut Vec<bool>,
     values: &mut [bool],
     step: &Step,
     steps: &mut Vec<Step>,
@@ -188,15 +197,17 @@ fn change_second(
     lacking: &mut Vec<Lacking>,
 ) -> Result<(), Memory>
     requires rule { RuleFits (length book.now.codes) rule.now }
-    requires marked { AreMarked book.now day rule.now entries.now marks.old }
-    ensures marked { AreMarked book.now day rule.now entries.now marks.new }
+    requires needed { AreNeeded book.now day rule.now entries.now kept.now needed.old.items }
+    ensures needed { AreNeeded book.now day rule.now entries.now kept.now needed.new.items }
+    ensures more { AreMore needed.old.items needed.new.items }
 {
     let second = step.missed.second;
     if second == step.missed.first {
         return Ok(());
     }
     change_each(
-        alloc, book, day, rule, entries, places, marks, values, step, second, steps, seen, lacking,
+        alloc, book, day, rule, entries, places, kept, needed, values, step, second, steps, seen,
+        lacking,
     )
 }
 
@@ -208,7 +219,8 @@ fn change_each(
     rule: &Formula,
     entries: &[Entry],
     places: &Places,
-    marks: &mut Marks,
+    kept: &[bool],
+    needed: &mut Vec<bool>,
     values: &mut [bool],
     step: &Step,
     at: usize,
@@ -217,8 +229,9 @@ fn change_each(
     lacking: &mut Vec<Lacking>,
 ) -> Result<(), Memory>
     requires rule { RuleFits (length book.now.codes) rule.now }
-    requires marked { AreMarked book.now day rule.now entries.now marks.old }
-    ensures marked { AreMarked book.now day rule.now entries.now marks.new }
+    requires needed { AreNeeded book.now day rule.now entries.now kept.now needed.old.items }
+    ensures needed { AreNeeded book.now day rule.now entries.now kept.now needed.new.items }
+    ensures more { AreMore needed.old.items needed.new.items }
 {
     let codes = places.codes(at);
     if step.count > 0 && codes.len() > MOST_CHANGED {
@@ -226,8 +239,8 @@ fn change_each(
     }
     for code in codes {
         change_one(
-            alloc, book, day, rule, entries, places, marks, values, step, *code, steps, seen,
-            lacking,
+            alloc, book, day, rule, entries, places, kept, needed, values, step, *code, steps,
+            seen, lacking,
         )?;
     }
     Ok(())
@@ -240,7 +253,8 @@ fn change_one(
     rule: &Formula,
     entries: &[Entry],
     places: &Places,
-    marks: &mut Marks,
+    kept: &[bool],
+    needed: &mut Vec<bool>,
     values: &mut [bool],
     step: &Step,
     code: u32,
@@ -249,18 +263,18 @@ fn change_one(
     lacking: &mut Vec<Lacking>,
 ) -> Result<(), Memory>
     requires rule { RuleFits (length book.now.codes) rule.now }
-    requires marked { AreMarked book.now day rule.now entries.now marks.old }
-    ensures marked { AreMarked book.now day rule.now entries.now marks.new }
+    requires needed { AreNeeded book.now day rule.now entries.now kept.now needed.old.items }
+    ensures needed { AreNeeded book.now day rule.now entries.now kept.now needed.new.items }
+    ensures more { AreMore needed.old.items needed.new.items }
 {
     if is_changed(step, code) {
         return Ok(());
     }
     flip(values, code);
-    let missed = step
-        .missed
-        .after(book, values, entries, places, &marks.kept, code);
+    let missed = step.missed.after(book, values, entries, places, kept, code);
     go_with(
-        alloc, book, day, rule, entries, marks, values, step, code, missed, steps, seen, lacking,
+        alloc, book, day, rule, entries, kept, needed, values, step, code, missed, steps, seen,
+        lacking,
     )?;
     flip(values, code);
     Ok(())
@@ -273,7 +287,8 @@ fn go_with(
     day: Day,
     rule: &Formula,
     entries: &[Entry],
-    marks: &mut Marks,
+    kept: &[bool],
+    needed: &mut Vec<bool>,
     values: &[bool],
     step: &Step,
     code: u32,
@@ -283,13 +298,14 @@ fn go_with(
     lacking: &mut Vec<Lacking>,
 ) -> Result<(), Memory>
     requires rule { RuleFits (length book.now.codes) rule.now }
-    requires marked { AreMarked book.now day rule.now entries.now marks.old }
-    ensures marked { AreMarked book.now day rule.now entries.now marks.new }
+    requires needed { AreNeeded book.now day rule.now entries.now kept.now needed.old.items }
+    ensures needed { AreNeeded book.now day rule.now entries.now kept.now needed.new.items }
+    ensures more { AreMore needed.old.items needed.new.items }
 {
     if missed.count == 1 {
         let at = missed.first;
         return note_alone(
-            alloc, book, day, rule, entries, marks, values, at, seen, lacking,
+            alloc, book, day, rule, entries, kept, needed, values, at, seen, lacking,
         );
     }
     if missed.count == 2 {
@@ -323,18 +339,20 @@ fn note_alone(
     day: Day,
     rule: &Formula,
     entries: &[Entry],
-    marks: &mut Marks,
+    kept: &[bool],
+    needed: &mut Vec<bool>,
     values: &[bool],
     at: usize,
     seen: &mut [bool],
     lacking: &mut Vec<Lacking>,
 ) -> Result<(), Memory>
     requires rule { RuleFits (length book.now.codes) rule.now }
-    requires marked { AreMarked book.now day rule.now entries.now marks.old }
-    ensures marked { AreMarked book.now day rule.now entries.now marks.new }
+    requires needed { AreNeeded book.now day rule.now entries.now kept.now needed.old.items }
+    ensures needed { AreNeeded book.now day rule.now entries.now kept.now needed.new.items }
+    ensures more { AreMore needed.old.items needed.new.items }
 {
-    note_open(alloc, book, day, rule, entries, marks, values, at)?;
-    push_needed(alloc, marks, values, at, seen, lacking)
+    note_open(alloc, book, day, rule, entries, kept, needed, values, at)?;
+    push_needed(alloc, needed, values, at, seen, lacking)
 }
 
 // Notes that the entry at a place is needed, if the set shows it, where that isn't known.
@@ -344,32 +362,34 @@ fn note_open(
     day: Day,
     rule: &Formula,
     entries: &[Entry],
-    marks: &mut Marks,
+    kept: &[bool],
+    needed: &mut Vec<bool>,
     values: &[bool],
     at: usize,
 ) -> Result<(), Memory>
     requires rule { RuleFits (length book.now.codes) rule.now }
-    requires marked { AreMarked book.now day rule.now entries.now marks.old }
-    ensures marked { AreMarked book.now day rule.now entries.now marks.new }
+    requires needed { AreNeeded book.now day rule.now entries.now kept.now needed.old.items }
+    ensures needed { AreNeeded book.now day rule.now entries.now kept.now needed.new.items }
+    ensures more { AreMore needed.old.items needed.new.items }
 {
-    if marks.needed.get(at) != Some(&false) {
+    if needed.get(at) != Some(&false) {
         return Ok(());
     }
     let set = set_by(alloc, book, values)?;
-    note_by(book, day, rule, entries, marks, at, &set);
+    note_by(book, day, rule, entries, kept, needed, at, &set);
     Ok(())
 }
 
 // Puts a set behind the others, where the entry that it misses is needed and comes the first time.
 fn push_needed(
     alloc: Global,
-    marks: &Marks,
+    needed: &[bool],
     values: &[bool],
     at: usize,
     seen: &mut [bool],
     lacking: &mut Vec<Lacking>,
 ) -> Result<(), Memory> {
-    if marks.needed.get(at) == Some(&true) && is_first(seen, at) {
+    if needed.get(at) == Some(&true) && is_first(seen, at) {
         let values = Vec::from_slice(alloc, values)?;
         lacking.push(Lacking { values, at })?;
     }

@@ -7,7 +7,8 @@ ghost use Rattle.pb_base.specs.declared.limits.TheConstants.{MOST_BUDGET};
 ghost use Rattle.book_model.specs.Book.{RuleFits};
 ghost use Rattle.blame.specs.Entries.{EntryFits, Among};
 ghost use Rattle.blame.specs.Blame.{AreFew, IsNone, IsBlame};
-ghost use Rattle.blame.specs.Guarding.{AreMarked, IsGuarding};
+ghost use Rattle.blame.specs.Guards.{IsGuarding};
+ghost use Rattle.blame.specs.Guarding.{AreMarked};
 
 use crate::blamed::Blamed;
 use crate::entries::Entry;
@@ -38,7 +39,7 @@ pub(crate) fn shrink(
     requires none { IsNone book.now day rule.now first.items }
     requires some { 0 < budget }
     requires most { budget ≤ MOST_BUDGET }
-    ensures blame { IfOk result (λ m. IsBlame book.now day rule.now m.entries.items m.needed.items) }
+    ensures blame { IfOk result (λ m. IsBlame book.now day rule.now budget m.entries.items m.needed.items) }
     ensures among { IfOk result (λ m. Among first.items m.entries.items) }
 {
     let mut solver = guarded_solver(alloc, book, day, rule, &first)?;
@@ -61,7 +62,7 @@ pub(crate) fn shrink_hinted(
     requires some { 0 < budget }
     requires most { budget ≤ MOST_BUDGET }
     ensures blame { IfOk result (λ found. IfSome found
-        (λ m. IsBlame book.now day rule.now m.entries.items m.needed.items)) }
+        (λ m. IsBlame book.now day rule.now budget m.entries.items m.needed.items)) }
     ensures among { IfOk result (λ found. IfSome found (λ m. Among first.items m.entries.items)) }
 {
     let mut solver = guarded_solver(alloc, book, day, rule, &first)?;
@@ -84,7 +85,7 @@ fn shrink_hinted_by(
     requires some { 0 < budget }
     requires most { budget ≤ MOST_BUDGET }
     ensures blame { IfOk result (λ found. IfSome found
-        (λ m. IsBlame book.now day rule.now m.entries.items m.needed.items)) }
+        (λ m. IsBlame book.now day rule.now budget m.entries.items m.needed.items)) }
     ensures among { IfOk result (λ found. IfSome found (λ m. Among first.now m.entries.items)) }
 {
     let mut marks = untried(alloc, first.len())?;
@@ -116,7 +117,7 @@ fn shrink_by(
     requires guarding { IsGuarding book.now day rule.now first.now solver.old }
     requires some { 0 < budget }
     requires most { budget ≤ MOST_BUDGET }
-    ensures blame { IfOk result (λ m. IsBlame book.now day rule.now m.entries.items m.needed.items) }
+    ensures blame { IfOk result (λ m. IsBlame book.now day rule.now budget m.entries.items m.needed.items) }
     ensures among { IfOk result (λ m. Among first.now m.entries.items) }
 {
     let mut marks = untried(alloc, first.len())?;
@@ -141,10 +142,10 @@ fn shrink_on(
     requires few { AreFew first.now }
     requires rule { RuleFits (length book.now.codes) rule.now }
     requires guarding { IsGuarding book.now day rule.now first.now solver.old }
-    requires marked { AreMarked book.now day rule.now first.now marks.old }
+    requires marked { AreMarked book.now day rule.now first.now budget marks.old }
     requires some { 0 < budget }
     requires most { budget ≤ MOST_BUDGET }
-    ensures blame { IfOk result (λ m. IsBlame book.now day rule.now m.entries.items m.needed.items) }
+    ensures blame { IfOk result (λ m. IsBlame book.now day rule.now budget m.entries.items m.needed.items) }
     ensures among { IfOk result (λ m. Among first.now m.entries.items) }
 {
     let places = Places::of(alloc, book, first)?;
@@ -153,5 +154,11 @@ fn shrink_on(
             alloc, book, day, rule, budget, first, &places, solver, marks, *at,
         )?;
     }
-    blamed_by_marks(alloc, book, day, rule, first, marks)
+    // The order is a hint, and may lack some.
+    for at in 0..first.len() {
+        try_without(
+            alloc, book, day, rule, budget, first, &places, solver, marks, at,
+        )?;
+    }
+    blamed_by_marks(alloc, first, marks)
 }

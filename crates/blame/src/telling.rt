@@ -64,7 +64,7 @@ pub fn blame_near(
     requires rule { RuleFits (length book.now.codes) rule.now }
     requires some { 0 < budget }
     requires most { budget ≤ MOST_BUDGET }
-    ensures { IfOk result (λ found. IfSome found (AreBlamed book.now day chosen.now rule.now)) }
+    ensures { IfOk result (λ found. IfSome found (AreBlamed book.now day chosen.now rule.now budget)) }
 {
     let _codes = book.codes();
     let all = all_entries(alloc, book, day, chosen)?;
@@ -91,7 +91,7 @@ pub fn blame_by(
     requires rule { RuleFits (length book.now.codes) rule.now }
     requires some { 0 < budget }
     requires most { budget ≤ MOST_BUDGET }
-    ensures { IfOk result (λ found. IfSome found (AreBlamed book.now day chosen.now rule.now)) }
+    ensures { IfOk result (λ found. IfSome found (AreBlamed book.now day chosen.now rule.now budget)) }
 {
     let _codes = book.codes();
     let all = all_entries(alloc, book, day, chosen)?;
@@ -116,7 +116,7 @@ fn near_among(
     requires rule { RuleFits (length book.now.codes) rule.now }
     requires some { 0 < budget }
     requires most { budget ≤ MOST_BUDGET }
-    ensures { IfOk result (λ found. IfSome found (AreBlamed book.now day chosen.now rule.now)) }
+    ensures { IfOk result (λ found. IfSome found (AreBlamed book.now day chosen.now rule.now budget)) }
 {
     let near = near_entries(alloc, book, chosen, all)?;
     let count = near.len();
@@ -147,7 +147,7 @@ fn linked_among(
     requires rule { RuleFits (length book.now.codes) rule.now }
     requires some { 0 < budget }
     requires most { budget ≤ MOST_BUDGET }
-    ensures { IfOk result (λ found. IfSome found (AreBlamed book.now day chosen.now rule.now)) }
+    ensures { IfOk result (λ found. IfSome found (AreBlamed book.now day chosen.now rule.now budget)) }
 {
     let linked = linked_entries(alloc, book, chosen, all)?;
     if linked.len() <= near || linked.len() >= all.len() / 2 {
@@ -175,7 +175,7 @@ fn blame_some(
     requires rule { RuleFits (length book.now.codes) rule.now }
     requires some { 0 < budget }
     requires most { budget ≤ MOST_BUDGET }
-    ensures { IfOk result (λ found. IfSome found (AreBlamed book.now day chosen.now rule.now)) }
+    ensures { IfOk result (λ found. IfSome found (AreBlamed book.now day chosen.now rule.now budget)) }
 {
     if first.len() > MOST_GUARDED {
         return blame_many(alloc, book, day, chosen, rule, budget, all, first);
@@ -202,7 +202,7 @@ fn blame_many(
     requires rule { RuleFits (length book.now.codes) rule.now }
     requires some { 0 < budget }
     requires most { budget ≤ MOST_BUDGET }
-    ensures { IfOk result (λ found. IfSome found (AreBlamed book.now day chosen.now rule.now)) }
+    ensures { IfOk result (λ found. IfSome found (AreBlamed book.now day chosen.now rule.now budget)) }
 {
     let looked = look(alloc, book, day, rule, &first, budget)?;
     let Looked { outcome, marks } = looked;
@@ -263,7 +263,7 @@ fn blamed_of(
     requires none { IsNone book.now day rule.now entries.items }
     requires some { 0 < budget }
     requires most { budget ≤ MOST_BUDGET }
-    ensures blame { IfOk result (λ m. IsBlame book.now day rule.now m.entries.items m.needed.items) }
+    ensures blame { IfOk result (λ m. IsBlame book.now day rule.now budget m.entries.items m.needed.items) }
     ensures among { IfOk result (λ m. Among entries.items m.entries.items) }
 {
     let used = marked(alloc, &entries, marks)?;
@@ -291,7 +291,7 @@ fn blamed_again(
     requires none { IsNone book.now day rule.now entries.items }
     requires some { 0 < budget }
     requires most { budget ≤ MOST_BUDGET }
-    ensures blame { IfOk result (λ m. IsBlame book.now day rule.now m.entries.items m.needed.items) }
+    ensures blame { IfOk result (λ m. IsBlame book.now day rule.now budget m.entries.items m.needed.items) }
     ensures among { IfOk result (λ m. Among entries.items m.entries.items) }
 {
     let looked = look(alloc, book, day, rule, &used, budget)?;
@@ -322,7 +322,7 @@ fn shrink_marked(
     requires none { IsNone book.now day rule.now entries.items }
     requires some { 0 < budget }
     requires most { budget ≤ MOST_BUDGET }
-    ensures blame { IfOk result (λ m. IsBlame book.now day rule.now m.entries.items m.needed.items) }
+    ensures blame { IfOk result (λ m. IsBlame book.now day rule.now budget m.entries.items m.needed.items) }
     ensures among { IfOk result (λ m. Among entries.items m.entries.items) }
 {
     let some = marked(alloc, &entries, marks)?;

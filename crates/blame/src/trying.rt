@@ -7,7 +7,8 @@ ghost use Rattle.clause_pool.specs.Clause.{has as has_literal};
 ghost use Rattle.clause_pool.specs.Literal.{literal};
 ghost use Rattle.blame.specs.Entries.{EntryFits};
 ghost use Rattle.blame.specs.Blame.{AreFew};
-ghost use Rattle.blame.specs.Guarding.{AreFewer, AreGuards, AreMarked, AreNamed, AreStill, IsGuarding, IsUntried};
+ghost use Rattle.blame.specs.Guards.{AreAllGuards, IsGuarding};
+ghost use Rattle.blame.specs.Guarding.{AreFewer, AreFurtherOn, AreMarked, AreNamed, AreStill, IsMarkedAlso, IsSettled, IsUntried};
 
 use crate::deciding::search_guarded;
 use crate::entries::Entry;
@@ -15,13 +16,15 @@ use crate::marks::Marks;
 use crate::noting::note_need;
 use crate::places::Places;
 use book_model::Book;
-use clause_pool::{Lit, Ref};
+use clause_pool::{Lit, Pool, Ref};
 use pb_base::{Day, Formula, Memory};
 use solver::{Answer, Solver};
 use std::alloc::Global;
 
 /// Lets the entry at a place go, if no set meets the others that are kept together with the rule, and with it all that the search
-/// made no use of. If one does, the entry is needed. Nothing is tried where that is known.
+/// made no use of. If one does, the entry is needed. Where the search is left, that is noted. Nothing is tried where one of these is
+/// known.
+#[tactic(auto, using(crate::proofs::MarkLaws::settled_known, crate::proofs::MarkLaws::further_self))]
 pub(crate) fn try_without(
     alloc: Global,
     book: &Book,
@@ -37,25 +40,80 @@ pub(crate) fn try_without(
     requires few { AreFew entries.now }
     requires rule { RuleFits (length book.now.codes) rule.now }
     requires guarding { IsGuarding book.now day rule.now entries.now solver.old }
-    requires marked { AreMarked book.now day rule.now entries.now marks.old }
+    requires marked { AreMarked book.now day rule.now entries.now budget marks.old }
     requires some { 0 < budget }
     requires most { budget ≤ MOST_BUDGET }
     ensures guarding { IsGuarding book.now day rule.now entries.now solver.new }
-    ensures marked { OnOk result (AreMarked book.now day rule.now entries.now marks.new) }
+    ensures marked { OnOk result (AreMarked book.now day rule.now entries.now budget marks.new) }
+    ensures further { OnOk result (AreFurtherOn marks.old marks.new) }
+    ensures settled { OnOk result (IsSettled at marks.new) }
 {
     if !is_untried(marks, at) {
         return Ok(());
     }
+    try_untried(
+        alloc, book, day, rule, budget, entries, places, solver, marks, at,
+    )
+}
+
+// The same where none is known.
+fn try_untried(
+    alloc: Global,
+    book: &Book,
+    day: Day,
+    rule: &Formula,
+    budget: u32,
+    entries: &[Entry],
+    places: &Places,
+    solver: &mut Solver,
+    marks: &mut Marks,
+    at: usize,
+) -> Result<(), Memory>
+    requires few { AreFew entries.now }
+    requires rule { RuleFits (length book.now.codes) rule.now }
+    requires guarding { IsGuarding book.now day rule.now entries.now solver.old }
+    requires marked { AreMarked book.now day rule.now entries.now budget marks.old }
+    requires kept { has marks.old.kept.items at ≡ true }
+    requires some { 0 < budget }
+    requires most { budget ≤ MOST_BUDGET }
+    ensures guarding { IsGuarding book.now day rule.now entries.now solver.new }
+    ensures marked { OnOk result (AreMarked book.now day rule.now entries.now budget marks.new) }
+    ensures further { OnOk result (AreFurtherOn marks.old marks.new) }
+    ensures settled { OnOk result (IsSettled at marks.new) }
+{
     let codes = book.codes().len();
     let lits = guards_but(alloc, codes, &marks.kept, at)?;
     let answer = search_guarded(solver, &lits, budget)?;
     match answer {
-        Answer::Set(set) => note_need(alloc, book, day, rule, entries, places, marks, at, &set),
+        Answer::Set(set) => {
+            note_need(alloc, book, day, rule, entries, places, marks, at, &set)?;
+            Ok(())
+        }
         Answer::Closed(place) => {
             keep_used(alloc, codes, marks, solver, place, at)?;
             Ok(())
         }
-        Answer::Spent(_) => Ok(()),
+        Answer::Spent(learnt) => {
+            note_left(marks, at, learnt);
+            Ok(())
+        }
+    }
+}
+
+// A search without the entry at a place was left. What it learnt isn't told.
+fn note_left(marks: &mut Marks, at: usize, _learnt: Pool)
+    ensures kept { marks.new.kept ≡ marks.old.kept }
+    ensures needed { marks.new.needed ≡ marks.old.needed }
+    ensures left { IsMarkedAlso at marks.old.left.items marks.new.left.items }
+{
+    mark(&mut marks.left, at);
+}
+
+fn mark(marks: &mut Vec<bool>, at: usize)
+    ensures { IsMarkedAlso at marks.old.items marks.new.items }
+{
+    if at < marks.len() {
+        marks[at] = true;
     }
 }
 
@@ -78,7 +136,7 @@ pub(crate) fn try_all(
     requires most { budget ≤ MOST_BUDGET }
     ensures guarding { IsGuarding book.now day rule.now entries.now solver.new }
     ensures marked { IfOk result (λ found. IfSome found
-        (λ place. AreMarked book.now day rule.now entries.now marks.new)) }
+        (λ place. AreMarked book.now day rule.now entries.now budget marks.new)) }
 {
     let codes = book.codes().len();
     let count = entries.len();
@@ -94,20 +152,31 @@ pub(crate) fn try_all(
     }
 }
 
-fn is_untried(marks: &Marks, at: usize) -> bool {
-    marks.kept.get(at) == Some(&true) && marks.needed.get(at) == Some(&false)
+fn is_untried(marks: &Marks, at: usize) -> bool
+    ensures { result ≡ (has marks.now.kept.items at
+        && not (has marks.now.needed.items at) && not (has marks.now.left.items at)) }
+{
+    is_marked(&marks.kept, at) && !is_marked(&marks.needed, at) && !is_marked(&marks.left, at)
+}
+
+fn is_marked(marks: &[bool], at: usize) -> bool
+    ensures { result ≡ has marks.now at }
+{
+    marks.get(at) == Some(&true)
 }
 
 // The literals that the guards of the entries are there that are kept, but for that at a place, and that the others aren't. The last
 // comes first: so clauses that are learnt watch the guard that is assumed last.
 fn guards_but(alloc: Global, first: u32, kept: &[bool], but: usize) -> Result<Vec<Lit>, Memory>
     requires { first + length kept.now < 2 ^ 31 }
-    ensures { IfOk result (λ lits. AreGuards first kept.now but lits.items) }
+    ensures { IfOk result (λ lits. AreAllGuards first kept.now but lits.items) }
 {
     let mut lits = Vec::with_capacity(alloc, kept.len())?;
-    for place in (0..kept.len()).rev() {
-        let stays = stays(kept, but, place);
-        lits.push(Lit::new(first + place as u32, stays))?;
+    let mut left = kept.len();
+    while left > 0 {
+        left -= 1;
+        let stays = stays(kept, but, left);
+        lits.push(Lit::new(first + left as u32, stays))?;
     }
     Ok(lits)
 }
@@ -131,7 +200,8 @@ fn keep_used(
     but: usize,
 ) -> Result<(), Memory>
     requires { at < length solver.now.kernel.clauses }
-    ensures needed { marks.new.needed.items ≡ marks.old.needed.items }
+    ensures needed { marks.new.needed ≡ marks.old.needed }
+    ensures left { marks.new.left ≡ marks.old.left }
     ensures kept { AreFewer marks.old.kept.items marks.new.kept.items }
     ensures left_out { OnOk result (has marks.new.kept.items but ≡ false) }
     ensures used { let clause = slice_index_or solver.now.kernel.clauses at [] in

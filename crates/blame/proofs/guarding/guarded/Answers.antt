@@ -39,7 +39,7 @@ returns-clause-made c = record {
   first = c.rule_on.new.self;
   items =
       guarding_all c.args.book.now c.args.day c.codes.ensures.book c.args.entries.now c.args.rule.now c.loop-place.place c.loop-place.encoder c.rule_on.new.self
-      c.requires.rule c.loop-place.invariant c.in_ok-rule_on.ensures;
+      c.requires.rule (omega arith) c.loop-place.invariant c.in_ok-rule_on.ensures;
   second = c.add_plain_entries.new.encoder;
   further = c.in_ok-add_plain_entries.ensures;
   denied =

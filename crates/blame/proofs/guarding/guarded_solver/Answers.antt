@@ -16,3 +16,4 @@ pub returns : goal.returns
 returns c =
     guarding_by c.args.book.now c.args.day c.codes.ensures.book c.args.entries.now c.args.rule.now c.in_ok-encoder.encoder c.in_ok-solver.solver
     c.requires.fit c.requires.rule c.in_ok-encoder.ensures.truth c.in_ok-encoder.ensures.made c.in_ok-solver.ensures.clauses c.in_ok-solver.ensures.variables
+    (c.in_ok-solver.ensures.decides ∙ c.len-codes.ensures.value ∙ ap length c.codes.ensures.value)

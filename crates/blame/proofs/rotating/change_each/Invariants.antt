@@ -1,5 +1,5 @@
-use Rattle.blame.specs.Guarding.{AreMarked}
+use Rattle.blame.specs.Guarding.{AreMore, AreNeeded}
 use Rattle.blame.proofs.rotating.change_each.Given as goal
 
 abbrev pub invariant-loop-code : goal.invariant-loop-code
-invariant-loop-code l = AreMarked l.book l.day l.rule l.entries l.marks
+invariant-loop-code l = AreNeeded l.book l.day l.rule l.entries l.kept l.needed.items × AreMore l.initial.needed.items l.needed.items

@@ -16,7 +16,7 @@ blamed_of-requires-clause-few c = few_among c.args.all.now c.args.first.items c.
 
 pub returns-in_ok-blamed-in-NotShown : goal.returns-in_ok-blamed-in-NotShown
 returns-in_ok-blamed-in-NotShown c =
-    blamed_by c.args.book.now c.args.day c.args.rule.now c.args.chosen.now c.args.all.now c.args.first.items c.in_ok-blamed-in-NotShown.blamed
+    blamed_by c.args.book.now c.args.day c.args.rule.now c.args.budget c.args.chosen.now c.args.all.now c.args.first.items c.in_ok-blamed-in-NotShown.blamed
     c.requires.all c.requires.among c.in_ok-blamed-in-NotShown.ensures.among c.in_ok-blamed-in-NotShown.ensures.blame
 
 pub look-requires-clause-fit : goal.look-requires-clause-fit

@@ -9,5 +9,5 @@ shrink_hinted-requires-clause-few c = few_among c.args.all.now c.args.first.item
 
 pub returns : goal.returns
 returns c =
-    hinted_by c.args.book.now c.args.day c.args.rule.now c.args.chosen.now c.args.all.now c.args.first.items c.in_ok-found.found
+    hinted_by c.args.book.now c.args.day c.args.rule.now c.args.budget c.args.chosen.now c.args.all.now c.args.first.items c.in_ok-found.found
     c.requires.all c.requires.among c.in_ok-found.ensures.among c.in_ok-found.ensures.blame

@@ -20,5 +20,5 @@ returns-in-Left c =
 
 pub returns-in_ok-blamed-in-NotShown : goal.returns-in_ok-blamed-in-NotShown
 returns-in_ok-blamed-in-NotShown c =
-    blamed_by c.args.book.now c.args.day c.args.rule.now c.args.chosen.now c.args.all.items c.args.all.items c.in_ok-blamed-in-NotShown.blamed
+    blamed_by c.args.book.now c.args.day c.args.rule.now c.args.budget c.args.chosen.now c.args.all.items c.args.all.items c.in_ok-blamed-in-NotShown.blamed
     c.requires.all (among_self c.args.all.items) c.in_ok-blamed-in-NotShown.ensures.among c.in_ok-blamed-in-NotShown.ensures.blame
