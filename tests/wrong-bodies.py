@@ -30,7 +30,7 @@ WOULD = {
     "a_groups_pairs_without_their_guard": "codes of a group would be kept apart in searches that leave the group out",
     "told_with_no_second_search": "rules would be told as to blame by a hint alone, with no search over just these",
     "needed_where_the_search_was_left": "a rule would be told as needed though nothing was found without it",
-    "needed_where_none_was_tried": "a rule would be told as needed that was never tried to be left out",
+    "left_where_none_was_tried": "a rule that was never tried would be told as undecided",
     "codes_that_are_not_accepted": "an order would be told to be accepted with codes with which it isn't",
     "a_code_left_that_stays": "a code would be told to be left out that can stay",
     "no_order_where_a_search_was_left": "a day would be told to have no car though the search for one was given up",
