@@ -28,7 +28,7 @@ use Rattle.guarded_rules.proofs.GuardedLaws.{AllMeetGuarded, all_from_met, met_f
 use Rattle.guarded_rules.proofs.MadeLaws.{guarded_variables-append, guarded_item, guarded_plain, made_below, made_just}
 use Rattle.item_search.specs.Search.{CodesSets, IsRefused}
 use Rattle.item_search.proofs.SearchLaws.{refused_denied, core_refused}
-use Rattle.propagate.specs.Trail.{AreBelow as AreLiterals}
+use Rattle.propagate.specs.Trail.{AreLiterals}
 use Rattle.propagate.specs.Quiet.{IsConsistent}
 use Rattle.solver.specs.Answer.{Begins, IsCore}
 use Rattle.solver.specs.Solver.{Solving, Onwards}

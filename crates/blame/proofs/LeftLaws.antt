@@ -7,7 +7,7 @@ use Rattle.pb_base.specs.Sets.{has}
 use Rattle.book_model.specs.Contents.{Contents}
 use Rattle.chains.specs.Growth.{given_of}
 use Rattle.clause_pool.specs.Literal.{is_true}
-use Rattle.propagate.specs.Trail.{AreBelow as AreLiterals}
+use Rattle.propagate.specs.Trail.{AreLiterals}
 use Rattle.solver.specs.Answer.{Begins}
 use Rattle.solver.specs.Solver.{Solving}
 use Rattle.blame.specs.Blame.{IsMet, IsMetBy, IsBlame, AsksFor, IsLeftWithout}

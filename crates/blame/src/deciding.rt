@@ -3,7 +3,7 @@ ghost use Rattle.std.specs.Prelude.{◌≡◌, ◌*◌, ◌<◌, ◌≤◌, ℕ,
 ghost use Rattle.pb_base.specs.declared.limits.TheConstants.{MOST_BUDGET};
 ghost use Rattle.clause_pool.specs.Clause.{AreBelow};
 ghost use Rattle.chains.specs.Growth.{given_of};
-ghost use Rattle.propagate.specs.Trail.{AreBelow as AreLiterals};
+ghost use Rattle.propagate.specs.Trail.{AreLiterals};
 ghost use Rattle.propagate.specs.Quiet.{IsConsistent};
 ghost use Rattle.solver.specs.Solver.{IsRight};
 ghost use Rattle.blame.specs.Guards.{GuardedSets};

@@ -34,7 +34,6 @@ use Rattle.findings.specs.declared.report.Note.TheVariants.{Days, Finding, Undec
 use Rattle.findings.specs.declared.report.Verdict.{Verdict}
 use Rattle.findings.specs.declared.report.Verdict.TheVariants as verdicts
 use Rattle.findings.proofs.LeftLaws.{IsDayOf, slices_begin, report_none, report_decided, none_undecided}
-use Rattle.free_answers.specs.Answer.{chosen_of}
 use Rattle.item_search.specs.Search.{IsLeft, items_variables}
 use Rattle.left_cars.specs.Freedom.{IsFree, IsState}
 use Rattle.left_cars.specs.Left.{left_items}
@@ -51,6 +50,7 @@ use Rattle.parts_usage.specs.declared.judgement.Outcome.{Outcome}
 use Rattle.parts_usage.specs.declared.judgement.Outcome.TheVariants as outcomes
 use Rattle.pb_base.specs.InParts.{InParts}
 use Rattle.pb_base.specs.Results.{and_then, unless}
+use Rattle.pb_base.specs.Places.{places_of}
 use Rattle.pb_base.specs.Rule.{Rule, always}
 use Rattle.pb_base.specs.declared.limits.TheConstants.{MOST_TEXT_BYTES}
 use Rattle.pb_outside.specs.Files.{NamedBytes, FilesTold, content_of, within_room, ReadsFile}
@@ -362,13 +362,13 @@ by_freedom b day chosen budget (Codes states) ample is =
     (none_noted states.items ∙ none, states_decided (list_any is_undecided_state states.items) none)
 
 freedom_nothing : (b : Contents) (day : ℕ) (names : List (List ℕ)) (budget : ℕ) (reply : RunReply)
-    → 3 ^ items_variables (length b.codes) (left_items b day (chosen_of b.codes names)) < budget → IsFreeReply b day names budget reply → LeavesNothing reply
+    → 3 ^ items_variables (length b.codes) (left_items b day (places_of b.codes names)) < budget → IsFreeReply b day names budget reply → LeavesNothing reply
 freedom_nothing b day names budget reply ample h =
-    let all = by_freedom b day (chosen_of b.codes names) budget h.answer.freedom ample h.is_right.free in
+    let all = by_freedom b day (places_of b.codes names) budget h.answer.freedom ample h.is_right.free in
     same_reply (free_reply b h.answer) reply h.told (record { none = all.0; decided = all.1 })
 
 pub free_nothing : (book : Result Contents BookFault) (day : ℕ) (names : List (List ℕ)) (budget : ℕ) (reply : RunReply)
-    → IfOk book (λ b. 3 ^ items_variables (length b.codes) (left_items b day (chosen_of b.codes names)) < budget)
+    → IfOk book (λ b. 3 ^ items_variables (length b.codes) (left_items b day (places_of b.codes names)) < budget)
     → RepliesToFree book day names budget reply → LeavesNothing reply
 free_nothing (Ok b) day names budget reply ample h =
     unless_nothing (IsFreeReply b day names budget) (order_fault b day names) reply (freedom_nothing b day names budget reply ample) h

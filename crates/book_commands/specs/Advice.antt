@@ -6,12 +6,12 @@ use Rattle.book_model.specs.Activity.{is_within}
 use Rattle.book_model.specs.Contents.{Contents}
 use Rattle.command_words.specs.declared.task.BookCommand.{BookCommand}
 use Rattle.command_words.specs.declared.task.BookCommand.TheVariants.{Free, Why, Ask}
-use Rattle.free_answers.specs.Answer.{chosen_of}
 use Rattle.free_answers.specs.declared.answer.FreeAnswer.{FreeAnswer}
 use Rattle.left_laws.specs.Laws.{OrdersAreSo, OrdersMeet}
 use Rattle.order_repair.specs.Repair.{IsMended}
 use Rattle.order_repair.specs.declared.answer.WhyAnswer.{WhyAnswer}
 use Rattle.parts_usage.specs.Fault.{order_fault}
+use Rattle.pb_base.specs.Places.{places_of}
 use Rattle.pb_base.specs.Rule.{Rule}
 use Rattle.rule_text.specs.Reading.{rule_of}
 use Rattle.book_commands.specs.Ask.{told_reply}
@@ -23,7 +23,7 @@ use Rattle.book_commands.specs.Why.{why_reply}
 pub record TellsFree (b : Contents) (day : ℕ) (names : List (List ℕ)) (reply : RunReply) : Type 0 where
   pub answer : FreeAnswer
   pub told : reply ≡ free_reply b answer
-  pub orders : OrdersAreSo b day (chosen_of b.codes names) answer.freedom
+  pub orders : OrdersAreSo b day (places_of b.codes names) answer.freedom
 
 -- with what is told to leave and to add the order is accepted
 pub record TellsWhy (b : Contents) (day : ℕ) (reply : RunReply) : Type 0 where

@@ -19,12 +19,12 @@ use Rattle.book_model.specs.Contents.{Contents}
 use Rattle.book_text.specs.BookText.{book_of}
 use Rattle.chosen_parts.specs.Chosen.{ids_of_either}
 use Rattle.findings.specs.Left.{IsAmple}
-use Rattle.free_answers.specs.Answer.{chosen_of}
 use Rattle.item_search.specs.Search.{items_variables}
 use Rattle.kept_requirements.specs.Kept.{asked_rules}
 use Rattle.left_cars.specs.Left.{left_items}
 use Rattle.lost_cars.specs.CommonCar.{IsCommonRule}
 use Rattle.lost_cars.specs.Losses.{lost_rule, questions as loss_questions}
+use Rattle.pb_base.specs.Places.{places_of}
 use Rattle.pb_base.specs.Rule.{Rule, always}
 use Rattle.pb_outside.specs.Files.{NamedBytes, content_of}
 use Rattle.requirements.specs.Requirements.{requirements_of}
@@ -71,7 +71,7 @@ pub record IsAmpleForBoth (budget : ℕ) (AreDecided : Contents → Contents →
 
 abbrev pub IsAmpleBeside : ℕ → ℕ → List (List ℕ) → List ℕ → Type 0
 IsAmpleBeside budget day names text =
-    IfOk (book_of text) (λ b. 3 ^ items_variables (length b.codes) (left_items b day (chosen_of b.codes names)) < budget)
+    IfOk (book_of text) (λ b. 3 ^ items_variables (length b.codes) (left_items b day (places_of b.codes names)) < budget)
 
 -- the search for a car that has the codes and meets the rule is over so many variables
 abbrev pub met_variables : Contents → ℕ → List ℕ → Rule → ℕ

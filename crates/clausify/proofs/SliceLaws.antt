@@ -3,19 +3,19 @@ use Rattle.std.proofs.Common.{◌≡◌, ℕ, ◌+◌, ◌<◌, Bool, true, List
 use Rattle.pb_base.specs.Rule.{Rule}
 use Rattle.book_model.specs.Contents.{Contents}
 use Rattle.book_model.specs.Book.{IsBook}
-use Rattle.book_model.specs.Good.{is_constructible, is_good}
+use Rattle.book_model.specs.Good.{is_good}
 use Rattle.clause_pool.specs.Clause.{Sat}
-use Rattle.clausify.specs.Items.{construct_items, rule_items, usage_items, items, variables_of, usage_item}
+use Rattle.clausify.specs.Items.{rule_items, usage_items, items, variables_of, usage_item}
 use Rattle.clausify.specs.Choices.{Choice, choices}
-use Rattle.clausify.specs.Goals.{all_usages, goals_variables, goals_clauses, codes_asked_from}
-use Rattle.clausify.specs.Coded.{usages_start, goals_start, numbered_choices, core_clauses, construct_clauses, construct_variables, slice_clauses, slice_variables, slice_asked}
-use Rattle.clausify.specs.Lifting.{BeginsWith, GoalsTrue, UsagesTrue, CodesJust, CodesGoodSets}
+use Rattle.clausify.specs.Goals.{goals_variables, goals_clauses, codes_asked_from}
+use Rattle.clausify.specs.Coded.{usages_start, goals_start, numbered_choices, core_clauses, slice_clauses, slice_variables, slice_asked}
+use Rattle.clausify.specs.Lifting.{BeginsWith, GoalsTrue, CodesGoodSets}
 use Rattle.clausify.proofs.ListLaws.{all-append, all_first, all_last}
 use Rattle.clausify.proofs.Truth.{true_positive}
 use Rattle.clausify.proofs.FormulaLaws.{Names, Begins, names-append, names_first, names_last}
-use Rattle.clausify.proofs.ItemLaws.{AllFit, AllMeet, items_named, items_named-append, length-items_named, rule_items_fit, construct_items_fit, good_from_meets, meets_from_good, constructible_from_meets, meets_from_constructible, length_from_good}
-use Rattle.clausify.proofs.GoalLaws.{UsagesFit, usages_fit, all_usage_items_fit, right_from_choices, choices_named, length-choices_named, sat_from_choices, names_from_choices, choices_active, choices_goals, codes_goals}
-use Rattle.clausify.proofs.LiftLaws.{lifted, IsLiftedOver, lift_items, IsOver, items_over, items_code, alone_named}
+use Rattle.clausify.proofs.ItemLaws.{AllFit, AllMeet, items_named, items_named-append, length-items_named, rule_items_fit, good_from_meets, meets_from_good, length_from_good}
+use Rattle.clausify.proofs.GoalLaws.{UsagesFit, usages_fit, all_usage_items_fit, choices_named, length-choices_named, sat_from_choices, names_from_choices, choices_active, choices_goals, codes_goals}
+use Rattle.clausify.proofs.LiftLaws.{lifted, IsLiftedOver, lift_items, IsOver, items_over, alone_named}
 
 -- what all further variables stand for
 abbrev slice_named : Contents → ℕ → List Rule
@@ -69,23 +69,6 @@ good_over b day x len met = good_from_meets b day x len (all_first _ (rule_items
 
 meets_good : (b : Contents) (day : ℕ) (x : List Bool) → is_good b day x ≡ true → AllMeet x (items b day)
 meets_good b day x good = all-append _ (rule_items b day) _ (meets_from_good b day x good) (usages_met b x (choices b day))
-
-pub core_codes : (b : Contents) (day : ℕ) → IsBook b → CodesJust (length b.codes) (is_good b day) (core_clauses b day) (goals_start b day)
-core_codes b day book =
-    items_code (length b.codes) (items b day) (is_good b day) (whole b day book).fit (λ x len good. meets_good b day x good) (λ x len met. good_over b day x len met)
-
-pub core_usages : (b : Contents) (day : ℕ) → IsBook b → (x : List Bool) (a : ℕ → Bool) → length x ≡ length b.codes → BeginsWith x a → Sat (core_clauses b day) a
-    → UsagesTrue b x a (all_usages b (length b.codes) (usages_start b day) (choices b day))
-core_usages b day book x a len begins sat =
-    let w = whole b day book in
-    let over = over_core b day w x a len begins sat in
-    right_from_choices b w.usages x a over.begins (usages_start b day) (choices b day) (usage_names b day x a over.names)
-
--- those of the constructibility rules alone
-pub constructs_code : (b : Contents) (day : ℕ) → IsBook b → CodesJust (length b.codes) (is_constructible b day) (construct_clauses b day) (construct_variables b day)
-constructs_code b day book =
-    items_code (length b.codes) (construct_items b day) (is_constructible b day) (construct_items_fit b day book.constructs_fit)
-    (λ x len pass. meets_from_constructible b day x pass) (λ x len met. constructible_from_meets b day x met)
 
 -- the goals
 goals_sat : (b : Contents) (day : ℕ) → Whole b day → (x : List Bool) (a : ℕ → Bool) → Begins (length b.codes) (length b.codes) x a → Names a x (length b.codes + 1) (slice_named b day) → Sat (goals_clauses (numbered_choices b day)) a

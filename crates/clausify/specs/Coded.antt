@@ -23,13 +23,11 @@ numbered_at b day w = numbered_from b (length b.codes) (usages_start b day) w (c
 abbrev pub numbered_choices : Contents → ℕ → List NumberedChoice
 numbered_choices b day = numbered_at b day (goals_start b day)
 
--- the clauses of the rules and usages, and of the constructibility rules alone
+-- the clauses of the rules and usages
 abbrev pub core_clauses : Contents → ℕ → List (List ℕ)
 core_clauses b day = encoded_items (length b.codes) (length b.codes + 1) (items b day)
 
-abbrev pub construct_clauses : Contents → ℕ → List (List ℕ)
-construct_clauses b day = encoded_items (length b.codes) (length b.codes + 1) (construct_items b day)
-
+-- how many variables the constructibility rules alone have, with the codes and the variable that is always true
 abbrev pub construct_variables : Contents → ℕ → ℕ
 construct_variables b day = length b.codes + 1 + variables_of (construct_items b day)
 

@@ -18,7 +18,7 @@ use Rattle.clausify.specs.declared.question.Question.TheVariants.{Necessary, Ina
 use Rattle.clausify.proofs.ItemLaws.{or_nothing}
 use Rattle.clausify.proofs.RangeLaws.{positive_below, negative_below, complement_below}
 use Rattle.clausify.proofs.Truth.{true_positive, true_negative}
-use Rattle.propagate.specs.Trail.{AreBelow}
+use Rattle.propagate.specs.Trail.{AreLiterals}
 use Rattle.propagate.specs.Quiet.{IsConsistent}
 use Rattle.slice_hints.proofs.UsageLaws.{any_of_kept, none_used}
 use Rattle.solver.specs.Answer.{IsCore}
@@ -50,7 +50,7 @@ assumes_usage b cs vars day v l h = record {
   right = λ x a len begins sat. and_true (is_true a l) ∙ h.right x a len begins sat;
 }
 
-two_below : (l k n : ℕ) → l < n → k < n → AreBelow (l ∷ k ∷ []) n
+two_below : (l k n : ℕ) → l < n → k < n → AreLiterals (l ∷ k ∷ []) n
 two_below l k n low other j is_in = elim (or_cases (eqb l j) (has (k ∷ []) j) is_in) [
   | inl same ↦ subst (λ (i : ℕ). i < n) (eqb-true l j same) low
   | inr later ↦ one_below k n other j later
@@ -96,7 +96,7 @@ none_passed b cs vars day v vs ls inactive h = record {
       ∙ or_nothing (list_any (is_used b day x) vs)));
 }
 
-more_below : (ls : List ℕ) (c n : ℕ) → AreBelow ls n → c < n → AreBelow (ls ++ c ∷ []) n
+more_below : (ls : List ℕ) (c n : ℕ) → AreLiterals ls n → c < n → AreLiterals (ls ++ c ∷ []) n
 more_below ls c n all low l is_in = elim (or_cases (has ls l) (has (c ∷ []) l) (sym (has-append ls (c ∷ []) l) ∙ is_in)) [
   | inl before ↦ all l before
   | inr here ↦ one_below c n low l here

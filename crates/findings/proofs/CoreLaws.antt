@@ -30,7 +30,7 @@ use Rattle.clausify.proofs.ItemLaws.{length_from_good}
 use Rattle.clausify.proofs.SteadyLaws.{goal_same}
 use Rattle.clausify.proofs.Truth.{true_positive, true_negative}
 use Rattle.propagate.specs.Quiet.{IsConsistent}
-use Rattle.propagate.specs.Trail.{AreBelow}
+use Rattle.propagate.specs.Trail.{AreLiterals}
 use Rattle.slice_hints.specs.Found.{IsFound, KnowsUsages}
 use Rattle.slice_hints.specs.declared.found.Found.{Found}
 use Rattle.solver.specs.Answer.{Begins, IsCore}
@@ -117,7 +117,7 @@ literal_under : (v n : ℕ) (t : Bool) → v < n → literal v t < 2 * n
 literal_under v n true low = omega (arith, low)
 literal_under v n false low = omega (arith, low)
 
-periods_below : (v n day : ℕ) (ps : List Slice) → v + length ps ≤ n → AreBelow (literals_on v ps day) (2 * n)
+periods_below : (v n day : ℕ) (ps : List Slice) → v + length ps ≤ n → AreLiterals (literals_on v ps day) (2 * n)
 periods_below v n day [] low l is_in_list = absurd (false≢true is_in_list)
 periods_below v n day (p ∷ ps) low l is_in_list =
     elim (or_cases (eqb (literal v (is_in day p)) l) (has (literals_on (v + 1) ps day) l) is_in_list) [
@@ -125,7 +125,7 @@ periods_below v n day (p ∷ ps) low l is_in_list =
       | inr later ↦ periods_below (v + 1) n day ps (omega (arith, low)) l later
     ]
 
-both_below : (ls ks : List ℕ) (n : ℕ) → AreBelow ls n → AreBelow ks n → AreBelow (ls ++ ks) n
+both_below : (ls ks : List ℕ) (n : ℕ) → AreLiterals ls n → AreLiterals ks n → AreLiterals (ls ++ ks) n
 both_below ls ks n first last l is_in_list = elim (or_cases (has ls l) (has ks l) (sym (has-append ls ks l) ∙ is_in_list)) [
   | inl here ↦ first l here
   | inr there ↦ last l there

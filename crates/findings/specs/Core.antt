@@ -28,7 +28,7 @@ use Rattle.clausify.specs.Lifting.{BeginsWith}
 use Rattle.clausify.specs.Questions.{HasSet, choice_questions, code_questions_from, goal, is_to_close}
 use Rattle.clausify.specs.declared.question.Asked.{Asked}
 use Rattle.clausify.specs.declared.question.Question.{Question}
-use Rattle.propagate.specs.Trail.{AreBelow}
+use Rattle.propagate.specs.Trail.{AreLiterals}
 use Rattle.slice_hints.specs.Found.{IsFound}
 use Rattle.slice_hints.specs.declared.found.Found.{Found}
 use Rattle.solver.specs.Answer.{Begins}
@@ -49,13 +49,13 @@ abbrev pub all_true : (ℕ → Bool) → List ℕ → Bool
 all_true a ls = list_all (is_true a) ls
 
 pub record Assumes (b : Contents) (cs : List (List ℕ)) (vars day : ℕ) (q : Question) (ls : List ℕ) : Type 0 where
-  pub below : AreBelow ls (2 * vars)
+  pub below : AreLiterals ls (2 * vars)
   pub right : (x : List Bool) (a : ℕ → Bool) → length x ≡ length b.codes → BeginsWith x a → Sat cs a
       → all_true a ls ≡ holds (goal b day q) x
 
 -- the literals are true together just where the formula of none of these variants that are active is true
 pub record AssumesNone (b : Contents) (cs : List (List ℕ)) (vars day : ℕ) (variants ls : List ℕ) : Type 0 where
-  pub below : AreBelow ls (2 * vars)
+  pub below : AreLiterals ls (2 * vars)
   pub right : (x : List Bool) (a : ℕ → Bool) → length x ≡ length b.codes → BeginsWith x a → Sat cs a
       → all_true a ls ≡ not (list_any (λ v. is_active_variant b day v && holds (usage b v) x) variants)
 
@@ -77,7 +77,7 @@ pub record IsCoreTask (b : Contents) (task : SliceTask) : Type 0 where
 
 -- where nothing satisfies the clauses and makes the literals true the question has no set, and what does both begins with one
 pub record Asks (b : Contents) (s : Slice) (q : Question) (cs : List (List ℕ)) (vars : ℕ) (ls : List ℕ) : Type 0 where
-  pub below : AreBelow ls (2 * vars)
+  pub below : AreLiterals ls (2 * vars)
   pub none : ((a : ℕ → Bool) → Sat cs a → all_true a ls ≡ true → ⊥) → HasSet b s q → ⊥
   pub meets : (x : List Bool) → Begins cs ls (length b.codes) x → MeetsThrough b s q x
 

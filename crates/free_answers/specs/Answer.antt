@@ -1,11 +1,8 @@
 -- What an order comes to, and what can be chosen beside its codes.
---     chosen_of codes names           the places of the codes that the names name
 --     completed_of b day names        the completed set of the codes that they name
 --     IsAnswer b day names budget a   the order has no fault, and the answer is right
 use Rattle.std.specs.Prelude.{◌≡◌, ℕ, Bool, List, None}
-use Rattle.std.specs.List.{flat_map}
-use Rattle.std.specs.Option.{option_to_list}
-use Rattle.pb_base.specs.Names.{place_in}
+use Rattle.pb_base.specs.Places.{places_of}
 use Rattle.pb_base.specs.NamedSet.{named}
 use Rattle.book_model.specs.Contents.{Contents}
 use Rattle.supplement.specs.Completion.{completion_of}
@@ -15,9 +12,6 @@ use Rattle.left_cars.specs.Freedom.{IsFree}
 use Rattle.left_laws.specs.Laws.{OrdersAreSo}
 use Rattle.free_answers.specs.declared.answer.FreeAnswer.{FreeAnswer}
 
-abbrev pub chosen_of : List (List ℕ) → List (List ℕ) → List ℕ
-chosen_of codes names = flat_map (λ name. option_to_list (place_in codes name)) names
-
 abbrev pub completed_of : Contents → ℕ → List (List ℕ) → List Bool
 completed_of b day names = (completion_of b day (named b.codes names)).set
 
@@ -25,6 +19,6 @@ pub record IsAnswer (b : Contents) (day : ℕ) (names : List (List ℕ)) (budget
   pub faultless : order_fault b day names ≡ None
   pub outcome : a.outcome ≡ outcome_of_set b day (completed_of b day names)
   pub completed : a.completed ≡ completed_of b day names
-  pub free : IsFree b day (chosen_of b.codes names) budget a.freedom
+  pub free : IsFree b day (places_of b.codes names) budget a.freedom
   -- and so it is with the accepted orders that name these codes
-  pub orders : OrdersAreSo b day (chosen_of b.codes names) a.freedom
+  pub orders : OrdersAreSo b day (places_of b.codes names) a.freedom

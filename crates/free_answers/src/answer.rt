@@ -8,7 +8,6 @@ ghost use Rattle.parts_usage.specs.Fault.{order_fault};
 ghost use Rattle.parts_usage.specs.Outcome.{outcome_of_set};
 ghost use Rattle.free_answers.specs.Answer.{IsAnswer, completed_of};
 
-use crate::chosen::chosen_of;
 use book_model::Book;
 use left_cars::{Freedom, free_codes};
 use left_laws::left_laws;
@@ -61,7 +60,7 @@ fn beside(
     ensures { IfOk result (IsAnswer book.now day names.now budget) }
 {
     let completed = completed_set(alloc, book, day, names)?;
-    let chosen = chosen_of(alloc, book.codes(), names)?;
+    let chosen = book.codes().places_of(alloc, names)?;
     let freedom = free_codes(alloc, book, day, &chosen, budget)?;
     orders_of(book, day, names, &chosen, budget, &freedom);
     Ok(FreeAnswer {

@@ -2,7 +2,6 @@
 #![tactic(auto)]
 
 mod answer;
-mod chosen;
 mod lines;
 mod text;
 

@@ -10,7 +10,7 @@ use Rattle.clause_pool.specs.Clause.{has, Follows}
 use Rattle.clause_pool.specs.Derivation.{Derivation, AllFollow}
 use Rattle.clause_pool.proofs.ClauseLaws.{TrueLiteral, true_literal, all_found}
 use Rattle.clause_pool.proofs.LiteralLaws.{even_or_odd, is_true-even, is_true-odd, is_true-complement, complement-complement}
-use Rattle.propagate.specs.Trail.{AreBelow as AreLiterals}
+use Rattle.propagate.specs.Trail.{AreLiterals}
 use Rattle.propagate.specs.Quiet.{IsConsistent}
 use Rattle.clausify.specs.Items.{Item, encoded_items}
 use Rattle.clausify.specs.Lifting.{IsExtended, CodesJust}
@@ -19,7 +19,7 @@ use Rattle.clausify.proofs.Truth.{true_positive, true_negative}
 use Rattle.solver.specs.Answer.{Begins, IsCore, IsSpent}
 use Rattle.solver.specs.Solver.{Solving, Onwards}
 use Rattle.solver.proofs.OneLaws.{in_one, one_below}
-use Rattle.item_search.specs.Search.{items_variables, CodesSets, IsOver, CodesItems, AreTrue, IsFound, NoneFound, IsRefused, denied_literals, IsAnswered, IsOutcome}
+use Rattle.item_search.specs.Search.{items_variables, CodesSets, IsOver, CodesItems, AreTrue, IsFound, NoneFound, IsRefused, IsAnswered, IsOutcome}
 use Rattle.item_search.specs.declared.outcome.Outcome.{Outcome}
 use Rattle.item_search.specs.declared.outcome.Outcome.TheVariants as outcome
 
@@ -80,7 +80,11 @@ module _ (n : ℕ) (test : List Bool → Bool) (s : Solving) (codes : CodesSets 
         true≢false (sym against ∙ is_true-complement a t.literal ∙ ap not t.holds);
   }
 
--- the literals that the clause denies are enough
+-- those of the literals that the clause at a place denies
+abbrev pub denied_literals : Derivation → ℕ → List ℕ → List ℕ
+denied_literals k at lits = filter (λ l. has (slice_index_or k.clauses at []) (complement l)) lits
+
+-- they are enough
 has-filter : (w : ℕ → Bool) (lits : List ℕ) (l : ℕ) → w l ≡ true → has lits l ≡ true → has (filter w lits) l ≡ true
 has-filter w [] l kept is_in = is_in
 has-filter w (x ∷ lits) l kept is_in =

@@ -11,13 +11,11 @@
 --     AreDenied c lits       each literal of a clause is the complement of one of these
 --     IsRefused n test k lits at
 --                            none does, by the clause at a place of a kernel, nor with any other literals that deny this clause
---     denied_literals k at lits
---                            those of the literals that the clause at a place denies
 --     IsAnswered n test s lits budget outcome
 --                            what comes of a solver's search for such a set
 --     IsOutcome n is test lits budget outcome
 --                            the same over the clauses of items
-use Rattle.std.specs.Prelude.{◌≡◌, ℕ, ◌+◌, ◌≤◌, Bool, true, List, [], Some, length, filter, slice_get, slice_index_or}
+use Rattle.std.specs.Prelude.{◌≡◌, ℕ, ◌+◌, ◌≤◌, Bool, true, List, Some, length, slice_get}
 use Rattle.pb_base.specs.Sets.{has as has_code}
 use Rattle.chains.specs.Growth.{given_of}
 use Rattle.clause_pool.specs.Literal.{complement, is_true}
@@ -76,9 +74,6 @@ pub record IsRefused (n : ℕ) (test : List Bool → Bool) (k : Derivation) (lit
   pub there : slice_get k.clauses at ≡ Some clause
   pub denied : AreDenied clause lits
   pub none : (some : List ℕ) → AreDenied clause some → NoneFound n test some
-
-abbrev pub denied_literals : Derivation → ℕ → List ℕ → List ℕ
-denied_literals k at lits = filter (λ l. has (slice_index_or k.clauses at []) (complement l)) lits
 
 abbrev pub IsAnswered : ℕ → (List Bool → Bool) → Solving → List ℕ → ℕ → Outcome → Type 0
 IsAnswered n test s lits budget (Shown x) = IsFound n test lits x

@@ -1,10 +1,8 @@
 //! Searches for sets of codes by a solver, over the clauses of items and over others.
 #![tactic(auto)]
 
-mod denials;
 mod outcome;
 mod searching;
 
-pub use denials::denied;
 pub use outcome::Outcome;
 pub use searching::{search, solver_over};

@@ -2,7 +2,7 @@
 ghost use Rattle.std.specs.Prelude.{◌≡◌, ◌*◌, ◌<◌, ◌≤◌, ℕ, Bool, List, IfOk};
 ghost use Rattle.pb_base.specs.declared.limits.TheConstants.{MOST_BUDGET};
 ghost use Rattle.clause_pool.specs.Clause.{AreBelow};
-ghost use Rattle.propagate.specs.Trail.{AreBelow as AreLiterals};
+ghost use Rattle.propagate.specs.Trail.{AreLiterals};
 ghost use Rattle.propagate.specs.Quiet.{IsConsistent};
 ghost use Rattle.solver.specs.Solver.{IsRight, Onwards};
 ghost use Rattle.clausify.specs.Items.{Item};

@@ -3,7 +3,7 @@ ghost use Rattle.std.specs.Prelude.{◌≡◌, ◌*◌, ◌<◌, ◌≤◌, ◌�
 ghost use Rattle.pb_base.specs.declared.limits.TheConstants.{MOST_BUDGET};
 ghost use Rattle.clause_pool.specs.Literal.{literal};
 ghost use Rattle.propagate.specs.Quiet.{IsConsistent};
-ghost use Rattle.propagate.specs.Trail.{AreBelow as AreLiterals};
+ghost use Rattle.propagate.specs.Trail.{AreLiterals};
 ghost use Rattle.item_search.specs.Search.{IsOver, IsOutcome};
 ghost use Rattle.left_cars.specs.Freedom.{HasStates, IsFree, IsState};
 ghost use Rattle.left_cars.specs.Left.{is_chosen, is_left, left_items, AreChosen, IsShown};

@@ -14,6 +14,7 @@ use Rattle.pb_base.specs.Sets.{has}
 use Rattle.pb_base.specs.declared.named_set.NameFault.{NameFault}
 use Rattle.pb_base.specs.declared.named_set.NameFault.TheVariants.{Unknown, Repeated}
 use Rattle.pb_base.proofs.NamedSets.{named_by_more, has-named, code_at_place}
+use Rattle.pb_base.specs.Places.{name_at, names_at, places_of}
 use Rattle.pb_base.proofs.TablePlaces.{place_where_it_stands}
 use Rattle.book_model.specs.Activity.{is_within}
 use Rattle.book_model.specs.Contents.{Contents}
@@ -27,7 +28,6 @@ use Rattle.supplement.specs.Completion.{completion_of}
 use Rattle.order_added.specs.Accepted.{is_acceptance, is_accepted}
 use Rattle.order_added.specs.Added.{Among, IsAdded}
 use Rattle.order_added.specs.Judging.{Judging, is_new, with_codes, passes_set, passes_with, IsFew}
-use Rattle.order_added.specs.Places.{name_at, names_at, places_of}
 use Rattle.order_added.proofs.AcceptLaws.{accepted_when, by_all, length-ordered, passes_named}
 use Rattle.order_added.proofs.PassLaws.{among_map}
 

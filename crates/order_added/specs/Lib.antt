@@ -1,5 +1,4 @@
 pub mod Accepted
 pub mod Added
 pub mod Judging
-pub mod Places
 pub mod Settled

@@ -11,10 +11,8 @@ ghost use Rattle.parts_usage.specs.Ordered.{ordered_of};
 ghost use Rattle.order_added.specs.Accepted.{is_accepted};
 ghost use Rattle.order_added.specs.Added.{IsAdded, Among};
 ghost use Rattle.order_added.specs.Judging.{passes_with, AreNeeded, IsFew, IsPassed, IsStep};
-ghost use Rattle.order_added.specs.Places.{names_at};
 
 use crate::judge::Judge;
-use crate::places::{names_at, places_of};
 use crate::runs::take_runs_out;
 use book_model::Book;
 use parts_usage::faultless_set;
@@ -80,9 +78,9 @@ fn add_by(
 {
     let codes = book.codes();
     codes.names_law();
-    let places = places_of(alloc, codes, others)?;
+    let places = codes.places_of(alloc, others)?;
     let few = few_accepted(alloc, judge, places)?;
-    names_at(alloc, codes, &few)
+    codes.names_at(alloc, &few)
 }
 
 // Of codes with which the order passes those that it needs. Few are found by the rules alone.

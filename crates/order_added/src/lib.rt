@@ -4,7 +4,6 @@
 mod adding;
 mod demanding;
 mod judge;
-mod places;
 mod runs;
 mod settled;
 

@@ -18,7 +18,9 @@ use Rattle.pb_base.specs.declared.limits.TheConstants.{MOST_CODES}
 use Rattle.pb_base.specs.declared.named_set.NameFault.{NameFault}
 use Rattle.pb_base.specs.declared.named_set.NameFault.TheVariants.{Repeated, Unknown}
 use Rattle.pb_base.proofs.Faultless.{no_fault}
+use Rattle.pb_base.specs.Places.{name_at, names_at, places_of}
 use Rattle.pb_base.proofs.NamedSets.{code_at_place}
+use Rattle.pb_base.proofs.PlacesLaws.{places_within}
 use Rattle.book_model.specs.Activity.{is_within}
 use Rattle.book_model.specs.Book.{IsBook}
 use Rattle.book_model.specs.Contents.{Contents}
@@ -42,7 +44,7 @@ use Rattle.blame.proofs.ListLaws.{all_among}
 use Rattle.order_added.specs.Accepted.{is_acceptance, is_accepted}
 use Rattle.order_stays.specs.Stays.{IsCarWith}
 use Rattle.order_repair.specs.Ordered.{AreOrdered}
-use Rattle.order_repair.specs.Places.{chosen_of, is_kept, name_at, names_at, others_of}
+use Rattle.order_repair.specs.Places.{is_kept, others_of}
 use Rattle.order_repair.proofs.PlaceLaws.{all_known, all_other, AreDistinct, AreWithin, both_distinct, DiffersFrom, distinct_at, has_at, has_others, IsOther, others_among, others_distinct}
 
 -- ---- what an order without a fault names
@@ -67,13 +69,13 @@ fresh codes left name h = go (is_none (place_in codes name)) (list_any (same_nam
 
 -- a name that stands to the left has a place that none of the names has
 apart_from : (codes left : List (List ℕ)) (names : List (List ℕ)) (name : List ℕ) (p : ℕ) → list_any (same_name name) left ≡ true → slice_get codes p ≡ Some name
-    → first_fault codes left names ≡ None → AllByRecursion (DiffersFrom p) (chosen_of codes names)
+    → first_fault codes left names ≡ None → AllByRecursion (DiffersFrom p) (places_of codes names)
 apart_from codes left [] name p there at none = tt
 apart_from codes left (next ∷ names) name p there at none =
     let parts = no_or (name_fault codes left next) (first_fault codes (left ++ next ∷ []) names) none in
     let still : list_any (same_name name) (left ++ next ∷ []) ≡ true =
     list_any-append (same_name name) left (next ∷ []) ∙ ap (λ (t : Bool). t || list_any (same_name name) (next ∷ [])) there in
-    all-append (DiffersFrom p) (option_to_list (place_in codes next)) (chosen_of codes names) (by (place_in codes next) refl (fresh codes left next parts.0))
+    all-append (DiffersFrom p) (option_to_list (place_in codes next)) (places_of codes names) (by (place_in codes next) refl (fresh codes left next parts.0))
     (apart_from codes (left ++ next ∷ []) names name p still at parts.1)
   where
     by : (place : Option ℕ) → place_in codes next ≡ place → list_any (same_name next) left ≡ false → AllByRecursion (DiffersFrom p) (option_to_list place)
@@ -87,15 +89,15 @@ apart_from codes left (next ∷ names) name p there at none =
       tt,
     )
 
-chosen_apart : (codes left names : List (List ℕ)) → first_fault codes left names ≡ None → AreDistinct (chosen_of codes names)
+chosen_apart : (codes left names : List (List ℕ)) → first_fault codes left names ≡ None → AreDistinct (places_of codes names)
 unfolding IsDistinct
 chosen_apart codes left [] none = tt
 chosen_apart codes left (next ∷ names) none =
     let parts = no_or (name_fault codes left next) (first_fault codes (left ++ next ∷ []) names) none in
     by (place_in codes next) refl (chosen_apart codes (left ++ next ∷ []) names parts.1) parts.1
   where
-    by : (place : Option ℕ) → place_in codes next ≡ place → AreDistinct (chosen_of codes names) → first_fault codes (left ++ next ∷ []) names ≡ None
-        → AreDistinct (option_to_list place ++ chosen_of codes names)
+    by : (place : Option ℕ) → place_in codes next ≡ place → AreDistinct (places_of codes names) → first_fault codes (left ++ next ∷ []) names ≡ None
+        → AreDistinct (option_to_list place ++ places_of codes names)
     by None is rest later = rest
     by (Some p) is rest later =
         let itself : list_any (same_name next) (left ++ next ∷ []) ≡ true =
@@ -103,22 +105,13 @@ chosen_apart codes left (next ∷ names) none =
         ∙ or-true (list_any (same_name next) left) in
         (apart_from codes (left ++ next ∷ []) names next p itself (code_at_place codes next p is) later, rest)
 
-places_within : (codes : List (List ℕ)) (name : List ℕ) (rest : List ℕ) (place : Option ℕ) → place_in codes name ≡ place → AreWithin codes rest
-    → AreWithin codes (option_to_list place ++ rest)
-places_within codes name rest None is later = later
-places_within codes name rest (Some p) is later = (slice_get_within codes p name (code_at_place codes name p is), later)
-
-chosen_within : (codes names : List (List ℕ)) → AreWithin codes (chosen_of codes names)
-chosen_within codes [] = tt
-chosen_within codes (name ∷ names) = places_within codes name (chosen_of codes names) (place_in codes name) refl (chosen_within codes names)
-
 -- its codes may be ordered together
-pub chosen_ordered : (b : Contents) (day : ℕ) (names : List (List ℕ)) → order_fault b day names ≡ None → AreOrdered b day (chosen_of b.codes names)
+pub chosen_ordered : (b : Contents) (day : ℕ) (names : List (List ℕ)) → order_fault b day names ≡ None → AreOrdered b day (places_of b.codes names)
 chosen_ordered b day names none =
     let parts = within_term (is_within b.first b.last day) (first_fault b.codes [] names) none in
     record {
       in_term = parts.0;
-      within = All-from_recursion (λ (place : ℕ). place < length b.codes) (chosen_of b.codes names) (chosen_within b.codes names);
+      within = places_within b.codes names;
       distinct = chosen_apart b.codes [] names parts.1;
     }
 

@@ -6,12 +6,13 @@ use Rattle.std.proofs.lemmas.Bool.{cases_Bool, eqb-true, eq-eqb, false_from_ne_t
 use Rattle.std.proofs.lemmas.Option.{slice_get-get_or}
 use Rattle.pb_base.specs.Names.{same_name}
 use Rattle.pb_base.specs.NamedSet.{named}
+use Rattle.pb_base.specs.Places.{name_at, names_at}
 use Rattle.pb_base.specs.Sets.{has}
 use Rattle.pb_base.proofs.Faultless.{same_self}
 use Rattle.pb_base.proofs.NamedSets.{has-named}
 use Rattle.blame.specs.Entries.{Among}
 use Rattle.clausify.proofs.ListLaws.{all-append}
-use Rattle.order_repair.specs.Places.{is_kept, name_at, names_at, others_from}
+use Rattle.order_repair.specs.Places.{is_kept, others_from}
 
 -- ---- numbers
 

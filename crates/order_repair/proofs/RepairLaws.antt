@@ -4,6 +4,7 @@ use Rattle.std.specs.List.{list_all, list_any, AllByRecursion}
 use Rattle.std.proofs.lemmas.Bool.{and_parts, eq-eqb}
 use Rattle.std.proofs.lemmas.List.Folds.{list_all-append}
 use Rattle.std.proofs.Math.Bool.{or-true}
+use Rattle.pb_base.specs.Places.{names_at}
 use Rattle.pb_base.specs.Rule.{Rule}
 use Rattle.pb_base.specs.Sets.{has}
 use Rattle.book_model.specs.Contents.{Contents}
@@ -18,7 +19,6 @@ use Rattle.parts_usage.specs.Outcome.{outcome_of}
 use Rattle.parts_usage.specs.declared.fault.OrderFault.{OrderFault}
 use Rattle.parts_usage.specs.declared.judgement.Outcome.{Outcome}
 use Rattle.parts_usage.specs.declared.judgement.Outcome.TheVariants.{Accepted, Refused, Unfit as UnfitOutcome}
-use Rattle.order_repair.specs.Places.{names_at}
 use Rattle.order_repair.specs.Repair.{accepts, IsAddition}
 
 -- a car that has the codes, by an answer to a question of TRUE

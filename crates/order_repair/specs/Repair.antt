@@ -7,6 +7,7 @@
 --     IsAnswer b day names budget a      what is added to the order, what it comes to, and how it would be accepted
 use Rattle.std.specs.Prelude.{◌≡◌, ℕ, Bool, true, false, List, [], ◌++◌, None, Some, Ok, IfSome}
 use Rattle.pb_base.specs.NamedSet.{named}
+use Rattle.pb_base.specs.Places.{names_at, places_of}
 use Rattle.pb_base.specs.Rule.{always}
 use Rattle.book_model.specs.Contents.{Contents}
 use Rattle.book_model.specs.Good.{is_good}
@@ -24,7 +25,7 @@ use Rattle.blame.specs.declared.blamed.Blamed.{Blamed}
 use Rattle.order_added.specs.Accepted.{is_accepted}
 use Rattle.order_added.specs.Added.{IsAdded}
 use Rattle.order_stays.specs.Stays.{IsCarWith, IsLeftWith, IsStay}
-use Rattle.order_repair.specs.Places.{chosen_of, left_out, names_at}
+use Rattle.order_repair.specs.Places.{left_out}
 use Rattle.order_repair.specs.declared.answer.Change.{Change}
 use Rattle.order_repair.specs.declared.answer.Change.TheVariants.{Add, Unfit}
 use Rattle.order_repair.specs.declared.answer.Kept.{Kept}
@@ -89,5 +90,5 @@ pub record IsAnswer (b : Contents) (day : ℕ) (names : List (List ℕ)) (budget
   pub faultless : order_fault b day names ≡ None
   pub added : a.added ≡ (completion_of b day (named b.codes names)).added
   pub outcome : outcome_of b day names ≡ Ok a.outcome
-  pub repair : IsRepair b day (chosen_of b.codes names) budget (accepts a.outcome) a.repair
+  pub repair : IsRepair b day (places_of b.codes names) budget (accepts a.outcome) a.repair
   pub mends : IsMended b day a.repair

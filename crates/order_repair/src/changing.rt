@@ -1,14 +1,14 @@
 //! What is changed beside the codes that are kept.
 ghost use Rattle.std.specs.Prelude.{◌≡◌, IfOk, None, Some};
+ghost use Rattle.pb_base.specs.Places.{names_at};
 ghost use Rattle.parts_usage.specs.Unfit.{first_unfit_of};
 ghost use Rattle.order_stays.specs.Stays.{IsCarWith};
 ghost use Rattle.order_added.specs.Accepted.{is_accepted};
-ghost use Rattle.order_repair.specs.Places.{names_at};
 ghost use Rattle.order_repair.specs.Ordered.{AreOrdered};
 ghost use Rattle.order_repair.specs.Repair.{IsChange, accepts};
 
 use crate::answer::Change;
-use crate::places::{names_at, others_of};
+use crate::places::others_of;
 use book_model::Book;
 use order_added::add;
 use parts_usage::{Outcome, Unfit, first_unfit, outcome};
@@ -27,7 +27,7 @@ pub(crate) fn change_of(
     requires car { IsCarWith book.now day kept.now car }
     ensures { IfOk result (IsChange book.now day kept.now) }
 {
-    let names = names_at(alloc, book.codes(), kept)?;
+    let names = book.codes().names_at(alloc, kept)?;
     match first_unfit(book, day, &car) {
         None => addition(alloc, book, day, kept, &names, &car),
         Some(unfit) => unless_accepted(alloc, book, day, kept, &names, car, unfit),
@@ -51,7 +51,7 @@ fn addition(
 {
     book.codes().names_law();
     let places = others_of(alloc, car, kept)?;
-    let others = names_at(alloc, book.codes(), &places)?;
+    let others = book.codes().names_at(alloc, &places)?;
     let added = add(alloc, book, day, names, others)?;
     Ok(Change::Add(added))
 }

@@ -11,7 +11,6 @@ ghost use Rattle.order_repair.specs.Repair.{IsAnswer, IsMended, IsRepair, accept
 
 use crate::answer::{Repair, WhyAnswer};
 use crate::keeping::repair;
-use crate::places::chosen_of;
 use book_model::Book;
 use parts_usage::{OrderFault, Outcome, faultless_set, outcome};
 use pb_base::{CodeName, Day, Fail, Memory};
@@ -54,7 +53,7 @@ fn answer_of(
     ensures { IfOk result (IsAnswer book.now day names.now budget) }
 {
     let added = added_by(alloc, book, day, names)?;
-    let chosen = chosen_of(alloc, book.codes(), names)?;
+    let chosen = book.codes().places_of(alloc, names)?;
     let repair = repair_of(alloc, book, day, &chosen, budget, &judged)?;
     mends(book, day, names, &chosen, budget, &judged, &repair);
     Ok(WhyAnswer {

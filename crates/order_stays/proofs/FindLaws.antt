@@ -19,7 +19,7 @@ use Rattle.clausify.proofs.ItemLaws.{AllFit, good_from_meets, meets_from_good, l
 use Rattle.clausify.proofs.LiftLaws.{items_code}
 use Rattle.clausify.proofs.RangeLaws.{positive_below}
 use Rattle.clausify.proofs.Truth.{true_positive}
-use Rattle.propagate.specs.Trail.{AreBelow as AreLiterals}
+use Rattle.propagate.specs.Trail.{AreLiterals}
 use Rattle.propagate.specs.Quiet.{IsConsistent}
 use Rattle.item_search.specs.Search.{IsEncoded, CodesItems, AreTrue, IsFound, NoneFound}
 use Rattle.item_search.proofs.EncodedLaws.{encoded_none, encoded_then}

@@ -10,3 +10,4 @@ pub mod PartLaws
 mod PaddingLemmas
 mod TableLemmas
 pub mod TablePlaces
+pub mod PlacesLaws

@@ -11,3 +11,4 @@ pub mod Table
 pub mod NamedSet
 pub mod Digits
 pub mod InParts
+pub mod Places

@@ -15,6 +15,7 @@ mod names;
 mod node;
 mod padded;
 mod part;
+mod places;
 mod sequence;
 mod table;
 mod text;

@@ -6,7 +6,7 @@ use Rattle.std.specs.Prelude.{◌≡◌, ℕ, ◌+◌, ◌*◌, ◌/◌, ◌<◌
 use Rattle.std.specs.List.{IsDistinct}
 use Rattle.clause_pool.specs.Literal.{complement}
 use Rattle.clause_pool.specs.Clause.{has}
-use Rattle.propagate.specs.Trail.{AreBelow, AreRising}
+use Rattle.propagate.specs.Trail.{AreLiterals, AreRising}
 use Rattle.propagate.specs.declared.assignment.Truth.{Truth}
 use Rattle.propagate.specs.declared.assignment.Truth.TheVariants.{Open, Holds, Fails}
 
@@ -22,7 +22,7 @@ end_of a n = slice_index_or a.starts n (length a.lits)
 
 -- each literal of the clause is one of a variable
 abbrev pub AreLiteralsOf : Assigned → List ℕ → Type 0
-AreLiteralsOf a c = AreBelow c (a.vars + a.vars)
+AreLiteralsOf a c = AreLiterals c (a.vars + a.vars)
 
 -- each variable stands at most once, and the levels begin one after the other
 pub record IsAssigned (a : Assigned) : Type 0 where

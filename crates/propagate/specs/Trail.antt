@@ -2,7 +2,7 @@
 --     Trail                 what a contract sees of an engine
 --     end_of t n            where the literals of the levels up to n end
 --     upto t n              the literals of the levels up to n
---     AreBelow c n          each literal of the clause is below n
+--     AreLiterals c n          each literal of the clause is below n
 --     IsTrail t             what a trail keeps
 use Rattle.std.specs.Prelude.{◌≡◌, ℕ, ◌*◌, ◌/◌, ◌<◌, ◌≤◌, true, List, [], Option, Some, None, length, map, nat_eq, take, slice_index, slice_index_or}
 use Rattle.std.specs.List.{IsDistinct}
@@ -46,8 +46,8 @@ abbrev pub AllFalse : List ℕ → List ℕ → Type 0
 AllFalse lits c = (l : ℕ) → has c l ≡ true → IsFalse lits l
 
 -- each literal of the clause is below n
-abbrev pub AreBelow : List ℕ → ℕ → Type 0
-AreBelow c n = (l : ℕ) → has c l ≡ true → l < n
+abbrev pub AreLiterals : List ℕ → ℕ → Type 0
+AreLiterals c n = (l : ℕ) → has c l ≡ true → l < n
 
 -- the variable is nowhere among the literals
 abbrev pub IsAbsent : List ℕ → ℕ → Type 0

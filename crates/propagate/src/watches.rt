@@ -1,6 +1,6 @@
 //! The clauses with what each watches.
 ghost use Rattle.std.specs.Prelude.{◌≡◌, ◌^◌, ◌<◌, All, [], ℕ, length, IfOk, OnOk, OnErr};
-ghost use Rattle.propagate.specs.Trail.{AreBelow};
+ghost use Rattle.propagate.specs.Trail.{AreLiterals};
 ghost use Rattle.propagate.specs.Watching.{IsWatching, EntryFits, IsPairIn, AreApart, IsOneOf, Shifted};
 ghost use Rattle.propagate.specs.Watching.{Watches, IsListed, IsEntryAt, HasAt, clause_at, pair_of, no_pair, list_of};
 ghost use Rattle.propagate.specs.Attaching.{Attached};
@@ -93,7 +93,7 @@ impl WatchedClauses {
     pub(crate) fn codes(&self, clause: u32) -> &[u32]
         requires { clause < length self.now.clauses }
         ensures codes { result.now ≡ clause_at self.now.clauses clause }
-        ensures below { AreBelow result.now (length self.now.lists) }
+        ensures below { AreLiterals result.now (length self.now.lists) }
     {
         self.store.codes(clause)
     }
@@ -115,7 +115,7 @@ impl WatchedClauses {
 
     /// A further clause, which has no entries. On want of memory nothing changes.
     pub(crate) fn push_plain(&mut self, lits: &[Lit]) -> Result<(), Memory>
-        requires below { AreBelow lits.now (length self.old.lists) }
+        requires below { AreLiterals lits.now (length self.old.lists) }
         requires small { All (λ l. l < 2 ^ 32) lits.now }
         ensures attached { OnOk result (Attached self.old self.new lits.now no_pair) }
         ensures err { OnErr result (self.new ≡ self.old) }
@@ -132,7 +132,7 @@ impl WatchedClauses {
 
     /// A further clause, which watches these two of its literals. On want of memory nothing changes.
     pub(crate) fn push_pair(&mut self, lits: &[Lit], pair: Watched) -> Result<(), Memory>
-        requires below { AreBelow lits.now (length self.old.lists) }
+        requires below { AreLiterals lits.now (length self.old.lists) }
         requires small { All (λ l. l < 2 ^ 32) lits.now }
         requires pair { IsPairIn lits.now pair }
         requires place { length self.old.clauses < 2 ^ 32 }

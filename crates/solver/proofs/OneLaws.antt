@@ -6,7 +6,7 @@ use Rattle.clause_pool.specs.Clause.{has}
 use Rattle.clause_pool.specs.Derivation.{Derivation}
 use Rattle.clause_pool.proofs.LiteralLaws.{complement-complement, complement-other}
 use Rattle.chains.specs.Growth.{ClosedAt}
-use Rattle.propagate.specs.Trail.{AreBelow}
+use Rattle.propagate.specs.Trail.{AreLiterals}
 use Rattle.propagate.specs.Quiet.{IsConsistent}
 use Rattle.solver.specs.Answer.{Begins, IsCore}
 
@@ -16,7 +16,7 @@ in_one g = or_left (eqb g g) false (eq-eqb g g refl)
 is_one : (g l : ℕ) → has (g ∷ []) l ≡ true → g ≡ l
 is_one g l is_in = elim (or_cases (eqb g l) false is_in) [ inl same ↦ eqb-true g l same | inr none ↦ absurd (false≢true none) ]
 
-pub one_below : (g n : ℕ) → g < n → AreBelow (g ∷ []) n
+pub one_below : (g n : ℕ) → g < n → AreLiterals (g ∷ []) n
 one_below g n low l is_in = subst (λ (k : ℕ). k < n) (is_one g l is_in) low
 
 pub one_consistent : (g : ℕ) → IsConsistent (g ∷ [])

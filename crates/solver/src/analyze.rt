@@ -3,7 +3,7 @@ ghost use Rattle.std.specs.Prelude.{◌≡◌, ℕ, ◌+◌, ◌*◌, ◌-◌, �
 ghost use Rattle.clause_pool.specs.Literal.{complement};
 ghost use Rattle.clause_pool.specs.Clause.{KeepsBounds};
 ghost use Rattle.clause_pool.specs.Marks.{marked};
-ghost use Rattle.propagate.specs.Trail.{IsTrail, AreBelow, level};
+ghost use Rattle.propagate.specs.Trail.{IsTrail, AreLiterals, level};
 ghost use Rattle.solver.specs.Marks.{IsChain, IsTop, IsUip, NoneMarked, AreFalse, AreClear, false_at, start_of};
 ghost use Rattle.solver.specs.Search.{IsReady, IsKept, IsLearning, IsAppended, IsLesson};
 ghost use Rattle.chains.specs.Growth.{Extends};
@@ -100,7 +100,7 @@ pub(crate) fn append(
 // Begins the way with the literals of a clause that is false.
 fn begin_lesson(engine: &Engine, way: &mut Way, order: &mut Order, lits: &[Lit])
     requires level { 0 < level engine.now }
-    requires below { AreBelow lits.now (2 * engine.now.vars) }
+    requires below { AreLiterals lits.now (2 * engine.now.vars) }
 {
     let start = engine.end_of(engine.level() - 1);
     let fixed = engine.end_of(0);

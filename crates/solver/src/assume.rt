@@ -3,7 +3,7 @@ ghost use Rattle.std.specs.Prelude.{◌≡◌, ℕ, ◌*◌, ◌<◌, ◌≤◌,
 ghost use Rattle.clause_pool.specs.Literal.{complement};
 ghost use Rattle.clause_pool.specs.Clause.{has};
 ghost use Rattle.propagate.specs.Quiet.{Quiet, IsConsistent};
-ghost use Rattle.propagate.specs.Trail.{AreBelow, level};
+ghost use Rattle.propagate.specs.Trail.{AreLiterals, level};
 ghost use Rattle.solver.specs.Answer.{AreHeld};
 ghost use Rattle.solver.specs.Search.{IsSettled, IsAssumed, AreOpened, IsClosing};
 
@@ -108,7 +108,7 @@ pub(crate) fn assume_each(
     assumptions: &[Lit],
 ) -> Result<Option<Ref>, Memory>
     requires attached { pool.now.clauses ≡ engine.old.clauses }
-    requires below { AreBelow assumptions.now (2 * engine.old.vars) }
+    requires below { AreLiterals assumptions.now (2 * engine.old.vars) }
     requires consistent { IsConsistent assumptions.now }
     requires settled { IsSettled engine.old }
     requires opened { AreOpened assumptions.now engine.old }
@@ -141,7 +141,7 @@ pub(crate) fn hold(
     depth: &mut u32,
 ) -> Result<Option<Ref>, Memory>
     requires attached { pool.now.clauses ≡ engine.old.clauses }
-    requires below { AreBelow assumptions.now (2 * engine.old.vars) }
+    requires below { AreLiterals assumptions.now (2 * engine.old.vars) }
     requires consistent { IsConsistent assumptions.now }
     requires settled { IsSettled engine.old }
     requires assumed { IsAssumed assumptions.now depth.old engine.old }

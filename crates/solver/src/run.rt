@@ -1,7 +1,7 @@
 //! The search for an answer to one question.
 ghost use Rattle.std.specs.Prelude.{◌≡◌, ℕ, List, ◌+◌, ◌*◌, ◌<◌, ◌≤◌, [], length, slice_index_or, IfOk, OnOk, Ok};
 ghost use Rattle.propagate.specs.Quiet.{IsConsistent};
-ghost use Rattle.propagate.specs.Trail.{AreBelow, level};
+ghost use Rattle.propagate.specs.Trail.{AreLiterals, level};
 ghost use Rattle.solver.specs.Answer.{AreHeld, IsCore, IsNew};
 ghost use Rattle.solver.specs.Ending.{IsFound};
 ghost use Rattle.solver.specs.Marks.{AreClear};
@@ -49,7 +49,7 @@ fn find(
     depth: &mut u32,
 ) -> Result<Found, Memory>
     requires attached { pool.now.clauses ≡ engine.old.clauses }
-    requires below { AreBelow assumptions.now (2 * engine.old.vars) }
+    requires below { AreLiterals assumptions.now (2 * engine.old.vars) }
     requires consistent { IsConsistent assumptions.now }
     requires settled { IsSettled engine.old }
     requires assumed { IsAssumed assumptions.now depth.old engine.old }
@@ -112,7 +112,7 @@ pub(crate) fn run(
     requires ready { IsReady kernel.old.clauses engine.old resolution.old.marks.items }
     requires settled { IsSettled engine.old }
     requires assumed { IsAssumed assumptions.now 1 engine.old }
-    requires below { AreBelow assumptions.now (2 * engine.old.vars) }
+    requires below { AreLiterals assumptions.now (2 * engine.old.vars) }
     requires consistent { IsConsistent assumptions.now }
     ensures extends { Extends kernel.old kernel.new }
     ensures kept { IsKept kernel.new.clauses engine.new resolution.new.marks.items }

@@ -3,7 +3,7 @@ ghost use Rattle.std.specs.Prelude.{◌≡◌, ℕ, List, ◌+◌, ◌*◌, ◌<
 ghost use Rattle.clause_pool.specs.Clause.{has, AreBelow};
 ghost use Rattle.chains.specs.Growth.{given_of};
 ghost use Rattle.pb_base.specs.Sets.{has as has_code};
-ghost use Rattle.propagate.specs.Trail.{IsTrail, AreBelow as AreLiterals, level};
+ghost use Rattle.propagate.specs.Trail.{IsTrail, AreLiterals, level};
 ghost use Rattle.propagate.specs.Quiet.{IsConsistent};
 ghost use Rattle.solver.specs.Answer.{AreHeld, Begins, IsSpent};
 ghost use Rattle.solver.specs.Marks.{AreClear};

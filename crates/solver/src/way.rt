@@ -2,7 +2,7 @@
 ghost use Rattle.std.specs.Prelude.{◌≡◌, ℕ, ◌+◌, ◌*◌, ◌<◌, length, IfSome, OnSome, true};
 ghost use Rattle.std.specs.BinaryHeap.{heap_len};
 ghost use Rattle.clause_pool.specs.Clause.{has};
-ghost use Rattle.propagate.specs.Trail.{AreBelow};
+ghost use Rattle.propagate.specs.Trail.{AreLiterals};
 ghost use Rattle.solver.specs.Marks.{IsResolvable};
 
 use crate::conflict::Resolvable;
@@ -52,7 +52,7 @@ impl Way {
         lits: &[Lit],
         span: Span,
     )
-        requires { AreBelow lits.now (2 * engine.now.vars) }
+        requires { AreLiterals lits.now (2 * engine.now.vars) }
     {
         self.ahead.clear();
         self.fixed.clear();
@@ -64,7 +64,7 @@ impl Way {
     /// room for isn't found by the way.
     #[tactic(auto, using(propagate::proofs::TakeLaws::item_in))]
     pub(crate) fn look_ahead(&mut self, engine: &Engine, marks: &[bool], lits: &[Lit], end: usize)
-        requires { AreBelow lits.now (2 * engine.now.vars) }
+        requires { AreLiterals lits.now (2 * engine.now.vars) }
     {
         for lit in lits {
             if lit.is_marked(marks) {
@@ -90,7 +90,7 @@ impl Way {
         lits: &[Lit],
         span: Span,
     )
-        requires { AreBelow lits.now (2 * engine.now.vars) }
+        requires { AreLiterals lits.now (2 * engine.now.vars) }
     {
         for lit in lits {
             order.bump(*lit);

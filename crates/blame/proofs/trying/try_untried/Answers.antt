@@ -1,7 +1,7 @@
 use Rattle.std.proofs.Common.{Bool, List, ℕ, ◌+◌, ◌*◌, ◌<◌, ◌≤◌, length, sym, ap, subst, ◌∙◌, arith}
 use Rattle.std.proofs.lemmas.Option.{slice_get_within}
 use Rattle.item_search.specs.Search.{IsRefused}
-use Rattle.propagate.specs.Trail.{AreBelow as AreLiterals}
+use Rattle.propagate.specs.Trail.{AreLiterals}
 use Rattle.propagate.specs.Quiet.{IsConsistent}
 use Rattle.solver.specs.declared.answer.Answer.{Answer}
 use Rattle.blame.specs.Guards.{AreAllGuards}

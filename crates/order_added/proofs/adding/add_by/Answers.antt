@@ -2,8 +2,8 @@ use Rattle.std.proofs.Common.{◌≡◌, ◌<◌, ◌∙◌, ℕ, List, All, len
 use Rattle.std.specs.List.{IsDistinct}
 use Rattle.std.proofs.lemmas.Result.{IfOk-weaker}
 use Rattle.pb_base.specs.Names.{same_name}
+use Rattle.pb_base.specs.Places.{names_at, places_of}
 use Rattle.order_added.specs.Added.{Among, IsAdded}
-use Rattle.order_added.specs.Places.{names_at, places_of}
 use Rattle.order_added.proofs.OrderLaws.{few_added, few_all, few_among, places_pass}
 use Rattle.order_added.proofs.adding.add_by.Goals as goal
 
@@ -13,7 +13,7 @@ few_accepted-requires-clause-passes c =
     let apart : IsDistinct same_name b.codes = subst (λ (codes : List (List ℕ)). IsDistinct same_name codes) c.codes-codes.ensures.value c.names_law.ensures.distinct in
     places_pass b c.args.day apart c.args.ordered.now c.args.others.now c.args.judge.now.ordered c.args.judge.now c.in_ok-places.places.items
     c.requires.set c.requires.judge c.requires.accepted
-    (c.in_ok-places.ensures ∙ ap (λ (codes : List (List ℕ)). places_of codes c.args.others.now) c.codes-codes.ensures.value)
+    (c.in_ok-places.ensures.places ∙ ap (λ (codes : List (List ℕ)). places_of codes c.args.others.now) c.codes-codes.ensures.value)
 
 pub names_at-requires : goal.names_at-requires
 names_at-requires c =
@@ -40,6 +40,6 @@ returns-clause-among c =
     let few : List ℕ = c.in_ok-few.few.items in
     IfOk-weaker _ (λ names. names.items ≡ names_at c.codes-codes.result.now c.deref.result.now) (λ added. Among c.args.others.now added.items)
     (λ names named_so. few_among b c.args.day apart c.args.ordered.now c.args.others.now c.in_ok-places.places.items few names.items c.requires.accepted
-    (c.in_ok-places.ensures ∙ ap (λ (codes : List (List ℕ)). places_of codes c.args.others.now) c.codes-codes.ensures.value)
+    (c.in_ok-places.ensures.places ∙ ap (λ (codes : List (List ℕ)). places_of codes c.args.others.now) c.codes-codes.ensures.value)
     c.in_ok-few.ensures.among
     (named_so ∙ ap₂ (λ (codes : List (List ℕ)) (ps : List ℕ). names_at codes ps) c.codes-codes.ensures.value c.deref.ensures.value)) c.names_at.ensures

@@ -1,12 +1,13 @@
 use Rattle.std.proofs.Common.{◌≡◌, ◌<◌, ◌∙◌, ℕ, List, length, ap, subst, All, sym}
 use Rattle.std.specs.List.{IsDistinct}
 use Rattle.pb_base.specs.Names.{same_name}
+use Rattle.pb_base.specs.Places.{names_at}
 use Rattle.clausify.proofs.ItemLaws.{length_from_good}
 use Rattle.blame.proofs.ListLaws.{among_among}
 use Rattle.blame.specs.Entries.{Among}
 use Rattle.order_added.specs.Accepted.{is_accepted}
 use Rattle.order_added.specs.Added.{IsAdded}
-use Rattle.order_repair.specs.Places.{names_at, others_of}
+use Rattle.order_repair.specs.Places.{others_of}
 use Rattle.order_repair.proofs.OrderLaws.{added_among, car_accepted, others_within}
 use Rattle.order_repair.proofs.changing.addition.Goals as goal
 

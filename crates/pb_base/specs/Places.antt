@@ -1,6 +1,7 @@
--- Codes by their places in the book, and the names at places.
+-- Codes by their places in a table, and the names at places.
 --     places_of codes names      the places of the codes that the names name, in their sequence
---     names_at codes places      the names of the codes at places
+--     name_at codes place        the name of the code at a place
+--     names_at codes places      those of the codes at places
 use Rattle.std.specs.Prelude.{ℕ, List, [], map, slice_index_or}
 use Rattle.std.specs.List.{flat_map}
 use Rattle.std.specs.Option.{option_to_list}

@@ -1,7 +1,0 @@
-use Rattle.std.proofs.Common.{◌≡◌, ◌++◌, drop}
-use Rattle.free_answers.specs.Answer.{chosen_of}
-use Rattle.free_answers.proofs.chosen.places_of.Given as goal
-
--- the places so far and those of the names that are left make the whole
-abbrev pub invariant-loop-name : goal.invariant-loop-name
-invariant-loop-name l = l.places.items ++ chosen_of l.codes (drop l.name-index l.names) ≡ chosen_of l.codes l.names

@@ -1,7 +1,0 @@
-use Rattle.std.proofs.Common.{◌≡◌, ◌++◌, drop}
-use Rattle.order_added.specs.Places.{names_at}
-use Rattle.order_added.proofs.places.names_at.Given as goal
-
--- the names so far and those of the places that are left make the whole
-abbrev pub invariant-loop-place : goal.invariant-loop-place
-invariant-loop-place l = l.names.items ++ names_at l.codes (drop l.place-index l.places) ≡ names_at l.codes l.places
