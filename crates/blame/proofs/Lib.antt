@@ -8,3 +8,4 @@ mod MarkLaws
 mod LeftLaws
 mod AbsentLaws
 mod PlainLaws
+mod SearchedLaws

@@ -4,3 +4,4 @@ pub mod Blame
 pub mod Guarding
 pub mod Absent
 pub mod Plain
+pub mod Cases

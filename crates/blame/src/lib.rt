@@ -2,6 +2,7 @@
 #![tactic(auto)]
 
 mod blamed;
+mod case;
 mod codes;
 mod coding;
 mod deciding;

@@ -1,8 +1,7 @@
 //! What a set misses of the kept entries. They are hints: nothing is claimed of them.
 
-use crate::entries::Entry;
+use crate::case::Case;
 use crate::places::Places;
-use book_model::Book;
 
 /// The kept entries that a set misses, counted no further than three. Of two both places are told, of one the first.
 #[derive(Clone, Copy)]
@@ -25,20 +24,19 @@ impl Missed {
     /// What is missed where a code was changed in a set that missed these.
     pub(crate) fn after(
         &self,
-        book: &Book,
-        values: &[bool],
-        entries: &[Entry],
+        case: &Case,
         places: &Places,
         kept: &[bool],
+        values: &[bool],
         code: u32,
     ) -> Missed {
         let mut missed = Missed {
             count: 0,
-            first: entries.len(),
-            second: entries.len(),
+            first: case.entries.len(),
+            second: case.entries.len(),
         };
-        missed.look_at(book, values, entries, places, kept, self.first);
-        missed.look_at(book, values, entries, places, kept, self.second);
+        missed.look_at(case, places, kept, values, self.first);
+        missed.look_at(case, places, kept, values, self.second);
         let value = values.get(code as usize).copied();
         for stand in places.of_code(code) {
             if missed.count >= 3 {
@@ -46,7 +44,7 @@ impl Missed {
             }
             // A clause is met where the code makes it true now.
             if stand.value.is_none() || stand.value != value {
-                missed.look_at(book, values, entries, places, kept, stand.entry);
+                missed.look_at(case, places, kept, values, stand.entry);
             }
         }
         missed
@@ -54,20 +52,19 @@ impl Missed {
 
     fn look_at(
         &mut self,
-        book: &Book,
-        values: &[bool],
-        entries: &[Entry],
+        case: &Case,
         places: &Places,
         kept: &[bool],
+        values: &[bool],
         place: usize,
     ) {
         if place == self.first || place == self.second || kept.get(place) != Some(&true) {
             return;
         }
-        let Some(entry) = entries.get(place) else {
+        let Some(entry) = case.entries.get(place) else {
             return;
         };
-        if places.is_met(book, values, place, *entry) {
+        if places.is_met(case.book, values, place, *entry) {
             return;
         }
         if self.count == 0 {

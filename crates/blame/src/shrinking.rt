@@ -7,10 +7,11 @@ ghost use Rattle.pb_base.specs.declared.limits.TheConstants.{MOST_BUDGET};
 ghost use Rattle.book_model.specs.Book.{RuleFits};
 ghost use Rattle.blame.specs.Entries.{EntryFits, Among};
 ghost use Rattle.blame.specs.Blame.{AreFew, IsNone, IsBlame};
+ghost use Rattle.blame.specs.Cases.{BlamesCase, FitsCase, GuardsCase, MarksCase};
 ghost use Rattle.blame.specs.Guards.{IsGuarding};
-ghost use Rattle.blame.specs.Guarding.{AreMarked};
 
 use crate::blamed::Blamed;
+use crate::case::Case;
 use crate::entries::Entry;
 use crate::guarding::guarded_solver;
 use crate::kept::blamed_by_marks;
@@ -89,15 +90,19 @@ fn shrink_hinted_by(
     ensures among { IfOk result (λ found. IfSome found (λ m. Among first.now m.entries.items)) }
 {
     let mut marks = untried(alloc, first.len())?;
-    let found = try_all(alloc, book, day, rule, budget, first, solver, &mut marks)?;
+    let case = Case {
+        book,
+        day,
+        rule,
+        entries: first,
+    };
+    let found = try_all(alloc, &case, budget, solver, &mut marks)?;
     let Some(place) = found else {
         return Ok(None);
     };
     let codes = book.codes().len();
     let order = least_used_first(alloc, solver.kernel(), place, codes, first.len())?;
-    let blamed = shrink_on(
-        alloc, book, day, rule, budget, first, solver, &mut marks, &order,
-    )?;
+    let blamed = shrink_on(alloc, &case, budget, solver, &mut marks, &order)?;
     Ok(Some(blamed))
 }
 
@@ -122,43 +127,40 @@ fn shrink_by(
 {
     let mut marks = untried(alloc, first.len())?;
     let order = from_the_last(alloc, first.len())?;
-    shrink_on(
-        alloc, book, day, rule, budget, first, solver, &mut marks, &order,
-    )
+    let case = Case {
+        book,
+        day,
+        rule,
+        entries: first,
+    };
+    shrink_on(alloc, &case, budget, solver, &mut marks, &order)
 }
 
 // The same of those that are kept, one after another in this order.
 fn shrink_on(
     alloc: Global,
-    book: &Book,
-    day: Day,
-    rule: &Formula,
+    case: &Case,
     budget: u32,
-    first: &[Entry],
     solver: &mut Solver,
     marks: &mut Marks,
     order: &[usize],
 ) -> Result<Blamed, Memory>
-    requires few { AreFew first.now }
-    requires rule { RuleFits (length book.now.codes) rule.now }
-    requires guarding { IsGuarding book.now day rule.now first.now solver.old }
-    requires marked { AreMarked book.now day rule.now first.now budget marks.old }
+    requires few { AreFew case.now.entries.now }
+    requires rule { FitsCase case.now }
+    requires guarding { GuardsCase case.now solver.old }
+    requires marked { MarksCase case.now budget marks.old }
     requires some { 0 < budget }
     requires most { budget ≤ MOST_BUDGET }
-    ensures blame { IfOk result (λ m. IsBlame book.now day rule.now budget m.entries.items m.needed.items) }
-    ensures among { IfOk result (λ m. Among first.now m.entries.items) }
+    ensures blame { IfOk result (BlamesCase case.now budget) }
+    ensures among { IfOk result (λ m. Among case.now.entries.now m.entries.items) }
 {
-    let places = Places::of(alloc, book, first)?;
+    let places = Places::of(alloc, case.book, case.entries)?;
     for at in order {
-        try_without(
-            alloc, book, day, rule, budget, first, &places, solver, marks, *at,
-        )?;
+        try_without(alloc, case, budget, &places, solver, marks, *at)?;
     }
     // The order is a hint, and may lack some.
-    for at in 0..first.len() {
-        try_without(
-            alloc, book, day, rule, budget, first, &places, solver, marks, at,
-        )?;
+    for at in 0..case.entries.len() {
+        try_without(alloc, case, budget, &places, solver, marks, at)?;
     }
-    blamed_by_marks(alloc, first, marks)
+    blamed_by_marks(alloc, case.entries, marks)
 }

@@ -1,23 +1,21 @@
 //! Tries to leave entries out, by one solver in which each of them has a guard.
-ghost use Rattle.std.specs.Prelude.{◌≡◌, ◌==◌, not, ◌+◌, ◌^◌, ◌<◌, ◌≤◌, ◌&&◌, ℕ, [], All, IfOk, IfSome, OnOk, length, slice_index_or, true, false};
+ghost use Rattle.std.specs.Prelude.{◌≡◌, ◌==◌, not, ◌+◌, ◌^◌, ◌<◌, ◌≤◌, ◌&&◌, ℕ, [], IfOk, IfSome, OnOk, length, slice_index_or, true, false};
 ghost use Rattle.pb_base.specs.Sets.{has};
 ghost use Rattle.pb_base.specs.declared.limits.TheConstants.{MOST_BUDGET};
-ghost use Rattle.book_model.specs.Book.{RuleFits};
 ghost use Rattle.clause_pool.specs.Clause.{has as has_literal};
 ghost use Rattle.clause_pool.specs.Literal.{literal};
-ghost use Rattle.blame.specs.Entries.{EntryFits};
 ghost use Rattle.blame.specs.Blame.{AreFew};
-ghost use Rattle.blame.specs.Guards.{AreAllGuards, IsGuarding};
-ghost use Rattle.blame.specs.Guarding.{AreFewer, AreFurtherOn, AreMarked, AreNamed, AreStill, IsMarkedAlso, IsSettled, IsUntried};
+ghost use Rattle.blame.specs.Cases.{FitsCase, GuardsCase, IsSearched, MarksCase};
+ghost use Rattle.blame.specs.Guards.{AreAllGuards};
+ghost use Rattle.blame.specs.Guarding.{AreFewer, AreFurtherOn, AreNamed, AreStill, IsMarkedAlso, IsSettled, IsUntried};
 
+use crate::case::Case;
 use crate::deciding::search_guarded;
-use crate::entries::Entry;
 use crate::marks::Marks;
 use crate::noting::note_need;
 use crate::places::Places;
-use book_model::Book;
 use clause_pool::{Lit, Pool, Ref};
-use pb_base::{Day, Formula, Memory};
+use pb_base::Memory;
 use solver::{Answer, Solver};
 use std::alloc::Global;
 
@@ -27,70 +25,60 @@ use std::alloc::Global;
 #[tactic(auto, using(crate::proofs::MarkLaws::settled_known, crate::proofs::MarkLaws::further_self))]
 pub(crate) fn try_without(
     alloc: Global,
-    book: &Book,
-    day: Day,
-    rule: &Formula,
+    case: &Case,
     budget: u32,
-    entries: &[Entry],
     places: &Places,
     solver: &mut Solver,
     marks: &mut Marks,
     at: usize,
 ) -> Result<(), Memory>
-    requires few { AreFew entries.now }
-    requires rule { RuleFits (length book.now.codes) rule.now }
-    requires guarding { IsGuarding book.now day rule.now entries.now solver.old }
-    requires marked { AreMarked book.now day rule.now entries.now budget marks.old }
+    requires few { AreFew case.now.entries.now }
+    requires rule { FitsCase case.now }
+    requires guarding { GuardsCase case.now solver.old }
+    requires marked { MarksCase case.now budget marks.old }
     requires some { 0 < budget }
     requires most { budget ≤ MOST_BUDGET }
-    ensures guarding { IsGuarding book.now day rule.now entries.now solver.new }
-    ensures marked { OnOk result (AreMarked book.now day rule.now entries.now budget marks.new) }
+    ensures guarding { GuardsCase case.now solver.new }
+    ensures marked { OnOk result (MarksCase case.now budget marks.new) }
     ensures further { OnOk result (AreFurtherOn marks.old marks.new) }
     ensures settled { OnOk result (IsSettled at marks.new) }
 {
     if !is_untried(marks, at) {
         return Ok(());
     }
-    try_untried(
-        alloc, book, day, rule, budget, entries, places, solver, marks, at,
-    )
+    try_untried(alloc, case, budget, places, solver, marks, at)
 }
 
 // The same where none is known.
 fn try_untried(
     alloc: Global,
-    book: &Book,
-    day: Day,
-    rule: &Formula,
+    case: &Case,
     budget: u32,
-    entries: &[Entry],
     places: &Places,
     solver: &mut Solver,
     marks: &mut Marks,
     at: usize,
 ) -> Result<(), Memory>
-    requires few { AreFew entries.now }
-    requires rule { RuleFits (length book.now.codes) rule.now }
-    requires guarding { IsGuarding book.now day rule.now entries.now solver.old }
-    requires marked { AreMarked book.now day rule.now entries.now budget marks.old }
+    requires few { AreFew case.now.entries.now }
+    requires rule { FitsCase case.now }
+    requires guarding { GuardsCase case.now solver.old }
+    requires marked { MarksCase case.now budget marks.old }
     requires kept { has marks.old.kept.items at ≡ true }
     requires some { 0 < budget }
     requires most { budget ≤ MOST_BUDGET }
-    ensures guarding { IsGuarding book.now day rule.now entries.now solver.new }
-    ensures marked { OnOk result (AreMarked book.now day rule.now entries.now budget marks.new) }
+    ensures guarding { GuardsCase case.now solver.new }
+    ensures marked { OnOk result (MarksCase case.now budget marks.new) }
     ensures further { OnOk result (AreFurtherOn marks.old marks.new) }
     ensures settled { OnOk result (IsSettled at marks.new) }
 {
-    let codes = book.codes().len();
-    let lits = guards_but(alloc, codes, &marks.kept, at)?;
-    let answer = search_guarded(solver, &lits, budget)?;
+    let answer = search_but(alloc, case, budget, solver, &marks.kept, at)?;
     match answer {
         Answer::Set(set) => {
-            note_need(alloc, book, day, rule, entries, places, marks, at, &set)?;
+            note_need(alloc, case, places, marks, at, &set)?;
             Ok(())
         }
         Answer::Closed(place) => {
-            keep_used(alloc, codes, marks, solver, place, at)?;
+            keep_used(alloc, case, marks, solver, place, at)?;
             Ok(())
         }
         Answer::Spent(learnt) => {
@@ -98,6 +86,28 @@ fn try_untried(
             Ok(())
         }
     }
+}
+
+// Looks for a set that meets the rule and all kept entries but that at a place.
+fn search_but(
+    alloc: Global,
+    case: &Case,
+    budget: u32,
+    solver: &mut Solver,
+    kept: &[bool],
+    but: usize,
+) -> Result<Answer, Memory>
+    requires few { AreFew case.now.entries.now }
+    requires guarding { GuardsCase case.now solver.old }
+    requires counted { length kept.now ≡ length case.now.entries.now }
+    requires some { 0 < budget }
+    requires most { budget ≤ MOST_BUDGET }
+    ensures guarding { GuardsCase case.now solver.new }
+    ensures searched { IfOk result (IsSearched case.now kept.now but budget solver.new) }
+{
+    let codes = case.book.codes().len();
+    let lits = guards_but(alloc, codes, kept, but)?;
+    search_guarded(solver, &lits, budget)
 }
 
 // A search without the entry at a place was left. What it learnt isn't told.
@@ -121,30 +131,24 @@ fn mark(marks: &mut Vec<bool>, at: usize)
 /// clause is told of which it made it.
 pub(crate) fn try_all(
     alloc: Global,
-    book: &Book,
-    day: Day,
-    rule: &Formula,
+    case: &Case,
     budget: u32,
-    entries: &[Entry],
     solver: &mut Solver,
     marks: &mut Marks,
 ) -> Result<Option<Ref>, Memory>
-    requires few { AreFew entries.now }
-    requires guarding { IsGuarding book.now day rule.now entries.now solver.old }
-    requires untried { IsUntried (length entries.now) marks.old }
+    requires few { AreFew case.now.entries.now }
+    requires guarding { GuardsCase case.now solver.old }
+    requires untried { IsUntried (length case.now.entries.now) marks.old }
     requires some { 0 < budget }
     requires most { budget ≤ MOST_BUDGET }
-    ensures guarding { IsGuarding book.now day rule.now entries.now solver.new }
-    ensures marked { IfOk result (λ found. IfSome found
-        (λ place. AreMarked book.now day rule.now entries.now budget marks.new)) }
+    ensures guarding { GuardsCase case.now solver.new }
+    ensures marked { IfOk result (λ found. IfSome found (λ place. MarksCase case.now budget marks.new)) }
 {
-    let codes = book.codes().len();
-    let count = entries.len();
-    let lits = guards_but(alloc, codes, &marks.kept, count)?;
-    let answer = search_guarded(solver, &lits, budget)?;
+    let count = case.entries.len();
+    let answer = search_but(alloc, case, budget, solver, &marks.kept, count)?;
     match answer {
         Answer::Closed(place) => {
-            keep_used(alloc, codes, marks, solver, place, count)?;
+            keep_used(alloc, case, marks, solver, place, count)?;
             Ok(Some(place))
         }
         Answer::Set(_) => Ok(None),
@@ -193,7 +197,7 @@ fn stays(kept: &[bool], but: usize, place: usize) -> bool
 // are kept, and not the one that was left out.
 fn keep_used(
     alloc: Global,
-    first: u32,
+    case: &Case,
     marks: &mut Marks,
     solver: &Solver,
     at: Ref,
@@ -205,10 +209,11 @@ fn keep_used(
     ensures kept { AreFewer marks.old.kept.items marks.new.kept.items }
     ensures left_out { OnOk result (has marks.new.kept.items but ≡ false) }
     ensures used { let clause = slice_index_or solver.now.kernel.clauses at [] in
-        OnOk result (AreStill first but clause marks.old.kept.items marks.new.kept.items) }
+        OnOk result (AreStill (length case.now.book.now.codes) but clause marks.old.kept.items marks.new.kept.items) }
 {
+    let codes = case.book.codes().len();
     let pool = solver.kernel().pool();
-    let named = denied_by(alloc, first, marks.kept.len(), pool.lits(at))?;
+    let named = denied_by(alloc, codes, marks.kept.len(), pool.lits(at))?;
     keep_named(&mut marks.kept, &named);
     leave_out(&mut marks.kept, but);
     Ok(())

@@ -5,4 +5,4 @@ use Rattle.blame.specs.declared.entries.Entry.{Entry}
 use Rattle.blame.proofs.noting.shows_need.Given as goal
 
 abbrev pub invariant-loop-place : goal.invariant-loop-place
-invariant-loop-place l = (k : ℕ) (e : Entry) → k < l.place → slice_get l.entries k ≡ Some e → has l.kept k ≡ true → (k ≡ l.at → ⊥) → meets_entry l.book l.day l.set e ≡ true
+invariant-loop-place l = (k : ℕ) (e : Entry) → k < l.place → slice_get l.case.entries.now k ≡ Some e → has l.kept k ≡ true → (k ≡ l.at → ⊥) → meets_entry l.case.book.now l.case.day l.set e ≡ true

@@ -14,9 +14,9 @@ loop-at-2-preserved c = record {
 
 pub returns-clause-blame : goal.returns-clause-blame
 returns-clause-blame c =
-    blame_told c.args.first.now c.loop-at-2.marks c.args.book.now c.args.day c.args.rule.now c.args.budget c.blamed_by_marks.result c.loop-at-2.invariant.marked
+    blame_told c.args.case.now.entries.now c.loop-at-2.marks c.args.case.now.book.now c.args.case.now.day c.args.case.now.rule.now c.args.budget c.blamed_by_marks.result c.loop-at-2.invariant.marked
     (λ k inside. c.loop-at-2.invariant.settled k (omega (arith, inside))) c.blamed_by_marks.ensures.entries c.blamed_by_marks.ensures.needed
 
 pub returns-clause-among : goal.returns-clause-among
 returns-clause-among c =
-    among_told c.args.first.now c.loop-at-2.marks c.blamed_by_marks.result c.loop-at-2.invariant.marked.kept_counted c.blamed_by_marks.ensures.entries
+    among_told c.args.case.now.entries.now c.loop-at-2.marks c.blamed_by_marks.result c.loop-at-2.invariant.marked.kept_counted c.blamed_by_marks.ensures.entries
