@@ -1,8 +1,8 @@
 -- Whether an order passes, by its codes and the rules alone.
-use Rattle.std.proofs.Common.{◌≡◌, ℕ, zero, suc, ◌+◌, Bool, true, false, ◌<◌, cond, List, [], ◌∷◌, Option, Some, None, Ok, Err, length, get_or, refl, sym, ap, subst, ◌∙◌, arith}
+use Rattle.std.proofs.Common.{◌≡◌, ℕ, zero, suc, ◌+◌, Bool, true, false, ◌<◌, cond, List, [], ◌∷◌, Option, Some, None, Ok, length, get_or, refl, sym, ap, subst, ◌∙◌, arith}
 use Rattle.std.specs.List.{list_any, position_from, remove}
 use Rattle.std.specs.Option.{is_none}
-use Rattle.std.specs.Prelude.{◌&&◌, ◌||◌, not, Result, if◌then◌else◌}
+use Rattle.std.specs.Prelude.{◌&&◌, ◌||◌, not, if◌then◌else◌}
 use Rattle.std.proofs.lemmas.Bool.{false_from_ne_true, false≢true}
 use Rattle.std.proofs.lemmas.List.{length-map}
 use Rattle.pb_base.specs.Names.{same_name}
@@ -19,7 +19,6 @@ use Rattle.parts_usage.proofs.OrderedLaws.{ordered_is}
 use Rattle.parts_usage.specs.Outcome.{judged, outcome_of_set}
 use Rattle.parts_usage.specs.Unfit.{first_unfit_of}
 use Rattle.parts_usage.specs.declared.fault.OrderFault.{OrderFault}
-use Rattle.parts_usage.specs.declared.judgement.Outcome.{Outcome}
 use Rattle.parts_usage.specs.declared.judgement.Outcome.TheVariants as outcome
 use Rattle.parts_usage.specs.declared.unfit.Unfit.{Unfit}
 use Rattle.supplement.specs.Completing.{Completing}
@@ -110,14 +109,6 @@ passes_named j names added same = by (ordered_of j.book j.day names) refl
     by (Some x) some =
         ap (passes_set j) (same ∙ some)
         ∙ passes_by j names (record { book = j.book; day = j.day }) x (completion_of j.book j.day x) refl some refl
-
--- what is accepted breaks no rule
-
-unbroken_of : (o : Result Outcome OrderFault) → is_acceptance o ≡ true → is_unbroken o ≡ true
-unbroken_of (Ok (outcome.Accepted set list)) h = refl
-unbroken_of (Ok (outcome.Refused rule)) h = absurd (false≢true h)
-unbroken_of (Ok (outcome.Unfit position count)) h = refl
-unbroken_of (Err fault) h = absurd (false≢true h)
 
 module _ (b : Contents) (day : ℕ) (ordered : List Bool) where
   abbrev pub by_all : Judging

@@ -6,7 +6,7 @@ use Rattle.std.proofs.lemmas.Option.{none-some}
 use Rattle.book_model.specs.Activity.{is_within}
 use Rattle.book_model.specs.Contents.{Contents}
 use Rattle.book_model.specs.Parts.{selected}
-use Rattle.book_model.specs.Sound.{is_fit, are_fit_from, IsReleasable}
+use Rattle.book_model.specs.Sound.{is_fit, are_fit_from}
 use Rattle.book_model.specs.declared.record.Position.{Position}
 use Rattle.parts_usage.specs.Unfit.{first_unfit_from}
 use Rattle.parts_usage.specs.declared.unfit.Unfit.{Unfit as UnfitPosition}

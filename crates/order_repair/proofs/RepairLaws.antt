@@ -5,11 +5,9 @@ use Rattle.std.proofs.lemmas.Bool.{and_parts, eq-eqb}
 use Rattle.std.proofs.lemmas.List.Folds.{list_all-append}
 use Rattle.std.proofs.Math.Bool.{or-true}
 use Rattle.pb_base.specs.Places.{names_at}
-use Rattle.pb_base.specs.Rule.{Rule}
 use Rattle.pb_base.specs.Sets.{has}
 use Rattle.book_model.specs.Contents.{Contents}
 use Rattle.clausify.proofs.ListLaws.{all_weaker}
-use Rattle.blame.specs.Blame.{IsCar}
 use Rattle.blame.specs.Entries.{Among}
 use Rattle.blame.proofs.ListLaws.{among_self}
 use Rattle.order_stays.specs.Stays.{IsCarWith, IsGreedy, IsStay, StaysOrNot}
@@ -20,10 +18,6 @@ use Rattle.parts_usage.specs.declared.fault.OrderFault.{OrderFault}
 use Rattle.parts_usage.specs.declared.judgement.Outcome.{Outcome}
 use Rattle.parts_usage.specs.declared.judgement.Outcome.TheVariants.{Accepted, Refused, Unfit as UnfitOutcome}
 use Rattle.order_repair.specs.Repair.{accepts, IsAddition}
-
--- a car that has the codes, by an answer to a question of TRUE
-pub car_with : (b : Contents) (day : ℕ) (chosen : List ℕ) (f : Rule) (x : List Bool) → IsCar b day chosen f x → IsCarWith b day chosen x
-car_with b day chosen f x car = record { good = car.good; has_kept = car.has_chosen }
 
 abbrev IsIn : List ℕ → ℕ → Type 0
 IsIn cs c = list_any (λ k. k == c) cs ≡ true
