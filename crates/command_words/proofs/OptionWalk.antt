@@ -1,5 +1,5 @@
 -- How the option parser walks over the one word that begins with `--`, and its value.
-use Rattle.std.proofs.Common.{◌≡◌, ◌∙◌, ℕ, true, false, refl, ap, List, [], ◌∷◌, Option, Some, None, codes}
+use Rattle.std.proofs.Common.{◌≡◌, ◌∙◌, true, false, refl, ap, List, [], ◌∷◌, Option, Some, None, codes}
 use Rattle.std.specs.Str.{bytes_eq}
 use Rattle.clap.specs.Lexer.{long_of}
 use Rattle.clap.specs.Walk.{idle, option, positional, Held, Waiting, Row, Text, has_row, reacted, settled, used, walked}
@@ -46,32 +46,32 @@ pub given_step : (held : Held) (word : Text) → IsPlainWord word
 unfolding clap_on_literals
 given_step held word p = rw p.no_end (rw p.no_long (rw p.no_short refl))
 
-pub valued_turn : (form : List ℕ) (held : Held) (waiting : Waiting) (word name text : Text) (rows : List Row) → IsFree waiting → IsOptionWord word name (Some text)
-    → bytes_eq (codes "budget") name ≡ true → Settles held rows → has_row (codes "budget") rows ≡ false → turn_fault (leaf form) [] (at held waiting) word ≡ []
+pub valued_turn : (held : Held) (waiting : Waiting) (word name text : Text) (rows : List Row) → IsFree waiting → IsOptionWord word name (Some text)
+    → bytes_eq (codes "budget") name ≡ true → Settles held rows → has_row (codes "budget") rows ≡ false → turn_fault leaf [] (at held waiting) word ≡ []
 unfolding clap_on_literals
-valued_turn form held (option id) word name text rows free p e s none = absurd free
-valued_turn form held idle word name text rows free p e s none =
+valued_turn held (option id) word name text rows free p e s none = absurd free
+valued_turn held idle word name text rows free p e s none =
     rw p.no_end (rw p.long (rw e (rw s.faultless (rw s.rows_are (ap (λ k. or_else k []) (fresh text rows none))))))
-valued_turn form held positional word name text rows free p e s none =
+valued_turn held positional word name text rows free p e s none =
     rw p.no_end (rw p.long (rw e (rw s.faultless (rw s.rows_are (ap (λ k. or_else k []) (fresh text rows none))))))
 
-pub begun_turn : (form : List ℕ) (held : Held) (waiting : Waiting) (word name : Text) (rows : List Row) → IsFree waiting → IsOptionWord word name None
-    → bytes_eq (codes "budget") name ≡ true → Settles held rows → turn_fault (leaf form) [] (at held waiting) word ≡ []
+pub begun_turn : (held : Held) (waiting : Waiting) (word name : Text) (rows : List Row) → IsFree waiting → IsOptionWord word name None
+    → bytes_eq (codes "budget") name ≡ true → Settles held rows → turn_fault leaf [] (at held waiting) word ≡ []
 unfolding clap_on_literals
-begun_turn form held (option id) word name rows free p e s = absurd free
-begun_turn form held idle word name rows free p e s = rw p.no_end (rw p.long (rw e (rw s.faultless refl)))
-begun_turn form held positional word name rows free p e s = rw p.no_end (rw p.long (rw e (rw s.faultless refl)))
+begun_turn held (option id) word name rows free p e s = absurd free
+begun_turn held idle word name rows free p e s = rw p.no_end (rw p.long (rw e (rw s.faultless refl)))
+begun_turn held positional word name rows free p e s = rw p.no_end (rw p.long (rw e (rw s.faultless refl)))
 
-pub given_turn : (form : List ℕ) (held : Held) (word : Text) → IsPlainWord word → turn_fault (leaf form) [] (at (begun held) (option (codes "budget"))) word ≡ []
+pub given_turn : (held : Held) (word : Text) → IsPlainWord word → turn_fault leaf [] (at (begun held) (option (codes "budget"))) word ≡ []
 unfolding clap_on_literals
-given_turn form held word p = rw p.no_end (rw p.no_long (rw p.no_short refl))
+given_turn held word p = rw p.no_end (rw p.no_long (rw p.no_short refl))
 
-pub unknown_turn : (form : List ℕ) (held : Held) (waiting : Waiting) (word name : Text) (value : Option Text) → IsFree waiting → IsOptionWord word name value
-    → bytes_eq (codes "budget") name ≡ false → turn_fault (leaf form) [] (at held waiting) word ≡ kind.UnknownArgument ∷ []
+pub unknown_turn : (held : Held) (waiting : Waiting) (word name : Text) (value : Option Text) → IsFree waiting → IsOptionWord word name value
+    → bytes_eq (codes "budget") name ≡ false → turn_fault leaf [] (at held waiting) word ≡ kind.UnknownArgument ∷ []
 unfolding clap_on_literals
-unknown_turn form held (option id) word name value free p e = absurd free
-unknown_turn form held idle word name value free p e = rw p.no_end (rw p.long (rw e refl))
-unknown_turn form held positional word name value free p e = rw p.no_end (rw p.long (rw e refl))
+unknown_turn held (option id) word name value free p e = absurd free
+unknown_turn held idle word name value free p e = rw p.no_end (rw p.long (rw e refl))
+unknown_turn held positional word name value free p e = rw p.no_end (rw p.long (rw e refl))
 
 pub valued_settles : (held : Held) (text : Text) (rows : List Row) → Settles held rows → Settles (valued held text) (used budget (text ∷ []) rows)
 valued_settles held text rows s = record { rows_are = ap (used budget (text ∷ [])) s.rows_are; faultless = refl }

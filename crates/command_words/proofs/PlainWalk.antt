@@ -1,28 +1,30 @@
 -- How the option parser walks over words that don't begin with `-`.
-use Rattle.std.proofs.Common.{◌≡◌, ◌∙◌, ◌++◌, ◌&&◌, ◌==◌, ℕ, Bool, cond, true, false, not, refl, sym, ap, List, [], ◌∷◌, Option, Some, None, codes, true≢false}
+use Rattle.std.proofs.Common.{◌≡◌, ◌∙◌, ◌++◌, ◌&&◌, ◌==◌, Bool, cond, true, false, not, refl, sym, ap, List, [], ◌∷◌, Option, Some, None, codes, true≢false}
 use Rattle.std.specs.List.{list_all, fold}
 use Rattle.std.specs.Str.{bytes_eq}
 use Rattle.std.proofs.lemmas.Bool.{and_right}
 use Rattle.clap.specs.Lexer.{long_of, short_of}
 use Rattle.clap.specs.Walk.{idle, positional, option, Held, Waiting, Row, Rule, Text, Walk, walked, is_pending, takes_several, pushed, settled, with_values}
-use Rattle.clap.specs.Simple.{Shape, built_leaf, filled, filled_from, with_index}
+use Rattle.clap.specs.Simple.{App, Shape, built, filled, filled_from, with_index}
 use Rattle.clap.specs.Kinds.{or_else}
 use Rattle.clap.specs.Faults.{settle_fault, turn_fault, walk_fault}
 use Rattle.clap.proofs.OnLiterals.{clap_on_literals}
 use Rattle.clap.specs.declared.parser.matches.ValueSource.TheVariants.{CommandLine}
 use Rattle.clap.specs.declared.builder.value_parser.Reading.TheVariants.{AsWritten}
 use Rattle.command_words.specs.Parts.{Words, is_plain}
-use Rattle.command_words.specs.Grammar.{form, grammar, budget_rule, operands_rule}
-use Rattle.clap.specs.Simple.{inherited, with_leaf_noted}
+use Rattle.command_words.specs.Grammar.{grammar, budget_rule, operands_rule}
 use Rattle.clap.proofs.WalkLemmas.{both}
 
--- the rules of a form, as they are built
+-- the rules of the grammar, as they are built
 abbrev pub rules : List Rule
 rules = filled_from 1 (budget_rule ∷ operands_rule ∷ [])
 
--- a form, as it is built below the grammar
-abbrev pub leaf : List ℕ → Shape
-leaf name = built_leaf (inherited (with_leaf_noted grammar.top) (form name).top)
+-- the grammar, as it is built
+abbrev pub whole : App
+whole = built grammar
+
+abbrev pub leaf : Shape
+leaf = whole.top
 
 abbrev pub operands_row : Words → Row
 operands_row words = record { id = codes "operands"; values = words; count = None; source = Some CommandLine; reading = AsWritten }
@@ -89,12 +91,12 @@ plain_step held (option id) word free p = absurd free
 plain_step held idle word free p = rw p.no_end (rw p.no_long (rw p.no_short (to_operands held word)))
 plain_step held positional word free p = rw p.no_end (rw p.no_long (rw p.no_short (to_operands held word)))
 
-pub plain_turn : (name : List ℕ) (held : Held) (waiting : Waiting) (word : Text) (rows : List Row) → IsFree waiting → IsPlainWord word → Settles held rows
-    → turn_fault (leaf name) [] (at held waiting) word ≡ []
+pub plain_turn : (held : Held) (waiting : Waiting) (word : Text) (rows : List Row) → IsFree waiting → IsPlainWord word → Settles held rows
+    → turn_fault leaf [] (at held waiting) word ≡ []
 unfolding clap_on_literals
-plain_turn name held (option id) word rows free p s = absurd free
-plain_turn name held idle word rows free p s = rw p.no_end (rw p.no_long (rw p.no_short (settles_before held rows s)))
-plain_turn name held positional word rows free p s = rw p.no_end (rw p.no_long (rw p.no_short (settles_before held rows s)))
+plain_turn held (option id) word rows free p s = absurd free
+plain_turn held idle word rows free p s = rw p.no_end (rw p.no_long (rw p.no_short (settles_before held rows s)))
+plain_turn held positional word rows free p s = rw p.no_end (rw p.no_long (rw p.no_short (settles_before held rows s)))
 
 pub next_settles : (held : Held) (word : Text) (rows : List Row) → Settles held rows → Settles (next_held held word) (with_operand word rows)
 next_settles held word rows s = record { rows_are = ap (with_operand word) s.rows_are; faultless = refl }
@@ -111,19 +113,19 @@ pub record PlainEnd (held : Held) (waiting : Waiting) (words : Words) (rows : Li
   pub then : Waiting
   pub free : IsFree then
   pub walk_is : (more : Words) → fold (walked rules []) (at held waiting) (words ++ more) ≡ fold (walked rules []) (at end then) more
-  pub faults : (name : List ℕ) (more : Words) → walk_fault (leaf name) [] (at held waiting) (words ++ more) ≡ walk_fault (leaf name) [] (at end then) more
+  pub faults : (more : Words) → walk_fault leaf [] (at held waiting) (words ++ more) ≡ walk_fault leaf [] (at end then) more
   pub settles : Settles end (with_operands words rows)
 
-pub fault_after : (name : List ℕ) (held : Held) (waiting : Waiting) (word : Text) (more : Words) (w : Walk) → turn_fault (leaf name) [] (at held waiting) word ≡ []
-    → walked rules [] (at held waiting) word ≡ w → walk_fault (leaf name) [] (at held waiting) (word ∷ more) ≡ walk_fault (leaf name) [] w more
+pub fault_after : (held : Held) (waiting : Waiting) (word : Text) (more : Words) (w : Walk) → turn_fault leaf [] (at held waiting) word ≡ []
+    → walked rules [] (at held waiting) word ≡ w → walk_fault leaf [] (at held waiting) (word ∷ more) ≡ walk_fault leaf [] w more
 unfolding walk_fault
-fault_after name held waiting word more w passed step = ap (λ x. or_else x (walk_fault (leaf name) [] (walked rules [] (at held waiting) word) more)) passed
-    ∙ ap (λ x. walk_fault (leaf name) [] x more) step
+fault_after held waiting word more w passed step = ap (λ x. or_else x (walk_fault leaf [] (walked rules [] (at held waiting) word) more)) passed
+    ∙ ap (λ x. walk_fault leaf [] x more) step
 
 pub plain_walk : (words : Words) (held : Held) (waiting : Waiting) (rows : List Row) → list_all is_plain words ≡ true → IsFree waiting → Settles held rows
     → PlainEnd held waiting words rows
 plain_walk [] held waiting rows plain free s =
-    record { end = held; then = waiting; free = free; walk_is = λ more. refl; faults = λ name more. refl; settles = s }
+    record { end = held; then = waiting; free = free; walk_is = λ more. refl; faults = λ more. refl; settles = s }
 plain_walk (word ∷ words) held waiting rows plain free s =
     let parts = both (is_plain word) (list_all is_plain words) plain in
     let p = plain_word_of word parts.0 in
@@ -134,6 +136,6 @@ plain_walk (word ∷ words) held waiting rows plain free s =
       then = rest.then;
       free = rest.free;
       walk_is = λ more. ap (λ w. fold (walked rules []) w (words ++ more)) step ∙ rest.walk_is more;
-      faults = λ name more. fault_after name held waiting word (words ++ more) _ (plain_turn name held waiting word rows free p s) step ∙ rest.faults name more;
+      faults = λ more. fault_after held waiting word (words ++ more) _ (plain_turn held waiting word rows free p s) step ∙ rest.faults more;
       settles = rest.settles;
     }

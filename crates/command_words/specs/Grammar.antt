@@ -1,15 +1,16 @@
--- The grammar that the option parser is given, and what it reads by it: each command word has one option, and operands.
+-- The grammar that the option parser is given, and what it reads by it: behind each command word stand operands with at most one
+-- option among them.
 --     is_tame words     whether the words are plain, but for at most one that begins with `--`
 --     taken words       the budget and the operands among such words behind the command word
 use Rattle.std.specs.Prelude.{◌++◌, ◌&&◌, ℕ, Bool, true, false, not, List, [], ◌∷◌, Option, None, Some, codes, if◌then◌else◌}
 use Rattle.std.specs.Option.{option_map, option_and_then, unwrap_or}
-use Rattle.std.specs.List.{fold, list_all}
+use Rattle.std.specs.List.{list_all}
 use Rattle.std.specs.Str.{bytes_eq}
 use Rattle.clap.specs.Lexer.{long_of}
-use Rattle.clap.specs.Words.{App, Row, Rule, all_of, first_of, new_app, new_rule, with_rule, with_subcommand}
+use Rattle.clap.specs.Words.{App, Row, Rule, all_of, first_of, new_rule, with_rule}
 use Rattle.clap.specs.Simple.{new_shape}
 use Rattle.clap.specs.declared.builder.action.ArgAction.TheVariants.{Append}
-use Rattle.command_words.specs.Meaning.{asked, command_words}
+use Rattle.command_words.specs.Meaning.{asked}
 use Rattle.command_words.specs.declared.task.Task.{Task}
 use Rattle.command_words.specs.Parts.{Words, is_plain, dashes}
 use Rattle.command_words.specs.Prepared.{is_long, plain_front, behind_plain}
@@ -20,29 +21,19 @@ budget_rule = record (new_rule (codes "budget")) { long = Some (codes "budget") 
 abbrev pub operands_rule : Rule
 operands_rule = record (new_rule (codes "operands")) { action = Some Append }
 
-abbrev pub form : List ℕ → App
-form name = with_rule (with_rule (new_app name) budget_rule) operands_rule
-
-abbrev pub top : App
-top = record {
+-- the words are those behind the command word, and none of them names a subcommand
+abbrev pub bare : App
+bare = record {
   top = record (new_shape (codes "partsbook")) {
     no_binary_name = true;
     disable_help_flag = true;
-    disable_help_subcommand = true;
     disable_version_flag = true;
-    subcommand_required = true;
   };
   subs = [];
 }
 
-abbrev pub with_form : App → List ℕ → App
-with_form app name = with_subcommand app (form name).top
-
-abbrev pub with_forms : App → Words → App
-with_forms = fold with_form
-
 abbrev pub grammar : App
-grammar = with_forms top command_words
+grammar = with_rule (with_rule bare budget_rule) operands_rule
 
 abbrev pub is_tame_option : Words → Bool
 is_tame_option [] = true
@@ -68,20 +59,19 @@ option_in (word ∷ words) = budget_in (long_of word) words
 abbrev pub taken : Words → Option (Option (List ℕ) × Words)
 taken words = option_map (λ p. (p.0, plain_front words ++ p.1)) (option_in (behind_plain words))
 
--- the words ask for the task, as the parser reads them
+-- a command word and the words behind it ask for the task, as the parser reads these
+abbrev pub parsed_behind : List ℕ → Words → Option Task
+parsed_behind name words = option_and_then (λ p. asked name p.0 p.1) (taken words)
+
 abbrev pub parsed : Words → Option Task
 parsed [] = None
-parsed (name ∷ words) = option_and_then (λ p. asked name p.0 p.1) (taken words)
+parsed (name ∷ words) = parsed_behind name words
 
 -- a command word, and words that the parser may be given
 abbrev pub is_prepared : Words → Bool
 is_prepared [] = false
 is_prepared (name ∷ words) = is_plain name && is_tame words
 
--- what the rows of a form ask
-abbrev pub form_read : List ℕ → List Row → Option Task
-form_read name rows = asked name (first_of (codes "budget") rows) (unwrap_or (all_of (codes "operands") rows) [])
-
-abbrev pub read : Option (List ℕ × List Row) → Option Task
-read None = None
-read (Some form) = form_read form.0 form.1
+-- what a command word asks with the rows that the parser found
+abbrev pub rows_asked : List ℕ → List Row → Option Task
+rows_asked name rows = asked name (first_of (codes "budget") rows) (unwrap_or (all_of (codes "operands") rows) [])

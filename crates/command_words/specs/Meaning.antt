@@ -18,7 +18,7 @@
 --     ask DAY RULE [--budget N]     whether a car of this day meets the rule, and what is to blame if none does
 -- A budget is the most clauses that may be learnt for one question. `ask` has words of its own (AskWords). The option of several
 -- workers is cut out of the words, and the others are read as if it weren't there (Several).
-use Rattle.std.specs.Prelude.{◌≡◌, ◌++◌, ◌==◌, ◌&&◌, ℕ, ◌%◌, List, [], ◌∷◌, Option, None, Some, codes, drop, length, map, nat_le, take, if◌then◌else◌}
+use Rattle.std.specs.Prelude.{◌≡◌, ◌++◌, ◌==◌, ◌&&◌, ℕ, ◌%◌, List, [], ◌∷◌, Option, None, Some, codes, drop, length, nat_le, take, if◌then◌else◌}
 use Rattle.std.specs.Option.{option_map, option_and_then}
 use Rattle.std.specs.List.{find, list_all}
 use Rattle.pb_base.specs.Names.{same_name, is_code_name}
@@ -157,9 +157,6 @@ commands =
     ∷ (codes "desk", desk_of) ∷ (codes "serve", serve_of) ∷ (codes "sample", sample_of) ∷ (codes "supplements", supplements_of)
     ∷ (codes "compare", compare_of) ∷ (codes "rejudge", rejudge_of) ∷ (codes "free", free_of) ∷ (codes "why", why_of)
     ∷ (codes "days", days_of) ∷ (codes "impact", impact_of) ∷ (codes "require", require_of) ∷ (codes "changes", changes_of) ∷ []
-
-abbrev pub command_words : Words
-command_words = map (λ c. c.0) commands
 
 -- what a command word asks with a budget and operands
 abbrev pub asked : List ℕ → Option (List ℕ) → Words → Option Task

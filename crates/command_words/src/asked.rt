@@ -4,7 +4,7 @@ ghost use Rattle.pb_base.specs.declared.limits.TheConstants.{MOST_BUDGET};
 ghost use Rattle.command_words.specs.Prepared.{lent, lent_option};
 ghost use Rattle.command_words.specs.Meaning.{number_in, codes_of, order_of, budget_of, budget_alone, check_of, prove_of, supplements_of};
 ghost use Rattle.command_words.specs.Meaning.{only_one, verify_of, desk_of, compare_of, rejudge_of, free_of, why_of, days_of, impact_of, require_of, changes_of};
-ghost use Rattle.command_words.specs.Meaning.{door_of, serve_of, codes_number, sample_of, asked, command_words};
+ghost use Rattle.command_words.specs.Meaning.{door_of, serve_of, codes_number, sample_of, asked};
 
 use crate::budget::Budget;
 use crate::file_name::FileName;
@@ -17,30 +17,6 @@ use crate::workers::Workers;
 use pb_base::limits::{DEFAULT_BUDGET, MOST_BUDGET};
 use pb_base::{CodeList, CodeName, Memory, number_within, short_number};
 use std::alloc::Global;
-
-/// The command words but `ask`.
-pub fn command_words<'a>() -> [&'a str; 16]
-    ensures { lent result ≡ command_words }
-{
-    [
-        "order",
-        "check",
-        "prove",
-        "verify",
-        "desk",
-        "serve",
-        "sample",
-        "supplements",
-        "compare",
-        "rejudge",
-        "free",
-        "why",
-        "days",
-        "impact",
-        "require",
-        "changes",
-    ]
-}
 
 /// The task, or None where the word is no command word, or takes other operands or no budget.
 pub fn asked(

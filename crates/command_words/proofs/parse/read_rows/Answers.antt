@@ -3,7 +3,7 @@ use Rattle.std.proofs.lemmas.Result.{IfOk-weaker}
 use Rattle.clap.specs.Words.{found_of}
 use Rattle.command_words.specs.Prepared.{lent, lent_option}
 use Rattle.command_words.proofs.Grammars.{rows_read}
-use Rattle.command_words.proofs.parse.read_form.Goals as goal
+use Rattle.command_words.proofs.parse.read_rows.Goals as goal
 
 pub returns-in-Some : goal.returns-in-Some
 returns-in-Some c =
