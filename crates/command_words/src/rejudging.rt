@@ -45,7 +45,8 @@ impl Rejudging {
     }
 
     pub fn workers(&self) -> u32
-        ensures { 1 ≤ result }
+        ensures value { result ≡ self.now.workers }
+        ensures some { 1 ≤ result }
     {
         self.workers.count()
     }
