@@ -14,6 +14,14 @@ PAGE = TOP / "docs" / "WRONG-BODIES.md"
 
 # What the changed code would do. An edit that has no line here is shown by its name alone.
 WOULD = {
+    "a_set_of_another_day": "a car of one day would be told for a question of another",
+    "a_set_that_shows_nothing": "a question would be told as answered by a car that doesn't show it",
+    "an_answer_of_another_question": "what a search says of one question would be told of its neighbour",
+    "closed_by_its_neighbours_where_it_is_left": "a question that was given up would be told as one to which no car is the answer",
+    "a_failed_read_told_as_an_empty_file": "a desk would begin anew over a store that it couldn't read",
+    "a_failed_write_told_as_done": "an order would be answered as kept that isn't in the store",
+    "a_folder_that_is_not_synced": "a new store could be gone after a loss of power",
+    "a_lock_that_is_not_taken": "two desks could write one store",
     "runs_told_in_another_order": "with several workers the slices of a book would be told in another order",
     "a_requirement_asked_on_its_first_slice_alone": "a requirement that fails later would be told as kept",
     "idle_that_is_not_told": "a requirement about cars that there are none of would be told as kept",
