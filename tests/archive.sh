@@ -7,11 +7,9 @@
 #
 # PROGRAM is the built program, crates/partsbook/out/partsbook without the word. It needs what tests/pages.sh needs for these pages.
 top=$(cd "$(dirname "$0")/.." && pwd) || exit 1
-[ -z "$1" ] || PARTSBOOK_PROGRAM=$(realpath "$1") || exit 1
-[ -z "$1" ] || export PARTSBOOK_PROGRAM
-program=${PARTSBOOK_PROGRAM:-$top/crates/partsbook/out/partsbook}
-work=$(mktemp -d) || exit 1
-trap 'rm -rf "$work"' EXIT
+named=$1
+. "$top/tests/trial.sh"
+[ -z "$1" ] || export PARTSBOOK_PROGRAM="$program"
 failed=0
 
 say() {

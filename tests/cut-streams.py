@@ -21,6 +21,7 @@ import sys
 import tempfile
 import time
 
+from trial import built
 from desk_stream import PROGRAM, TOP, rows_of, request, split_messages, work_place
 
 CONTINUE = b"HTTP/1.1 100 Continue\r\n\r\n"
@@ -101,12 +102,12 @@ class Fronts:
 def main():
     reader = argparse.ArgumentParser(usage="tests/cut-streams.py [--jobs N] [PROGRAM]")
     reader.add_argument("--jobs", type=int, default=1)
-    reader.add_argument("program", nargs="?", default=PROGRAM)
+    reader.add_argument("program", nargs="?", default=PROGRAM, type=built)
     given = reader.parse_args()
     begun = time.time()
     messages = record(page_commands())
     messages.append(request("PUT", "/drafts/U", "ANNA", b"book,U,1,10\n", "Expect: 100-continue\r\n"))
-    fronts = Fronts(os.path.abspath(given.program), messages)
+    fronts = Fronts(given.program, messages)
     lengths = range(len(fronts.whole) + 1)
     with concurrent.futures.ThreadPoolExecutor(given.jobs) as pool:
         wrong = [length for length, right in zip(lengths, pool.map(fronts.is_right, lengths)) if not right]

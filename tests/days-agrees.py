@@ -4,7 +4,7 @@
 Of orders that are drawn: on the first and the last day of each run, and on two days between, `order` comes to what `days` tells, with
 the codes and the parts that are told so far; and no two neighbours tell the same. Books are those named, or examples/*.csv.
 
-    tests/days-agrees.py PROGRAM [BOOK..]
+    tests/days-agrees.py [PROGRAM [BOOK..]]
 
 It ends with 1, and names the question, at the first one that doesn't agree.
 """
@@ -14,6 +14,8 @@ import pathlib
 import random
 import subprocess
 import sys
+
+from trial import built
 
 TOP = pathlib.Path(__file__).resolve().parent.parent
 ORDERS = 12
@@ -87,7 +89,7 @@ def try_order(program, name, book, codes):
 
 
 def main():
-    program, *names = sys.argv[1:]
+    program, names = built(*sys.argv[1:2]), sys.argv[2:]
     random.seed(7)
     orders = runs = 0
     for name in names or sorted(str(path) for path in (TOP / "examples").glob("*.csv") if path.read_bytes().startswith(b"book,")):

@@ -4,10 +4,8 @@
 # gate: it needs the built program, python3 and cmp. The number of kills is the first argument, or 20.
 top=$(cd "$(dirname "$0")/.." && pwd) || exit 1
 # The program itself: behind a launcher a kill would meet it some moments later.
-program=$top/crates/partsbook/out/partsbook
-[ -x "$program" ] || { echo "there is no program $program: ./build makes it" >&2; exit 1; }
-work=$(mktemp -d) || exit 1
-trap 'rm -rf "$work"' EXIT
+named=
+. "$top/tests/trial.sh"
 store=$work/desk.journal
 kills=${1:-20}
 failed=0

@@ -3,10 +3,8 @@
 # bad stores are refused and left as they were. It isn't part of the gate: it needs the built program, sqlite3 and cmp.
 top=$(cd "$(dirname "$0")/.." && pwd) || exit 1
 # The program itself: behind a launcher a kill would meet it some moments later.
-program=$top/crates/partsbook/out/partsbook
-[ -x "$program" ] || { echo "there is no program $program: ./build makes it" >&2; exit 1; }
-work=$(mktemp -d) || exit 1
-trap 'rm -rf "$work"' EXIT
+named=
+. "$top/tests/trial.sh"
 store=$work/desk.db
 failed=0
 

@@ -12,7 +12,7 @@ sys.dont_write_bytecode = True
 import stores
 from program import Refused
 
-PROGRAM = os.path.join(TOP, "crates", "partsbook", "out", "partsbook")
+PROGRAM = os.environ.get("PARTSBOOK_PROGRAM") or os.path.join(TOP, "crates", "partsbook", "out", "partsbook")
 # The tables of a store, with the keys by which its rows are put in order.
 TABLES = {
     "form": "number", "drafts": "name", "books": "number", "orders": "caller, number", "withdrawn": "number",

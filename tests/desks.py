@@ -27,10 +27,10 @@ import time
 sys.dont_write_bytecode = True
 TOP = pathlib.Path(__file__).resolve().parent.parent
 sys.path.insert(0, str(TOP / "tools"))
+from trial import built
 import stores
-from program import find_program
 
-PROGRAM = os.environ.setdefault("PARTSBOOK_PROGRAM", find_program())
+PROGRAM = os.environ.setdefault("PARTSBOOK_PROGRAM", built())
 CALLERS = [f"HALL{n}" for n in range(40)]
 BOOK = TOP / "examples" / "engine.csv"
 failed = 0

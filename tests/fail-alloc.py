@@ -26,6 +26,7 @@ import tempfile
 import threading
 import time
 
+from trial import built
 from desk_stream import PROGRAM, TOP, NotWhole, example, request, rows_left, rows_of, split_messages, work_place
 from service import Broken, Gone, Service
 
@@ -387,11 +388,11 @@ def try_all(name, subject, jobs):
 def main():
     reader = argparse.ArgumentParser(usage="tests/fail-alloc.py [--jobs N] [PROGRAM [SUBJECT..]]")
     reader.add_argument("--jobs", type=int, default=1)
-    reader.add_argument("program", nargs="?", default=PROGRAM)
+    reader.add_argument("program", nargs="?", default=PROGRAM, type=built)
     reader.add_argument("subject", nargs="*")
     given = reader.parse_args()
     with tempfile.TemporaryDirectory(dir=work_place()) as work:
-        all_subjects = subjects(Machine(os.path.abspath(given.program), work))
+        all_subjects = subjects(Machine(given.program, work))
         names = given.subject or list(all_subjects)
         return 0 if all([try_all(name, all_subjects[name], given.jobs) for name in names]) else 1
 

@@ -3,7 +3,7 @@
 `construct,ID,*,CODE,,` for each chosen code, excluded where it calls it inadmissible, and no car is left where the slice of the
 day is void. Books are those named, or examples/*.csv; the chosen codes are drawn.
 
-    tests/free-agrees.py PROGRAM [BOOK..]
+    tests/free-agrees.py [PROGRAM [BOOK..]]
 
 It ends with 1, and names the order, at the first one that doesn't agree.
 """
@@ -13,6 +13,8 @@ import pathlib
 import random
 import subprocess
 import sys
+
+from trial import built
 
 TOP = pathlib.Path(__file__).resolve().parent.parent
 ORDERS = 12
@@ -49,7 +51,7 @@ def told_by_free(program, book, chosen, day):
 
 
 def main():
-    program, *books = sys.argv[1:]
+    program, books = built(*sys.argv[1:2]), sys.argv[2:]
     tried = 0
     for path in books or sorted(path for path in TOP.glob("examples/*.csv") if path.read_bytes().startswith(b"book,")):
         book = pathlib.Path(path).read_bytes()

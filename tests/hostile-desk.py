@@ -25,6 +25,7 @@ import tempfile
 import threading
 import time
 
+from trial import built
 from desk_stream import PROGRAM, TOP, NotWhole, example, request, rows_left, rows_of, work_place
 from stores import is_journal
 
@@ -465,7 +466,7 @@ def main():
     reader.add_argument("--seed", type=int, default=1)
     reader.add_argument("--kills", type=int, default=100)
     reader.add_argument("--place", help="where the stores that are killed over stand")
-    reader.add_argument("program", nargs="?", default=PROGRAM)
+    reader.add_argument("program", nargs="?", default=PROGRAM, type=built)
     reader.add_argument("subject", nargs="*")
     given = reader.parse_args()
     failed = 0
@@ -475,7 +476,7 @@ def main():
     for name in given.subject or subjects:
         begun = time.time()
         try:
-            told = subjects[name](os.path.abspath(given.program), given)
+            told = subjects[name](given.program, given)
             print(f"{name}: {told} ({time.time() - begun:.0f} s)", flush=True)
         except (Broken, NotWhole) as said:
             failed = 1

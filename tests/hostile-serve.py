@@ -33,6 +33,7 @@ import threading
 import time
 
 sys.path.insert(1, str(pathlib.Path(__file__).resolve().parent / "speed"))
+from trial import built
 from desk_stream import PROGRAM, example, request, work_place
 from service import ACCEPTED, CODES, PATIENCE, Gone, Service, at_once, kept_orders, must, try_subjects
 from draw_book import Drawn
@@ -476,7 +477,7 @@ def main():
         "descriptors": try_descriptors, "deep": try_deep,
     }
     reader = argparse.ArgumentParser(usage="tests/hostile-serve.py [PROGRAM [SUBJECT..]]")
-    reader.add_argument("program", nargs="?", default=PROGRAM)
+    reader.add_argument("program", nargs="?", default=PROGRAM, type=built)
     reader.add_argument("subject", nargs="*")
     return try_subjects(subjects, reader.parse_args())
 

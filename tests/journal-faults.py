@@ -19,6 +19,7 @@ import sys
 import tempfile
 import time
 
+from trial import built
 from desk_stream import PROGRAM, request, split_messages
 
 HERE = os.path.dirname(os.path.abspath(__file__))
@@ -263,7 +264,7 @@ SUBJECTS = {"fail": try_fail, "kill": try_kill, "locked": try_locked, "moved": t
 
 def main():
     words = sys.argv[1:]
-    program = os.path.abspath(words[0]) if words else PROGRAM
+    program = built(words[0] if words else PROGRAM)
     failed = 0
     for subject in words[1:] or SUBJECTS:
         begun = time.time()

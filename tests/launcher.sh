@@ -7,11 +7,9 @@
 #
 # PROGRAM is the built program, crates/partsbook/out/partsbook without the word. The status is 1 where something is otherwise.
 top=$(cd "$(dirname "$0")/.." && pwd) || exit 1
-program=$(realpath "${1:-$top/crates/partsbook/out/partsbook}") || exit 1
-[ -x "$program" ] || { echo "launcher: there is no program $program: ./build makes it" >&2; exit 1; }
+named=$1
+. "$top/tests/trial.sh"
 export PARTSBOOK_PROGRAM="$program"
-work=$(mktemp -d) || exit 1
-trap 'rm -rf "$work"' EXIT
 books=$top/examples
 failed=0
 tried=0
@@ -175,7 +173,7 @@ on_terminal() { # name, words..
     shift
     tried=$((tried + 1))
     echo 'sleep 4; read -r _' > "$work/$1"
-    (cd "$work" && { sleep 5; echo; } | PARTSBOOK_PROGRAM=$work/slow script -qefc "$top/partsbook $* < ${fed:-$books/estate.csv}" /dev/null > "$work/shown.$name" 2>&1) &
+    (cd "$work" && { sleep 8; echo; } | PARTSBOOK_PROGRAM=$work/slow script -qefc "$top/partsbook $* < ${fed:-$books/estate.csv}" /dev/null > "$work/shown.$name" 2>&1) &
 }
 shown() { # name, what
     tr '\r' '\n' < "$work/shown.$1" | grep -qF -- "$2" || { wrong "$1 on a terminal didn't show: $2"; tr '\r' '\n' < "$work/shown.$1" | sed 's/^/    /'; }
@@ -199,7 +197,7 @@ if command -v script > /dev/null; then
     shown changes 'changes of 3 slices and, in the next book, 4, 3 s'
     shown rejudge 'rejudge over 8 bytes, 3 s'
     shown desk 'desk over 8 bytes, 3 s'
-    shown desk 'the desk has started after 4 s'
+    shown desk 'the desk has started after '
     [ ! -s "$work/shown.quiet" ] || wrong "--quiet showed something on a terminal: $(cat "$work/shown.quiet")"
 else
     echo 'there is no script (util-linux): long work on a terminal was not tried'
@@ -261,6 +259,89 @@ printf 'GET /orders/1 HTTP/1.1\r\nhost: desk\r\nx-caller: ANNA\r\n\r\n' > "$work
 grep -q HTTP "$work/closed.journal" && wrong 'what was told is in the store'
 "$top/partsbook" --quiet desk "$work/closed.journal" <&- > "$work/found"
 [ $? = 4 ] || wrong 'a closed input has another status than 4'
+
+# Neither the launcher nor a tool takes the launcher for the program: by its own name, through a link, and as a copy.
+bare=$work/bare
+mkdir -p "$bare/crates"
+cp -r "$top/partsbook" "$top/tools" "$top/tests" "$top/examples" "$bare"
+ln -s "$top/partsbook" "$work/launcher"
+for name in "$top/partsbook" "$work/launcher" "$bare/partsbook"; do
+    tried=$((tried + 2))
+    (PARTSBOOK_PROGRAM=$name; out check; [ $? = 125 ]) || wrong "$name as its own program has another status"
+    said 'is the script that starts the program'
+    PARTSBOOK_PROGRAM=$name timeout 60 "$top/tools/report" < "$books/engine.csv" > "$work/found" 2> "$work/said" && wrong "a tool takes $name for the program"
+    said 'is a script'
+done
+
+# Without a program: what to do is said, nothing is built, and each trial and tool ends with one line and status 1.
+printf '#!/bin/sh\ntouch "%s"\n' "$work/built" > "$bare/build"
+chmod +x "$bare/build"
+without() { (unset PARTSBOOK_PROGRAM; timeout 60 "$@" < "$books/engine.csv" > "$work/found" 2> "$work/said"); }
+without "$bare/partsbook" check
+[ $? = 125 ] || wrong 'without a program the launcher has another status'
+said 'there is no program here yet'; said './build proves and builds it'
+[ ! -e "$work/built" ] || wrong 'the launcher builds'
+for trial in "$bare"/tests/*.py "$bare"/tests/*.sh "$bare"/tests/speed/*.py "$bare"/tools/*; do
+    given=
+    case ${trial#"$bare/"} in
+    tests/speed/measure.py) given='none none 1 1 1' ;;
+    tests/speed/serve.py | tests/speed/desks.py) given=none ;;
+    tools/compare) given="1 $books/engine.csv" ;;
+    tools/make-archive) given=$work ;;
+    # What they are without a program, and parts of the others.
+    tests/trial.* | tests/service.py | tests/desk_stream.py | tests/journal-rows.py | tests/wrong-bodies.py | tests/speed/draw_book.py | tests/speed/plot.py) continue ;;
+    tools/report) ;;
+    tools/*) continue ;;
+    esac
+    tried=$((tried + 1))
+    without "$trial" $given
+    status=$?
+    [ "$status" = 1 ] && [ "$(cat "$work/found" "$work/said" | wc -l)" = 1 ] && continue
+    wrong "${trial#"$bare/"} without a program: status $status"
+    cat "$work/found" "$work/said" | sed 's/^/    /'
+done
+
+# No trial leaves a process behind, nor a shell script its folder, whatever ends it.
+cat > "$work/left.py" <<'END'
+import subprocess, sys, time
+sys.path.insert(0, sys.argv[1] + "/tests")
+import trial
+left = subprocess.Popen(["sleep", sys.argv[3]])
+print("begun", flush=True)
+if sys.argv[2] == "exception":
+    raise ValueError
+time.sleep(100)
+END
+cat > "$work/left.sh" <<'END'
+top=$1 named=
+. "$top/tests/trial.sh"
+way=$2
+sleep "$3" &
+echo "$work"
+[ "$way" = exception ] && exit 7
+sleep 100
+END
+# As a command at a terminal: it takes SIGINT, which the keyboard sends to the group of processes.
+takes='import os, signal, sys; signal.signal(signal.SIGINT, signal.SIG_DFL); os.setpgid(0, 0); os.execvp(sys.argv[1], sys.argv[1:])'
+# Waits until a process with these words is there, or is gone.
+comes() { tries=100; while ! pgrep -f "^sleep $1" > /dev/null && [ $((tries -= 1)) -gt 0 ]; do sleep 0.1; done; }
+goes() { tries=100; while pgrep -f "^sleep $1" > /dev/null || [ -d "$2" ]; do [ $((tries -= 1)) -gt 0 ] || return; sleep 0.1; done; }
+for script in 'sh left.sh' 'python3 left.py'; do
+    for way in KILL TERM INT HUP exception; do
+        tried=$((tried + 1))
+        long=$((1000000 + $$)).$tried
+        (cd "$work" && exec python3 -c "$takes" $script "$top" "$way" "$long" > "$work/begun" 2> /dev/null) &
+        trial=$!
+        if [ "$way" != exception ]; then
+            comes "$long" || wrong "$script starts nothing"
+            [ "$way" = INT ] && ended=-$trial || ended=$trial
+            kill -s "$way" -- "$ended"
+        fi
+        wait "$trial" 2> /dev/null
+        [ -s "$work/begun" ] || wrong "$script doesn't begin"
+        goes "$long" "$(cat "$work/begun")" || wrong "$script, ended by $way, leaves a process or its folder behind"
+    done
+done
 
 # Through a link, in another folder, and help.
 ln -s "$top/partsbook" "$work/linked"

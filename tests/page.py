@@ -27,10 +27,10 @@ import time
 sys.dont_write_bytecode = True
 TOP = pathlib.Path(__file__).resolve().parent.parent
 sys.path.insert(0, str(TOP / "tools"))
+from trial import built
 from book_rows import read_records
-from program import find_program
 
-PROGRAM = os.environ.setdefault("PARTSBOOK_PROGRAM", find_program())
+PROGRAM = os.environ.setdefault("PARTSBOOK_PROGRAM", built())
 # Where the page and the books are: here, or in an archive that was unpacked (tests/archive.sh).
 HOME = pathlib.Path(os.environ.get("PAGES_FROM", TOP))
 EXAMPLES = HOME / "examples"

@@ -14,11 +14,10 @@
 # Where PAGES_FROM names a folder, pages are typed in copies of it, as of an archive that was unpacked (tests/archive.sh).
 # It needs curl, sqlite3, xxd, python3, soffice (LibreOffice) and haproxy, for the pages that use them.
 top=$(cd "$(dirname "$0")/.." && pwd) || exit 1
-program=$(realpath "${1:-$top/crates/partsbook/out/partsbook}") || exit 1
+named=$1
 [ $# -gt 0 ] && shift
-[ -x "$program" ] || { echo "pages: there is no program $program: ./build makes it" >&2; exit 1; }
+. "$top/tests/trial.sh"
 cd "$top" && [ $# -gt 0 ] || set -- README.md docs/*.md
-work=$(mktemp -d) || exit 1
 listeners=
 services=
 trap '[ -z "$listeners" ] || kill $listeners; rm -rf "$work"' EXIT

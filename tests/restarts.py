@@ -30,6 +30,7 @@ import tempfile
 import threading
 import time
 
+from trial import built
 from desk_stream import PROGRAM, TOP, example
 from service import ACCEPTED, PATIENCE, Service, free_port, kept_orders, must, try_subjects
 
@@ -249,7 +250,7 @@ def main():
     reader.add_argument("--restarts", type=int, default=100)
     reader.add_argument("--seed", type=int, default=1)
     reader.add_argument("--place", help="a folder on a disk, where stores are made")
-    reader.add_argument("program", nargs="?", default=PROGRAM)
+    reader.add_argument("program", nargs="?", default=PROGRAM, type=built)
     reader.add_argument("subject", nargs="*")
     return try_subjects(subjects, reader.parse_args())
 

@@ -35,6 +35,7 @@ import tempfile
 import threading
 import time
 
+from trial import built
 from desk_stream import PROGRAM, TOP, request, work_place
 from service import ACCEPTED, CODES, PATIENCE, Gone, Service, at_once, kept_orders, must, try_subjects
 
@@ -389,7 +390,7 @@ def main():
     reader.add_argument("--kills", type=int, default=25, help="of each kind of store, on a disk and in memory")
     reader.add_argument("--orders", type=int, default=100_000, help="placed in memory; a fiftieth of them on a disk")
     reader.add_argument("--place", help="a folder on a disk, where stores are made")
-    reader.add_argument("program", nargs="?", default=PROGRAM)
+    reader.add_argument("program", nargs="?", default=PROGRAM, type=built)
     reader.add_argument("subject", nargs="*")
     given = reader.parse_args()
     return try_subjects(subjects, given)

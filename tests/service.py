@@ -211,7 +211,7 @@ def try_subjects(subjects, given):
     for name in given.subject or subjects:
         begun = time.time()
         try:
-            told = subjects[name](os.path.abspath(given.program), given)
+            told = subjects[name](given.program, given)
             print(f"{name}: {told} ({time.time() - begun:.0f} s)", flush=True)
         except (Broken, NotWhole, subprocess.TimeoutExpired) as said:
             failed = 1

@@ -8,11 +8,9 @@
 # PROGRAM is the built program, crates/partsbook/out/partsbook without the word. It needs LibreOffice without a screen (of Debian
 # the package libreoffice-calc) and python3. It says what it did; the status is 1 where something comes back otherwise.
 top=$(cd "$(dirname "$0")/.." && pwd) || exit 1
-program=$(realpath "${1:-$top/crates/partsbook/out/partsbook}") || exit 1
-[ -x "$program" ] || { echo "spreadsheet: there is no program $program: ./build makes it" >&2; exit 1; }
+named=$1
+. "$top/tests/trial.sh"
 command -v soffice > /dev/null || { echo 'spreadsheet: there is no soffice, the command of LibreOffice' >&2; exit 1; }
-work=$(mktemp -d) || exit 1
-trap 'rm -rf "$work"' EXIT
 # A profile of its own, so that a LibreOffice that is open isn't touched.
 profile="-env:UserInstallation=file://$work/profile"
 failed=0

@@ -16,8 +16,8 @@ import subprocess
 import sys
 import tempfile
 
-TOP = os.path.dirname(os.path.dirname(os.path.abspath(__file__)))
-PROGRAM = os.path.join(TOP, "crates", "partsbook", "out", "partsbook")
+from trial import built
+
 MEMORY = 12 * 2 ** 30
 
 
@@ -65,7 +65,7 @@ def run(program, words, book):
 
 
 def main():
-    program = sys.argv[1] if len(sys.argv) > 1 else PROGRAM
+    program = built(sys.argv[1] if len(sys.argv) > 1 else None)
     passed = True
     print("book bytes check-status check-s check-MB supplements-status supplements-s supplements-MB wanted")
     for name, rows, limit in [("long", long_rules(), None), ("one", one_code(), None), ("pairs", pairs(), 3.0)]:

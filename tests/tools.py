@@ -25,12 +25,12 @@ import time
 sys.dont_write_bytecode = True
 TOP = pathlib.Path(__file__).resolve().parent.parent
 sys.path.insert(0, str(TOP / "tools"))
+from trial import built
 import stores
 from book_rows import read_records
-from program import find_program
 from stores import flat, journal_of, read_journal, tables_of
 
-PROGRAM = os.environ.setdefault("PARTSBOOK_PROGRAM", find_program())
+PROGRAM = os.environ.setdefault("PARTSBOOK_PROGRAM", built())
 # The books among the examples; beside them are requirements.
 BOOKS = sorted(path for path in (TOP / "examples").glob("*.csv") if path.read_bytes().startswith(b"book,"))
 failed = 0

@@ -6,7 +6,7 @@ code that is to be left beside those that stay, and with just the rules and code
 with all of these but one it doesn't. Of each finding of `check` without a set: `ask` names rules, with just these in the book the
 finding is there, and without any one of them it isn't. Books are those named, or examples/*.csv without those that check no slice.
 
-    tests/why-agrees.py PROGRAM [BOOK..]
+    tests/why-agrees.py [PROGRAM [BOOK..]]
 
 It ends with 1, and names the question, at the first one that doesn't agree.
 """
@@ -17,6 +17,8 @@ import pathlib
 import random
 import subprocess
 import sys
+
+from trial import built
 
 TOP = pathlib.Path(__file__).resolve().parent.parent
 ORDERS = 12
@@ -109,7 +111,7 @@ def try_findings(program, name, rows, book):
 
 
 def main():
-    program, *books = sys.argv[1:]
+    program, books = built(*sys.argv[1:2]), sys.argv[2:]
     tried = 0
     for path in books or sorted(path for path in TOP.glob("examples/*.csv") if path.read_bytes().startswith(b"book,")):
         book = pathlib.Path(path).read_bytes().decode("utf-8-sig")

@@ -2,6 +2,7 @@
 commands are, and on the few lines that read what it said."""
 
 import os
+import shutil
 import subprocess
 import sys
 import tempfile
@@ -9,25 +10,46 @@ import tempfile
 TOP = os.path.dirname(os.path.dirname(os.path.realpath(__file__)))
 # The environment of a program that a tool runs: a setting for large checks, as the launcher has it.
 TUNED = {**os.environ, "GLIBC_TUNABLES": "glibc.malloc.mmap_threshold=131072"}
+# What a program is run under so that it ends with the tool, where the system has it.
+UNDER = ["setpriv", "--pdeathsig", "TERM"] if shutil.which("setpriv") else []
 
 
 class Refused(Exception):
     """What a tool says to its user in place of a result."""
 
 
-def find_program():
-    """The program that the environment names, or that of an archive, of a clone, or of a folder that has both."""
-    places = [os.environ.get("PARTSBOOK_PROGRAM")]
-    places += [os.path.join(TOP, *p) for p in (("libexec", "partsbook"), ("crates", "partsbook", "out", "partsbook"), ("partsbook",))]
+def is_program(path):
+    """Whether a file can be run and is no script: a tool that took the launcher for the program would start it without end."""
+    if not (os.path.isfile(path) and os.access(path, os.X_OK)):
+        return False
+    with open(path, "rb") as file:
+        return file.read(2) != b"#!"
+
+
+def find_program(named=None):
+    """The program that is named here or in the environment, or else that of an archive, of a clone, or of a folder which has the
+    program and the tools side by side."""
+    named = named or os.environ.get("PARTSBOOK_PROGRAM")
+    if named:
+        if not os.path.isfile(named):
+            raise Refused(f"there is no program {named}: ./build makes it")
+        if not is_program(named):
+            raise Refused(f"{named} is a script, or can't be run, and is not the program")
+        return os.path.abspath(named)
+    places = [os.path.join(TOP, "libexec", "partsbook"), os.path.join(TOP, "crates", "partsbook", "out", "partsbook")]
+    # In a clone the file beside the tools is the launcher.
+    if not os.path.isdir(os.path.join(TOP, "crates")):
+        places.append(os.path.join(TOP, "partsbook"))
     for place in places:
-        if place and os.access(place, os.X_OK):
+        if is_program(place):
             return place
     raise Refused("there is no program: ./build makes it")
 
 
 def run(words, text=b""):
-    """The status of the program with these words, and what it wrote."""
-    done = subprocess.run([find_program(), *words], input=text, stdout=subprocess.PIPE, env=TUNED, check=False)
+    """The status of the program with these words, and what it wrote. Where the tool is ended the program ends with it."""
+    called = [*UNDER, find_program(), *words]
+    done = subprocess.run(called, input=text, stdout=subprocess.PIPE, env=TUNED, check=False)
     return done.returncode, done.stdout
 
 

@@ -16,7 +16,8 @@ import pathlib
 import sys
 import tempfile
 
-sys.path.insert(0, str(pathlib.Path(__file__).resolve().parent))
+sys.path[:0] = map(str, pathlib.Path(__file__).resolve().parents[:2])
+from trial import built
 from draw_book import Drawn
 from measure import request, run
 
@@ -81,4 +82,4 @@ def main(program, codes=400, slices=5, count=4000):
 if __name__ == "__main__":
     if len(sys.argv) not in (2, 5):
         sys.exit(__doc__)
-    main(os.path.abspath(sys.argv[1]), *map(int, sys.argv[2:]))
+    main(built(sys.argv[1]), *map(int, sys.argv[2:]))

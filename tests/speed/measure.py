@@ -22,7 +22,8 @@ import subprocess
 import sys
 import tempfile
 
-sys.path.insert(0, str(pathlib.Path(__file__).resolve().parent))
+sys.path[:0] = map(str, pathlib.Path(__file__).resolve().parents[:2])
+from trial import built
 from draw_book import Drawn
 
 ORDERS = 1000
@@ -157,4 +158,4 @@ def main(program, numbers, codes, slices, runs=5):
 if __name__ == "__main__":
     if not 5 <= len(sys.argv) <= 6:
         sys.exit(__doc__)
-    main(os.path.abspath(sys.argv[1]), sys.argv[2], *map(int, sys.argv[3:]))
+    main(built(sys.argv[1]), sys.argv[2], *map(int, sys.argv[3:]))

@@ -22,8 +22,8 @@ import time
 
 sys.dont_write_bytecode = True
 HERE = pathlib.Path(__file__).resolve().parent
-sys.path.insert(0, str(HERE.parent.parent / "tools"))
-from program import find_program
+sys.path.insert(0, str(HERE.parent))
+from trial import built
 
 BOOKS = [(400, 26, 50), (1000, 26, 125), (2000, 26, 250)]
 
@@ -34,7 +34,7 @@ class Service:
             it.bind(("127.0.0.1", 0))
             self.port = it.getsockname()[1]
         begun = time.monotonic()
-        words = [find_program(), "serve", store, str(self.port), "1", "100000"]
+        words = [built(), "serve", store, str(self.port), "1", "100000"]
         self.process = subprocess.Popen(words, stdin=subprocess.DEVNULL, stdout=subprocess.DEVNULL)
         while self.listening() != 0:
             if time.monotonic() - begun > 1800 or self.process.poll() is not None:

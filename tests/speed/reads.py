@@ -24,6 +24,7 @@ import time
 sys.dont_write_bytecode = True
 HERE = pathlib.Path(__file__).resolve().parent
 sys.path.insert(0, str(HERE.parent))
+from trial import built
 from desk_stream import PROGRAM, example
 from service import CODES, PATIENCE, Service, must
 
@@ -81,13 +82,13 @@ def main():
     reader = argparse.ArgumentParser()
     reader.add_argument("--seconds", type=int, default=5)
     reader.add_argument("--place")
-    reader.add_argument("program", nargs="?", default=PROGRAM)
+    reader.add_argument("program", nargs="?", default=PROGRAM, type=built)
     reader.add_argument("drawn", nargs="*", type=int, default=[1000, 26, 125])
     given = reader.parse_args()
     drawn = [sys.executable, HERE / "draw_book.py", *map(str, (*given.drawn, 1))]
     text = subprocess.run(drawn, stdout=subprocess.PIPE, check=True).stdout
     with tempfile.TemporaryDirectory(dir=given.place) as folder:
-        with Service(os.path.abspath(given.program), os.path.join(folder, "desk.journal"), WORKERS, 1_000) as service:
+        with Service(given.program, os.path.join(folder, "desk.journal"), WORKERS, 1_000) as service:
             link = linked(service)
             for draft, book in (("T", example("engine.csv")), ("L", text)):
                 must("a draft", ask(link, "PUT", f"/drafts/{draft}", book)[0] == 201)

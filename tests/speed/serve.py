@@ -27,6 +27,7 @@ import tempfile
 import time
 
 sys.path.insert(0, str(pathlib.Path(__file__).resolve().parents[1]))
+from trial import built
 from desk_stream import request, work_place
 from service import CODES, Service, at_once
 
@@ -154,9 +155,9 @@ def main():
     reader.add_argument("--runs", type=int, default=5)
     reader.add_argument("--place")
     reader.add_argument("--only")
-    reader.add_argument("programs", nargs="+")
+    reader.add_argument("programs", nargs="+", type=built)
     given = reader.parse_args()
-    programs = [os.path.abspath(program) for program in given.programs]
+    programs = given.programs
     os.chdir(pathlib.Path(__file__).resolve().parents[2])
     wanted = [given.only] if given.only else ["reads", "workers", "links", "orders", "counted"]
     if "reads" in wanted:
