@@ -1,6 +1,6 @@
 #!/bin/sh
 # Tries the pages: types each command that README.md and docs/*.md show, and compares what comes out with what stands below it;
-# and looks whether docs/WRONG-BODIES.md and the books among the cases of worked_runs are those that are there.
+# and looks whether each wrong body is told of (tests/wrong-bodies.py), and the books among the cases of worked_runs are those that are there.
 #
 #   tests/pages.sh [PROGRAM [PAGE..]]
 #

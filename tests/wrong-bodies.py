@@ -1,18 +1,18 @@
 #!/usr/bin/env python3
-"""Writes docs/WRONG-BODIES.md: the wrong bodies that the gate tries, by name in plain words, from the edits in
-crates/*/must-fail, the order of crates.txt, and for each edit a line of this script.
+"""Lists the wrong bodies that the gate tries, by name in plain words: the edits in crates/*/must-fail in the order of crates.txt,
+and for each what it would do, by a line of this script.
 
-    tests/wrong-bodies.py          writes the page
-    tests/wrong-bodies.py --check  ends with 1, and names the page, where it isn't what the edits say
+    tests/wrong-bodies.py          writes tests/WRONG-BODIES.md, which is not kept
+    tests/wrong-bodies.py --check  ends with 1, and says which, where an edit has no line here or a line no edit
 """
 
 import pathlib
 import sys
 
 TOP = pathlib.Path(__file__).resolve().parent.parent
-PAGE = TOP / "docs" / "WRONG-BODIES.md"
+PAGE = TOP / "tests" / "WRONG-BODIES.md"
 
-# What the changed code would do. An edit that has no line here is shown by its name alone.
+# What the changed code would do.
 WOULD = {
     "a_set_of_another_day": "a car of one day would be told for a question of another",
     "a_set_that_shows_nothing": "a question would be told as answered by a car that doesn't show it",
@@ -44,10 +44,6 @@ WOULD = {
     "no_order_where_a_search_was_left": "a day would be told to have no car though the search for one was given up",
     "none_told_where_the_search_was_left": "rules would be told as to blame though a car may meet the rule",
     "a_code_left_out_where_the_search_was_left": "a code of an order would be told to be left out though it may stay",
-    "a_leaf_under_a_not_forgotten": "a formula read with a code as present would be read without it where it stands under a not",
-    "two_codes_renamed_to_one": "two codes of one book would be taken for the same code of the other",
-    "a_gate_one_clause_off": "the layout of a slice would name another clause than the one that ties a variable",
-    "a_start_one_clause_off": "the layout of a slice would begin a record at the clause of another one",
     "equal_parts_with_another_quantity": "a car that gets two of a part would count as one that gets one of it",
     "positions_of_the_second_book_left_out": "a part at a place that only the other book knows would be overlooked",
     "codes_of_one_book_left_free": "a car would be shown that one of the two books can't order",
@@ -58,7 +54,6 @@ WOULD = {
     "a_run_over_days_of_one_book_alone": "days would be compared that are in the term of one book alone",
     "cars_that_are_won_are_those_lost": "the cars that the next book loses would be told as won",
     "pairs_joined_over_a_run_that_differs": "days would be told to change like others though something else changes on them",
-    "the_first_book_compared_with_itself": "nothing would ever be told to change with the next book",
     "days_joined_over_one_that_differs": "an order would be told to come to the same on days on which it comes to something else",
     "told_beside_the_run_before": "after days on which an order is refused, all its codes would be told as if they had changed",
     "judged_by_a_released_book": "what kept orders come to by a draft would be told of a book that is already released",
@@ -68,7 +63,6 @@ WOULD = {
     "passes_that_are_split_with_a_step_too_many": "workers would be promised more steps than the run has",
     "the_end_of_the_last_worker_alone_is_told": "a port that failed would go unsaid where a later one ended well",
     "a_session_that_goes_on_after_a_failed_write": "a call would have its effect after a response that could not be written, and nobody would be told of it",
-    "a_failed_accept_told_as_the_end": "a service that can take no more connections would end as if all had been served",
     "another_port": "a service would listen at another port than the words name, and its callers would find nobody",
     "a_chain_without_its_last_part": "a rule that breaks cars by the last part of its formula alone would go unsaid",
     "a_finding_of_another_slice": "a rule that breaks cars would be told with the days of another slice",
@@ -114,7 +108,6 @@ WOULD = {
     "a_book_written_before_the_growth": "a book could be in the store that the desk has no room for, so that the two differ",
     "a_repeated_order_under_the_newest_book": "an order that is sent again would be answered by another book than the one that accepted it",
     "a_load_before_a_put": "each new order would wait until all rows of the store were read",
-    "undecided_is_done": "a check that left questions open would end with the status of a book that can be released",
     "a_read_fault_of_a_desk_told_as_done": "a desk whose connection broke would end as if all were answered",
     "a_service_that_takes_no_link": "a service would end without having taken a connection, and tell what its store had at the start",
     "every_service_told_as_a_door_fault": "a service that has served all its connections would end as if its port had failed",
@@ -122,7 +115,7 @@ WOULD = {
 
 HEAD = """# Wrong bodies that have to be refused
 
-A contract that is too weak would let wrong code pass. So the gate changes the code at a few places, in the ways that would do harm, and the prover has to refuse each change. A wrong body is an edit in the folder `must-fail` of a crate; `rt must-fail NAME` tries those of one crate. At most four stand in a crate, those that nothing else tells (docs/DECISIONS.md, "Proof and gate"). `tests/wrong-bodies.py` makes this page from them.
+A contract that is too weak would let wrong code pass. So the gate changes the code at a few places, in the ways that would do harm, and the prover has to refuse each change. A wrong body is an edit in the folder `must-fail` of a crate; `rt must-fail NAME` tries those of one crate. `tests/wrong-bodies.py` makes this list from them.
 """
 
 
@@ -151,9 +144,18 @@ def page():
     return "\n".join([HEAD, sums, *table, *(row for part in parts for row in part)]) + "\n"
 
 
+def check():
+    """Ends with 1 where an edit has no line above, or a line no edit."""
+    edits = {edit.stem for edit in TOP.glob("crates/*/must-fail/*.edit")}
+    faults = [f"the wrong body {name} has no line" for name in sorted(edits - set(WOULD))]
+    faults += [f"the line {name} has no wrong body" for name in sorted(set(WOULD) - edits)]
+    for fault in faults:
+        print(f"tests/wrong-bodies.py: {fault}")
+    sys.exit(1 if faults else 0)
+
+
 if sys.argv[1:] == ["--check"]:
-    if PAGE.read_text() != page():
-        sys.exit(f"{PAGE.relative_to(TOP)} isn't what the edits say: tests/wrong-bodies.py makes it again")
+    check()
 elif sys.argv[1:]:
     sys.exit(__doc__)
 else:
