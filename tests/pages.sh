@@ -8,7 +8,7 @@
 # of its own, which has `partsbook`, `tools` and `examples` and nothing else at first. A command is a line of a block (between ```) that
 # begins with `$ `; what follows it, up to the next one or the end of the block, has to be its standard output. There `..` on a
 # line of its own stands for any lines, and blank lines at the end and the CR of lines that end in CR LF don't count.
-# Nothing may stand on standard error (see `said_of`), and the status has to be that which docs/COMMANDS.md has for what was
+# Nothing may stand on standard error (see `said_of`), and the status has to be that which tools/help.txt has for what was
 # written, or 0 of other programs (see `due_status`). Commands of the tools that prove and build (see `is_left_out`) are not
 # typed. The status is 1 where a page differs.
 # Where PAGES_FROM names a folder, pages are typed in copies of it, as of an archive that was unpacked (tests/archive.sh).
@@ -76,7 +76,7 @@ last_call() { # text
     } END { sub(/^ */, "", call); print call }'
 }
 
-# The status that docs/COMMANDS.md has for a text of the program.
+# The status that tools/help.txt has for a text of the program.
 status_of_text() { # call, text
     awk -v call="$1" '
         { sub(/\r$/, "") }
