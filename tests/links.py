@@ -17,6 +17,8 @@ MOST_WORDS = 30000
 # A page, and the headings that are cited of it: docs/HTTP.md, "Orders", "Books".
 PAGE = re.compile(r'(?<![\w$/-])((?:[a-z_]+/)*[A-Za-z-]+\.md)((?:(?:,| and) "[^"]+")*)')
 OWN = re.compile(r'"([^"]+)", (?:below|above)')
+# The short names of pages in docs/ANSWERS.md.
+SHORT = re.compile(r'(?<=: )([A-Z][A-Z-]+)(?=,? ["|])')
 LINK = re.compile(r"\]\(([^)#:\s]+)\)")
 # A line's end within a comment or a paragraph.
 WRAP = re.compile(r"\n[ \t]*(?://[/!]?|#|--)?[ \t]*")
@@ -56,6 +58,8 @@ def page_of(name, cited):
 
 def faults_of(name, text):
     flat = WRAP.sub(" ", text)
+    if name == "docs/ANSWERS.md":
+        flat = SHORT.sub(r"docs/\1.md", flat)
     for cited, parts in PAGE.findall(flat):
         page = page_of(name, cited)
         if page is None:
