@@ -35,7 +35,7 @@ def proved(lines):
         if len(row) != 2:
             inside = False
         elif row[0]:
-            inside = row[0] == "Proved"
+            inside = row[0].startswith("Proved")
         if inside:
             found.append(row[1])
     return "; ".join(found)
