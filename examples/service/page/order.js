@@ -6,10 +6,16 @@ import { button, days, el, name, put, say, text, working } from "/page/parts.js"
 
 const SHOWN = { ordered: "ordered", excluded: "not possible", comes: "comes by itself", left: "undecided", open: "" };
 
-// What is being ordered, and what the desk said of it last.
-const now = { books: [], number: null, book: null, day: null, codes: [], free: null, why: null, asked: 0, placed: null, wanted: null };
+// What is being ordered, and what the desk said of it last. Where no car has all chosen codes, `gone` are those that clash and those
+// that would have to go, and the states shown are for the others. `instead` has for a group with a chosen code what could stand in
+// its place, and `known` what the desk said of further questions about this book and day.
+const now = {
+  books: [], number: null, book: null, day: null, codes: [], gone: [], free: null, why: null, asked: 0, answered: 0, placed: null, wanted: null,
+  instead: new Map(), known: new Map(),
+};
 const texts = new Map();
 const options = new Map();
+const boxes = new Map();
 const place = {};
 let table = { byDate: new Map(), byDay: new Map() };
 
@@ -76,6 +82,7 @@ async function chooseDay(word) {
   place.day.removeAttribute("aria-invalid");
   now.day = +word;
   now.placed = null;
+  now.known.clear();
   place.day.value = now.day;
   place.date.value = table.byDay.get(now.day) ?? "";
   drawChoices();
@@ -95,16 +102,75 @@ async function refresh(said = "") {
   const [free, why] = await Promise.all([ask("POST", `/books/${now.number}/free`, body), ask("POST", `/books/${now.number}/why`, body)]);
   if (asked !== now.asked) return;
   const bad = [free, why].find((answer) => !answer.good);
+  now.instead.clear();
+  now.gone = [];
   if (bad) {
     now.free = now.why = null;
     say(trouble(bad), true);
   } else {
     now.free = readFree(free);
     now.why = readWhy(why);
+    if (now.free.kind === "none") await keepWhatStays(asked);
+    if (asked !== now.asked) return;
     say(said, false, true);
   }
+  now.answered = asked;
   drawStates();
   await drawOrder();
+  await askInstead();
+}
+
+// Where no car has all chosen codes: what can be chosen beside those that stay.
+async function keepWhatStays(asked) {
+  const gone = now.codes.filter((code) => now.why.leave.includes(code) || now.why.clash?.codes.includes(code));
+  if (gone.length === 0) return;
+  const free = await askFree(now.codes.filter((code) => !gone.includes(code)));
+  if (asked === now.asked && free !== null) Object.assign(now, { gone, free });
+}
+
+// What the desk says of these codes of this book and day; each question is asked once.
+async function askFree(codes) {
+  const key = [...codes].sort().join("+");
+  const { known, number, day } = now;
+  if (!known.has(key)) {
+    const answer = await ask("POST", `/books/${number}/free`, { day, codes });
+    if (!answer.good) return null;
+    known.set(key, readFree(answer));
+  }
+  return known.get(key);
+}
+
+// For each group that can be seen and has a chosen code: which of its codes could stand in the place of that one. One question at a
+// time, and none after a further choice.
+let asking = null;
+
+async function askInstead() {
+  const asked = now.asked;
+  if (asking === asked || now.answered !== asked) return;
+  asking = asked;
+  for (let group; asked === now.asked && (group = nextInstead()) !== undefined;) {
+    now.instead.set(group.id, new Map());
+    const free = await askFree(staying().filter((code) => !group.codes.includes(code)));
+    if (asked !== now.asked) return;
+    if (free === null) break;
+    now.instead.set(group.id, free.states);
+    group.codes.forEach(drawState);
+  }
+  if (asking === asked) asking = null;
+}
+
+function nextInstead() {
+  if (now.free === null) return undefined;
+  return [...boxes.values()].filter((it) => it.seen && !now.instead.has(it.group.id)).map((it) => it.group)
+    .find((group) => chosenOf(group).length > 0 && group.codes.some((code) => now.free.states.get(code) === "excluded"));
+}
+
+function staying() {
+  return now.codes.filter((code) => !now.gone.includes(code));
+}
+
+function chosenOf(group) {
+  return now.codes.filter((code) => group.codes.includes(code));
 }
 
 function change(codes, said) {
@@ -115,22 +181,38 @@ function change(codes, said) {
 
 // The choices: a box for each group, in two columns of about as many codes, and one for the codes that are in none.
 
+// Which boxes can be seen: the desk is asked about no others what could stand in the place of a chosen code.
+const sight = new IntersectionObserver((entries) => {
+  for (const { target, isIntersecting } of entries) {
+    const box = boxes.get(target.dataset.group);
+    if (box !== undefined) box.seen = isIntersecting;
+  }
+  askInstead();
+});
+
 function drawChoices() {
   const { groups, rest } = now.book.groupsOn(now.day);
   options.clear();
+  boxes.clear();
+  sight.disconnect();
   const halves = [[], []];
   let before = 0;
   for (const group of groups) {
     const title = el("span", null, group.kind === "one" ? "Exactly one" : "At most one", " ", el("span", { class: "id" }, group.id));
-    halves[before * 2 < now.book.codes.length - rest.length ? 0 : 1].push(choice(group.codes, "", title));
+    const box = choice(group.codes, "", title, group.id);
+    boxes.set(group.id, { group, box, seen: false });
+    for (const code of group.codes) options.get(code).group = group;
+    halves[before * 2 < now.book.codes.length - rest.length ? 0 : 1].push(box);
     before += group.codes.length;
   }
   put(place.choices, halves.map((half) => (half.length > 0 ? el("div", { class: "half" }, half) : null)),
     rest.length > 0 ? choice(rest, "rest", groups.length > 0 ? "Further codes" : "Codes") : null);
+  for (const { box } of boxes.values()) sight.observe(box);
 }
 
-function choice(codes, kind, title) {
-  return el("fieldset", { class: `card ${kind}`, onkeydown: walk }, el("legend", null, title), el("ul", { class: "options" }, codes.map(option)));
+function choice(codes, kind, title, group = null) {
+  return el("fieldset", { class: `card ${kind}`, onkeydown: walk, "data-group": group, id: group === null ? null : `group-${group}`, tabindex: group === null ? null : -1 },
+    el("legend", null, title), el("ul", { class: "options" }, codes.map(option)));
 }
 
 function option(code) {
@@ -148,46 +230,74 @@ function walk(event) {
   const step = { ArrowDown: 1, ArrowUp: -1 }[event.key];
   if (step === undefined || event.target.type !== "checkbox") return;
   event.preventDefault();
-  const boxes = [...place.choices.querySelectorAll("input[type=checkbox]")];
-  boxes[boxes.indexOf(event.target) + step]?.focus();
+  const all = [...place.choices.querySelectorAll("input[type=checkbox]")].filter((box) => box.checkVisibility());
+  all[all.indexOf(event.target) + step]?.focus();
 }
 
+// The state of a code: that of the desk, or `instead` where it could stand in the place of what is chosen of its group.
 function stateOf(code) {
   if (now.codes.includes(code)) return "ordered";
-  return now.free?.states.get(code) ?? "unknown";
+  const state = now.free?.states.get(code) ?? "unknown";
+  const { group } = options.get(code) ?? {};
+  const chosen = group === undefined ? [] : chosenOf(group);
+  if (chosen.length === 0) return state;
+  // What is chosen of the group clashes, and is not among what the states are for.
+  if (chosen.every((other) => now.gone.includes(other))) return state === "excluded" ? state : "instead";
+  if (state !== "excluded") return state;
+  const without = now.instead.get(group.id)?.get(code);
+  return without === undefined ? "unasked" : without === "excluded" ? state : "instead";
 }
 
 function wordOf(code, state) {
+  if (state === "ordered" && now.gone.includes(code)) return "ordered, clashes";
   if (state === "forced") return now.why.adds.has(code) ? "comes along" : "needed";
+  if (state === "instead") return `instead of ${chosenOf(options.get(code).group).join(", ")}`;
   return SHOWN[state] ?? "";
 }
 
 function drawStates() {
-  for (const [code, { box, state, reason, row }] of options) {
-    const it = stateOf(code);
-    row.dataset.state = it;
-    box.checked = it === "ordered" || it === "forced";
-    box.setAttribute("aria-disabled", it === "forced" || it === "excluded" ? "true" : "false");
-    put(state, wordOf(code, it));
-    reason.hidden = true;
-    put(reason);
+  for (const code of options.keys()) drawState(code);
+}
+
+function drawState(code) {
+  const it = options.get(code);
+  const state = stateOf(code);
+  const shown = wordOf(code, state);
+  if (it.reason.hasChildNodes()) {
+    it.reason.hidden = true;
+    put(it.reason);
   }
+  it.box.checked = state === "ordered" || state === "forced";
+  if (it.shown === `${state} ${shown}`) return;
+  it.shown = `${state} ${shown}`;
+  it.row.dataset.state = state;
+  it.row.classList.toggle("clashes", state === "ordered" && now.gone.includes(code));
+  it.box.setAttribute("aria-disabled", state === "forced" || state === "excluded" ? "true" : "false");
+  put(it.state, shown);
 }
 
 function clicked(event, code) {
   const state = stateOf(code);
   if (state === "ordered") return change(now.codes.filter((other) => other !== code), `${code} is left out.`);
-  if (state === "forced" || state === "excluded") {
+  if (state === "forced" || state === "excluded" || state === "unasked") {
     event.preventDefault();
     return state === "forced" ? showForced(code) : showExcluded(code);
   }
+  if (state === "instead") return exchange(code, chosenOf(options.get(code).group));
   return change([...now.codes, code], `${code} is ordered.`);
+}
+
+// A code in the place of others.
+function exchange(code, others) {
+  const at = now.codes.indexOf(others[0]);
+  const kept = now.codes.filter((other) => !others.includes(other));
+  return change([...kept.slice(0, at), code, ...kept.slice(at)], `${code} is ordered in place of ${others.join(" and ")}.`);
 }
 
 function showReason(code, ...children) {
   for (const [other, { reason }] of options) {
     reason.hidden = other !== code;
-    put(reason, other === code ? children : []);
+    if (other === code || reason.hasChildNodes()) put(reason, other === code ? children : []);
   }
   say(options.get(code).reason.textContent, false, true);
 }
@@ -196,7 +306,8 @@ function showForced(code) {
   const rule = now.why.adds.get(code);
   if (rule !== undefined) return showReason(code, el("p", null, "It comes along ", now.book.rule(rule, true), "."));
   return showReason(code,
-    el("p", null, "Every car that is left has it, and it doesn't come by itself. Without it: ", outcome(now.why.outcome), "."),
+    now.gone.length > 0 ? el("p", null, "Each car with the codes that don't clash has it.")
+      : el("p", null, "Every car that is left has it, and it doesn't come by itself. Without it: ", outcome(now.why.outcome), "."),
     button(`Order ${code}`, () => take([...now.codes, code], `${code} is ordered.`, code)));
 }
 
@@ -206,11 +317,9 @@ async function showExcluded(code) {
   if (!answer.good) return say(trouble(answer), true);
   const why = readWhy(answer);
   const kept = now.codes.filter((other) => !why.leave.includes(other));
-  const group = now.book.groupsOn(now.day).groups.find((it) => it.codes.includes(code));
+  const { group } = options.get(code);
   const possible = !why.leave.includes(code) && !why.noOrder && !why.undecided && why.leave.length > 0;
-  if (possible && group !== undefined && why.leave.every((other) => group.codes.includes(other))) {
-    return change([...kept, code], `${code} is ordered in place of ${why.leave.join(" and ")}.`);
-  }
+  if (possible && group !== undefined && why.leave.every((other) => group.codes.includes(other))) return exchange(code, why.leave);
   return showReason(code, why.undecided ? el("p", null, "The desk couldn't decide why.") : clash(why, code),
     possible ? el("p", null, "With it, ", list(why.leave, "and"), why.leave.length === 1 ? " has to go." : " have to go.") : null,
     possible ? button(`Order ${code} without ${why.leave.join(", ")}`, () => take([...kept, code], `${code} is ordered, without ${why.leave.join(" and ")}.`, code)) : null);
@@ -255,7 +364,8 @@ async function drawOrder() {
 
 function codesPart() {
   if (now.codes.length === 0) return el("p", { class: "soft" }, "Nothing is chosen yet.");
-  return el("ul", { class: "chosen" }, now.codes.map((code) => el("li", null, now.book.code(code),
+  return el("ul", { class: "chosen" }, now.codes.map((code) => el("li", now.gone.includes(code) ? { class: "clashes" } : null,
+    el("span", null, now.book.code(code), now.gone.includes(code) ? el("strong", { class: "mark" }, now.why.clash?.codes.includes(code) ? " clashes" : " would have to go") : null),
     button("×", () => dropped(code), { class: "close", "aria-label": `Leave ${code} out` }))));
 }
 
@@ -279,6 +389,7 @@ function verdict() {
   return el("div", { class: "verdict no" },
     el("p", null, el("strong", null, "Not yet: "), outcome(why.outcome), "."),
     clash(why),
+    now.gone.length === 0 ? null : el("p", null, staying().length === 0 ? "The choices are shown for no code." : ["The choices are shown for ", list(staying(), "and"), "."]),
     why.undecided ? el("p", null, "The desk couldn't decide how it would be accepted.") : null,
     why.leave.length > 0 ? el("p", null, "Leave out ", list(why.leave, "and"), ".") : null,
     why.add.length > 0 ? el("p", null, why.leave.length > 0 ? "Then add " : "It would be accepted with ", list(why.add, "and"), "; others may do as well.") : null,
