@@ -82,6 +82,7 @@ export class Book {
     }
     const [, title, first, last] = this.records[0] ?? [];
     Object.assign(this, { title, first: +first, last: +last });
+    this.names = new Map();
     this.codes = this.records.filter((fields) => fields[0] === "code").map((fields) => fields[1]);
   }
 
@@ -98,7 +99,7 @@ export class Book {
     return fields[FIELDS[fields[0]].indexOf(wanted) + 1] ?? "";
   }
 
-  // The groups that count on a day, each with those of its codes that no earlier one has; and the codes that are in none.
+  // The groups that count on a day, each with those of its codes that no earlier one has, and with all; and the codes that are in none.
   groupsOn(day) {
     const seen = new Set();
     const groups = [];
@@ -109,7 +110,7 @@ export class Book {
       if ((from !== "" && day < +from) || (until !== "" && day > +until)) continue;
       const codes = fields[3].split("/").filter((code) => !seen.has(code));
       codes.forEach((code) => seen.add(code));
-      if (codes.length > 0) groups.push({ id: fields[1], kind: fields[2], codes });
+      if (codes.length > 0) groups.push({ id: fields[1], kind: fields[2], codes, all: fields[3].split("/") });
     }
     return { groups, rest: this.codes.filter((code) => !seen.has(code)) };
   }
@@ -130,10 +131,26 @@ export class Book {
 
   ruleWords(fields) {
     const formula = this.field(fields, "RULE");
-    if (fields[0] === "group") return `${fields[2] === "one" ? "exactly one of" : "at most one of"} ${fields[3].replaceAll("/", ", ")}`;
+    if (fields[0] === "group") return this.groupWords(fields[2], fields[3].split("/"));
     if (fields[0] === "supplement") return `${fields[3]} comes along ${whenWords(formula)}`;
     if (/^\s*FALSE\s*;?\s*$/.test(formula)) return fields[2] === "*" ? "nothing can be ordered" : `${fields[2]} can't be ordered`;
     return fields[2] === "*" ? `every car needs ${inWords(formula)}` : `${fields[2]} needs ${inWords(formula)}`;
+  }
+
+  groupWords(kind, codes) {
+    const some = codes.length > 8 ? [...codes.slice(0, 8), "…"] : codes;
+    return [kind === "one" ? "exactly one of " : "at most one of ", some.map((code, at) => [at > 0 ? ", " : null, code === "…" ? code : this.code(code)]),
+      kind === "one" ? " has to be chosen" : " can be chosen"];
+  }
+
+  // A name for a group, which the format has none for: what the texts of its codes share, or else the first of them.
+  groupName({ id, all }) {
+    if (!this.names.has(id)) {
+      const said = all.map((code) => this.textOf("code", code)).filter((words) => words !== "");
+      const heads = all.map((code) => this.textOf("code", code).split(/[,(]/)[0].trim().slice(0, 40) || code);
+      this.names.set(id, sharedWords(said) || `${heads.slice(0, 2).join(", ")}${heads.length > 2 ? ", …" : ""}`);
+    }
+    return el("span", null, text(this.names.get(id)), " ", el("span", { class: "id" }, id));
   }
 
   ruleDays(fields) {
@@ -145,6 +162,27 @@ export class Book {
 
 function whenWords(formula) {
   return /^\s*TRUE\s*;?\s*$/.test(formula) ? "always" : `with ${inWords(formula)}`;
+}
+
+// The longest run of words that all of these texts have, or else more than half of them.
+function sharedWords(texts) {
+  const words = texts.map((said) => (said.match(/[\p{L}\p{N}][\p{L}\p{N}'’.-]*/gu) ?? []).slice(0, 8));
+  const joined = words.map((some) => ` ${some.join(" ").toLowerCase()} `);
+  for (const least of [texts.length, Math.floor(texts.length / 2) + 1]) {
+    let best = [];
+    for (const some of words.slice(0, texts.length - least + 1)) {
+      for (let from = 0; from < some.length; from += 1) {
+        for (let until = from + best.length + 1; until <= some.length; until += 1) {
+          const run = some.slice(from, until);
+          const wanted = ` ${run.join(" ").toLowerCase()} `;
+          if (least < 2 || joined.filter((other) => other.includes(wanted)).length < least) break;
+          if (/\p{L}{3}/u.test(run[0]) && /\p{L}{3}/u.test(run.at(-1))) best = run;
+        }
+      }
+    }
+    if (best.length > 0) return best.join(" ");
+  }
+  return "";
 }
 
 // A formula with words for its signs; brackets stay.

@@ -358,8 +358,9 @@ async function drawOrder() {
   const asked = now.asked;
   const last = now.why?.outcome[0] === "accepted" && now.placed === null ? await placing(number) : now.placed;
   if (asked !== now.asked) return;
-  put(place.order, el("h2", { id: "summary-title" }, "Your order"), codesPart(), now.placed === null ? verdict() : null, last, addedPart());
-  drawBar();
+  const open = stillToChoose();
+  put(place.order, el("h2", { id: "summary-title" }, "Your order"), codesPart(), now.placed === null ? [verdict(open), openPart(open)] : null, last, addedPart());
+  drawBar(open);
 }
 
 function codesPart() {
@@ -380,28 +381,70 @@ function addedPart() {
     el("ul", { class: "chosen" }, [...now.why.adds].map(([code, rule]) => el("li", null, el("span", null, now.book.code(code), el("br"), el("small", { class: "soft" }, now.book.rule(rule, true))))))];
 }
 
-function verdict() {
+// The groups of which a car has exactly one code, and of which none is ordered, needed or comes by itself.
+function stillToChoose() {
+  if (now.free === null || now.free.states.size === 0 || now.why.outcome[0] === "accepted") return [];
+  return [...boxes.values()].map((it) => it.group).filter((group) => group.kind === "one" && !group.all.some((code) => ["ordered", "forced", "comes"].includes(stateOf(code))));
+}
+
+function openPart(open) {
+  if (open.length === 0) return null;
+  const links = el("ul", { class: "links" }, open.map((group) => el("li", null, groupLink(group))));
+  return [el("h3", { id: "still" }, "Still to choose"), links];
+}
+
+function groupLink(group) {
+  return el("a", { href: `#group-${group.id}`, onclick: (event) => { event.preventDefault(); goToGroup(group); } }, now.book.groupName(group));
+}
+
+function goToGroup({ id }) {
+  const { box } = boxes.get(id);
+  box.scrollIntoView({ block: "center" });
+  (box.querySelector("li[data-state=ordered] input") ?? box.querySelector("input")).focus({ preventScroll: true });
+}
+
+// Some codes; more than four are folded.
+function folded(codes) {
+  return codes.length > 4 ? el("details", null, el("summary", null, `${codes.length} codes`), list(codes, "and")) : list(codes, "and");
+}
+
+function verdict(open) {
   const why = now.why;
   if (why === null) return null;
   if (why.outcome[0] === "accepted") return el("div", { class: "verdict ok" }, el("p", null, el("strong", null, "It can be placed."), " The desk accepts it as it stands."));
+  if (now.codes.length === 0 && !why.noOrder) return beginning(why);
   const kept = now.codes.filter((code) => !why.leave.includes(code));
   const mend = why.leave.length > 0 || why.add.length > 0;
-  return el("div", { class: "verdict no" },
+  // What is only not chosen yet is no trouble.
+  const waits = now.gone.length === 0 && open.some((group) => group.id === why.outcome[1]);
+  return el("div", { class: `verdict ${waits ? "waits" : "no"}` },
     el("p", null, el("strong", null, "Not yet: "), outcome(why.outcome), "."),
     clash(why),
-    now.gone.length === 0 ? null : el("p", null, staying().length === 0 ? "The choices are shown for no code." : ["The choices are shown for ", list(staying(), "and"), "."]),
+    now.gone.length === 0 ? null : el("p", null, staying().length === 0 ? "The choices are shown as if nothing were chosen." : ["The choices are shown for ", list(staying(), "and"), "."]),
     why.undecided ? el("p", null, "The desk couldn't decide how it would be accepted.") : null,
-    why.leave.length > 0 ? el("p", null, "Leave out ", list(why.leave, "and"), ".") : null,
-    why.add.length > 0 ? el("p", null, why.leave.length > 0 ? "Then add " : "It would be accepted with ", list(why.add, "and"), "; others may do as well.") : null,
-    mend ? button(mendLabel(why), async () => {
-      await change([...kept, ...why.add], "The order is changed as the desk says.");
-      place.order.focus();
-    }) : null);
+    why.leave.length > 0 ? el("div", null, "Leave out ", folded(why.leave), ".") : null,
+    why.add.length > 0 ? el("div", null, why.leave.length > 0 ? "Then add " : "It would be accepted with ", folded(why.add), "; others may do as well.") : null,
+    mend ? proposal(mendLabel(why), [...kept, ...why.add], "The order is changed as the desk says.") : null);
+}
+
+// Before the first choice: a car that can be ordered, to begin with.
+function beginning(why) {
+  return el("div", { class: "verdict waits" }, el("p", null, "Choose a code: what follows from it is shown at once."),
+    why.add.length === 0 ? null : [el("div", null, "Or begin with a car that can be ordered, and change it: ", folded(why.add), "."),
+      proposal("Begin with this car", why.add, "The order has the codes of a car that can be ordered.")]);
+}
+
+function proposal(label, codes, said) {
+  return button(label, async () => {
+    await change(codes, said);
+    place.order.focus();
+  });
 }
 
 function mendLabel(why) {
-  const leave = why.leave.length > 0 ? `leave out ${why.leave.join(", ")}` : "";
-  const add = why.add.length > 0 ? `add ${why.add.join(", ")}` : "";
+  const some = (codes) => (codes.length > 4 ? `these ${codes.length} codes` : codes.join(", "));
+  const leave = why.leave.length > 0 ? `leave out ${some(why.leave)}` : "";
+  const add = why.add.length > 0 ? `add ${some(why.add)}` : "";
   const whole = [leave, add].filter((part) => part !== "").join(" and ");
   return whole[0].toUpperCase() + whole.slice(1);
 }
@@ -447,10 +490,10 @@ function shown(order, book) {
 }
 
 // On a narrow window: what the order comes to, at the foot of it.
-function drawBar() {
-  const done = now.placed !== null;
-  const good = now.why?.outcome[0] === "accepted";
-  put(place.bar, el("span", { class: good ? "ok" : "no" }, done ? "Placed" : good ? "Can be placed" : "Not yet"),
+function drawBar(open) {
+  const [look, said] = now.placed !== null ? ["ok", "Placed"] : now.why?.outcome[0] === "accepted" ? ["ok", "Can be placed"]
+    : now.codes.length === 0 ? ["soft", "Nothing is chosen"] : now.gone.length === 0 && open.length > 0 ? ["soft", `Still to choose: ${open.length}`] : ["no", "Not yet"];
+  put(place.bar, el("span", { class: look }, said),
     el("span", { class: "soft" }, now.codes.length === 1 ? "1 code" : `${now.codes.length} codes`),
     button("To the order", () => {
       place.order.scrollIntoView({ block: "start" });
