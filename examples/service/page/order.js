@@ -16,6 +16,7 @@ const now = {
 const texts = new Map();
 const options = new Map();
 const boxes = new Map();
+const marks = new Map();
 const place = {};
 let table = { byDate: new Map(), byDay: new Map() };
 
@@ -31,6 +32,9 @@ function frame() {
   place.day = el("input", { id: "day", inputmode: "numeric", autocomplete: "off", maxlength: 5, size: 6, "aria-describedby": "term", onchange: () => chooseDay(place.day.value) });
   place.date = el("input", { id: "date", type: "date", onchange: () => chooseDate(place.date.value) });
   place.term = el("span", { id: "term", class: "soft" });
+  place.search = el("input", { id: "search", type: "search", autocomplete: "off", size: 18, oninput: search });
+  place.found = el("span", { class: "soft", role: "status" });
+  place.index = el("details", { class: "card", hidden: true });
   place.choices = el("div", { class: "choices" });
   place.order = el("div", { class: "card summary", id: "summary", tabindex: -1, "aria-labelledby": "summary-title" });
   place.bar = el("div", { class: "bar" });
@@ -39,8 +43,9 @@ function frame() {
     el("div", { class: "fields" },
       el("p", null, el("label", { for: "book" }, "Book"), place.book),
       el("p", null, el("label", { for: "day" }, "Production day"), place.day, place.term),
-      table.byDate.size > 0 ? el("p", null, el("label", { for: "date" }, "or its date"), place.date) : null),
-    el("div", { class: "columns" }, place.choices, el("aside", { "aria-label": "The order" }, place.order)),
+      table.byDate.size > 0 ? el("p", null, el("label", { for: "date" }, "or its date"), place.date) : null,
+      el("p", null, el("label", { for: "search" }, "Find codes and texts"), place.search, place.found)),
+    el("div", { class: "columns" }, el("div", null, place.index, place.choices), el("aside", { "aria-label": "The order" }, place.order)),
     place.bar);
 }
 
@@ -198,7 +203,7 @@ function drawChoices() {
   const halves = [[], []];
   let before = 0;
   for (const group of groups) {
-    const title = el("span", null, group.kind === "one" ? "Exactly one" : "At most one", " ", el("span", { class: "id" }, group.id));
+    const title = el("span", null, now.book.groupName(group), el("span", { class: "id" }, group.kind === "one" ? ", exactly one" : ", at most one"));
     const box = choice(group.codes, "", title, group.id);
     boxes.set(group.id, { group, box, seen: false });
     for (const code of group.codes) options.get(code).group = group;
@@ -208,6 +213,39 @@ function drawChoices() {
   put(place.choices, halves.map((half) => (half.length > 0 ? el("div", { class: "half" }, half) : null)),
     rest.length > 0 ? choice(rest, "rest", groups.length > 0 ? "Further codes" : "Codes") : null);
   for (const { box } of boxes.values()) sight.observe(box);
+  drawIndex(groups);
+  search();
+}
+
+// The groups as links, with what is decided of each.
+function drawIndex(groups) {
+  marks.clear();
+  place.index.hidden = groups.length < 3;
+  place.index.open = groups.length <= 24 && matchMedia("(min-width: 56rem)").matches;
+  put(place.index, el("summary", null, `The ${groups.length} groups`), el("ul", { class: "links index" }, groups.map((group) => {
+    const mark = el("span", { class: "id" });
+    marks.set(group, mark);
+    return el("li", null, groupLink(group), " ", mark);
+  })));
+}
+
+function drawMarks() {
+  for (const [group, mark] of marks) {
+    const there = group.all.filter((code) => ["ordered", "forced", "comes"].includes(stateOf(code)));
+    put(mark, there.length > 0 ? `✓ ${there.join(", ")}` : "");
+  }
+}
+
+// Shows the codes whose name or text has all words of the field.
+function search() {
+  const words = place.search.value.toLowerCase().split(/\s+/).filter((word) => word !== "");
+  let found = 0;
+  for (const it of options.values()) {
+    it.row.hidden = !words.every((word) => it.words.includes(word));
+    found += it.row.hidden ? 0 : 1;
+  }
+  for (const box of place.choices.querySelectorAll("fieldset")) box.hidden = box.querySelector("li:not([hidden])") === null;
+  put(place.found, words.length === 0 ? "" : `${found} of ${options.size} codes`);
 }
 
 function choice(codes, kind, title, group = null) {
@@ -221,7 +259,7 @@ function option(code) {
   const state = el("span", { class: "state", id: `${id}-state` });
   const reason = el("div", { class: "reason", hidden: true });
   const row = el("li", { class: "option" }, box, el("label", { for: id }, now.book.code(code)), state, reason);
-  options.set(code, { box, state, reason, row });
+  options.set(code, { box, state, reason, row, words: `${code} ${now.book.textOf("code", code)}`.toLowerCase() });
   return row;
 }
 
@@ -257,6 +295,7 @@ function wordOf(code, state) {
 
 function drawStates() {
   for (const code of options.keys()) drawState(code);
+  drawMarks();
 }
 
 function drawState(code) {
@@ -398,6 +437,10 @@ function groupLink(group) {
 }
 
 function goToGroup({ id }) {
+  if (place.search.value !== "") {
+    place.search.value = "";
+    search();
+  }
   const { box } = boxes.get(id);
   box.scrollIntoView({ block: "center" });
   (box.querySelector("li[data-state=ordered] input") ?? box.querySelector("input")).focus({ preventScroll: true });
