@@ -176,18 +176,27 @@ export function readReport(lines) {
   return report;
 }
 
-// The highest of the caller's own order numbers, or 0. The desk lists a thousand at a time; further ones are found by halving.
-export async function lastNumber() {
-  let page = readOrders(await ask("GET", "/orders"));
+const LAST_NUMBER = 999999999;
+
+// A number under which the caller has no order yet, above all others if there is one; or null where no answer says so. The desk
+// lists a thousand at a time; further ones are found by halving.
+export async function nextNumber() {
+  const first = await ask("GET", "/orders");
+  if (!first.good) return null;
+  let page = readOrders(first);
+  const taken = new Set(page.orders.map((order) => order.number));
   let low = page.orders.at(-1)?.number ?? 0;
-  let high = 999999999;
+  let high = LAST_NUMBER;
   while (page.more && low < high) {
     const middle = Math.floor((low + high) / 2);
-    page = readOrders(await ask("GET", `/orders/after/${middle}`));
+    const answer = await ask("GET", `/orders/after/${middle}`);
+    if (!answer.good) return null;
+    page = readOrders(answer);
     if (page.orders.length === 0) {
       high = middle;
       page.more = true;
     } else low = page.orders.at(-1).number;
   }
-  return low;
+  if (low < LAST_NUMBER) return low + 1;
+  for (let free = 1; ; free += 1) if (!taken.has(free)) return free;
 }

@@ -10,7 +10,7 @@ const who = { caller: "", engineer: false };
 const begun = new Set();
 
 async function show() {
-  const wanted = location.hash.slice(1);
+  const [wanted, ...address] = location.hash.slice(1).split("/");
   const view = wanted in VIEWS && (wanted !== "drafts" || who.engineer) ? wanted : "order";
   document.title = `${VIEWS[view]} · Partsbook`;
   for (const section of document.querySelectorAll("main > section")) section.hidden = section.id !== view;
@@ -19,11 +19,12 @@ async function show() {
     else link.removeAttribute("aria-current");
   }
   say("");
-  if (view === "orders") await order.showOrders();
-  else if (!begun.has(view)) {
+  if (view === "orders") return order.showOrders();
+  if (!begun.has(view)) {
     begun.add(view);
-    await (view === "order" ? order.start() : drafts.start(who.caller));
+    return view === "order" ? order.start(address) : drafts.start(who.caller);
   }
+  if (view === "order") return address.length > 0 ? order.open(address) : order.showAddress();
 }
 
 // Which of the proxy's groups the caller is in: `NAME`, and behind it `engineer`. Whoever isn't in one is kept out by the proxy.
@@ -36,10 +37,13 @@ async function start() {
   }
   put(document.getElementById("who"), who.caller, who.engineer ? ", engineer" : ", dealer");
   document.querySelector("nav a[data-view=drafts]").hidden = !who.engineer;
-  addEventListener("hashchange", () => {
-    if (location.hash === "#main") return;
-    show().then(() => document.getElementById("main").focus());
+  const main = document.getElementById("main");
+  // The address is the order's, and no place in the page.
+  document.querySelector(".skip").addEventListener("click", (event) => {
+    event.preventDefault();
+    main.focus();
   });
+  addEventListener("hashchange", () => show().then(() => main.focus()));
   await show();
 }
 

@@ -1,6 +1,6 @@
 // Choosing and placing an order, and the caller's own orders. The state of each code is what the desk says of it.
 
-import { ask, lastNumber, readBooks, readFree, readOrder, readOrders, readWhy, trouble } from "/page/desk.js";
+import { ask, nextNumber, readBooks, readFree, readOrder, readOrders, readWhy, trouble } from "/page/desk.js";
 import { Book, readDays } from "/page/book.js";
 import { button, days, el, name, put, say, text, working } from "/page/parts.js";
 
@@ -20,11 +20,36 @@ const marks = new Map();
 const place = {};
 let table = { byDate: new Map(), byDay: new Map() };
 
-export async function start() {
+// Begins with the book, day and codes of the address, if it has some.
+export async function start(address) {
   const said = await ask("GET", "/page/days.csv");
   if (said.good) table = readDays(said.text);
   frame();
-  await loadBooks();
+  await loadBooks(address);
+}
+
+// The address of the order: `#order/BOOK/DAY/CODE+CODE`. A reload keeps the order, and whoever has the address sees it.
+function addressOf() {
+  return `#order/${now.number}/${now.day}/${now.codes.join("+")}`;
+}
+
+export function showAddress() {
+  if (now.number !== null && now.day !== null && !document.getElementById("order").hidden) history.replaceState(null, "", addressOf());
+}
+
+export async function open(address) {
+  if (`#${["order", ...address].join("/")}` === addressOf()) return;
+  const [number, day, codes] = address;
+  const wanted = now.books.find((book) => `${book.number}` === number);
+  if (wanted === undefined) return say(`Book ${/^\d{1,10}$/.test(number) ? number : "of the address"} takes no orders.`, true);
+  if (await bookOf(wanted.number) === null) return;
+  const all = [...new Set((codes ?? "").split("+").filter((code) => /^[A-Z0-9]{1,8}$/.test(code)))];
+  now.codes = all;
+  now.day = /^\d{1,5}$/.test(day ?? "") ? +day : null;
+  place.book.value = wanted.number;
+  await chooseBook(wanted.number);
+  const lost = all.filter((code) => !now.codes.includes(code));
+  if (lost.length > 0) say(`Book ${number} has no ${lost.join(" and no ")}: the order is without.`, true);
 }
 
 function frame() {
@@ -49,13 +74,15 @@ function frame() {
     place.bar);
 }
 
-async function loadBooks() {
+async function loadBooks(address) {
   const answer = await ask("GET", "/books");
   if (!answer.good) return say(trouble(answer), true);
   now.books = readBooks(answer).filter((book) => !book.withdrawn).reverse();
   put(place.book, now.books.map((book) => el("option", { value: book.number }, `${book.title}, ${days(book.first, book.last)} (book ${book.number})`)));
   if (now.books.length === 0) return put(place.choices, el("p", null, "No book is in force: an engineer has to release one."));
-  return chooseBook(now.books[0].number);
+  if (now.books.some((book) => `${book.number}` === address[0])) return open(address);
+  await chooseBook(now.books[0].number);
+  if (address.length > 0) say(`The book of this address takes no orders: this is book ${now.number}.`, true);
 }
 
 async function bookOf(number) {
@@ -120,6 +147,7 @@ async function refresh(said = "") {
     say(said, false, true);
   }
   now.answered = asked;
+  showAddress();
   drawStates();
   await drawOrder();
   await askInstead();
@@ -244,7 +272,7 @@ function search() {
     it.row.hidden = !words.every((word) => it.words.includes(word));
     found += it.row.hidden ? 0 : 1;
   }
-  for (const box of place.choices.querySelectorAll("fieldset")) box.hidden = box.querySelector("li:not([hidden])") === null;
+  for (const box of place.choices.querySelectorAll("fieldset")) box.hidden = box.querySelector(".option:not([hidden])") === null;
   put(place.found, words.length === 0 ? "" : `${found} of ${options.size} codes`);
 }
 
@@ -493,8 +521,8 @@ function mendLabel(why) {
 }
 
 async function placing(number) {
-  if (now.wanted === null) now.wanted = (await lastNumber()) + 1;
-  place.number = el("input", { id: "number", inputmode: "numeric", autocomplete: "off", maxlength: 9, size: 10, value: number || now.wanted });
+  now.wanted ??= await nextNumber();
+  place.number = el("input", { id: "number", inputmode: "numeric", autocomplete: "off", maxlength: 9, size: 10, value: number || now.wanted || null });
   const place_it = button("Place the order", () => working(place_it, "The desk places it", placeOrder), { class: "main" });
   return el("div", { class: "placing" }, el("p", null, el("label", { for: "number" }, "Your number for it"), place.number), place_it);
 }
@@ -504,9 +532,14 @@ async function placeOrder() {
   if (!/^[1-9]\d{0,8}$/.test(number)) return say("A number has one to nine digits, and doesn't begin with 0.", true);
   const asked = now.asked;
   const answer = await ask("PUT", `/orders/${number}`, { book: now.number, day: now.day, codes: now.codes });
-  if (answer.status === 409) now.wanted = null;
+  if (answer.status === 409) {
+    now.wanted = await nextNumber();
+    place.number.value = now.wanted ?? "";
+    const next = now.wanted === null ? "Take another number." : `${now.wanted} is the next free one: it is in the field now.`;
+    return say(`Under number ${number} another order of yours is kept, of book ${answer.words[2]}. ${next}`, true);
+  }
   if (!answer.good) return say(trouble(answer), true);
-  now.wanted = +number + 1;
+  if (now.wanted !== null) now.wanted = Math.max(now.wanted, +number + 1);
   if (asked !== now.asked) return say(`Order ${number} is kept, as it was before you changed it here.`);
   now.placed = el("div", { class: "verdict ok placed" }, el("h3", { tabindex: -1 }, `Order ${number} is kept`),
     answer.status === 200 ? el("p", null, "It was placed before, and is kept once.") : null, shown(readOrder(answer), now.book),
