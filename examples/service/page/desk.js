@@ -13,12 +13,32 @@ export class Answer {
   }
 }
 
-// How many answers are waited for. The page shows that there are some.
+// How many answers are waited for, and since when there are some. The page shows that there are, and after two seconds for how long.
 let waiting = 0;
+let since = 0;
+let clock;
+const PATIENCE = 2;
 
 function wait(more) {
+  if (waiting === 0) {
+    since = Date.now();
+    clock = setInterval(() => showWaiting(Math.round((Date.now() - since) / 1000)), 1000);
+  }
   waiting += more;
+  if (waiting === 0) {
+    clearInterval(clock);
+    showWaiting(0);
+  }
   document.body.toggleAttribute("data-waiting", waiting > 0);
+}
+
+// Who listens hears it once; the seconds are for the eye.
+function showWaiting(seconds) {
+  const [said, count] = ["waiting-said", "waiting-seconds"].map((id) => document.getElementById(id));
+  const words = seconds < PATIENCE ? "" : "waiting for the desk";
+  if (said.textContent !== words) said.textContent = words;
+  count.textContent = words === "" ? "" : `, ${seconds} s`;
+  said.parentElement.classList.toggle("quiet", words === "");
 }
 
 // The status and the bytes of an answer; the status is 0 where none came.

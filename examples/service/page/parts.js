@@ -46,12 +46,14 @@ export function say(sentence, trouble = false, quiet = false) {
 export async function working(control, what, work) {
   const begun = Date.now();
   control.disabled = true;
+  document.body.classList.add("working");
   const clock = setInterval(() => say(`${what}, ${Math.round((Date.now() - begun) / 1000)} s`), 1000);
   try {
     return await work();
   } finally {
     clearInterval(clock);
     control.disabled = false;
+    document.body.classList.remove("working");
   }
 }
 
