@@ -16,15 +16,12 @@ It isn't part of the gate. It needs the built program, python3 and haproxy. The 
 import argparse
 import base64
 import collections
-import contextlib
 import http.client
 import os
 import pathlib
 import random
 import shlex
-import socket
 import statistics
-import subprocess
 import sys
 import tempfile
 import threading
@@ -32,6 +29,7 @@ import time
 
 from trial import built
 from desk_stream import PROGRAM, TOP, example
+from proxy import UNLIMITED, Proxy
 from service import ACCEPTED, PATIENCE, Service, free_port, kept_orders, must, try_subjects
 
 SERVICE = os.path.join(TOP, "examples", "service")
@@ -46,34 +44,6 @@ def unit_words():
     """The words that the unit starts."""
     with open(os.path.join(SERVICE, "partsbook.service")) as file:
         return next(shlex.split(line.partition("=")[2]) for line in file if line.startswith("ExecStart="))
-
-
-@contextlib.contextmanager
-def proxy_before(service_port, folder):
-    """The port of the proxy in front of this port."""
-    port = free_port()
-    with open(os.path.join(SERVICE, "haproxy.cfg")) as file:
-        text = file.read().replace("127.0.0.1:8081", f"127.0.0.1:{service_port}").replace(":8080", f":{port}")
-    path = os.path.join(folder, "haproxy.cfg")
-    with open(path, "w") as file:
-        file.write(text)
-    os.symlink(os.path.join(SERVICE, "page"), os.path.join(folder, "page"))
-    proxy = subprocess.Popen(["haproxy", "-db", "-q", "-f", path], stdin=subprocess.DEVNULL, stderr=subprocess.DEVNULL)
-    try:
-        until = time.time() + PATIENCE
-        while not listens(port):
-            must("the proxy listens", proxy.poll() is None and time.time() < until)
-            time.sleep(0.01)
-        yield port
-    finally:
-        proxy.kill()
-        proxy.wait()
-
-
-def listens(port):
-    with contextlib.suppress(OSError), socket.create_connection(("127.0.0.1", port), timeout=PATIENCE):
-        return True
-    return False
 
 
 class Unit:
@@ -127,14 +97,14 @@ class Unit:
 class Caller:
     """One who asks through the proxy, over a connection that is kept."""
 
-    def __init__(self, port, name):
-        self.port, self.link, self.longest = port, None, 0
+    def __init__(self, proxy, name):
+        self.proxy, self.link, self.longest = proxy, None, 0
         word = base64.b64encode(f"{name}:{SECRETS[name]}".encode()).decode()
-        self.fields = {"Host": f"localhost:{port}", "Authorization": f"Basic {word}", "X-Caller": "OTHER"}
+        self.fields = {"Authorization": f"Basic {word}", "X-Caller": "OTHER"}
 
     def ask(self, method, path, body=None):
         begun = time.time()
-        self.link = self.link or http.client.HTTPConnection("127.0.0.1", self.port, timeout=PATIENCE)
+        self.link = self.link or http.client.HTTPSConnection("localhost", self.proxy.port, timeout=PATIENCE, context=self.proxy.trust)
         self.link.request(method, path, body, self.fields)
         answer = self.link.getresponse()
         said = answer.status, answer.read().decode()
@@ -146,9 +116,9 @@ class Caller:
         self.link = None
 
 
-def deal(port, place, done):
+def deal(proxy, place, done):
     """Places orders, each once. How many were answered 201 and 200, and the longest wait."""
-    caller, got = Caller(port, "KIEL1"), {}
+    caller, got = Caller(proxy, "KIEL1"), {}
     number = place
     while not done.is_set():
         number += DEALERS
@@ -158,9 +128,9 @@ def deal(port, place, done):
     return got, caller.longest
 
 
-def read(port, done):
+def read(proxy, done):
     """Reads the book, and orders that are kept."""
-    caller, count, book = Caller(port, "KIEL1"), 0, example("engine.csv").decode()
+    caller, count, book = Caller(proxy, "KIEL1"), 0, example("engine.csv").decode()
     while not done.is_set():
         must("the book", caller.ask("GET", "/books/1") == (200, book))
         number = DEALERS + 1 + count % DEALERS
@@ -171,9 +141,9 @@ def read(port, done):
     return count, caller.longest
 
 
-def check(port, done):
+def check(proxy, done):
     """Checks the draft, which may be cut off by the end of the service, and asks for its owner."""
-    caller, said = Caller(port, "ANNA"), collections.Counter()
+    caller, said = Caller(proxy, "ANNA"), collections.Counter()
     while not done.is_set():
         try:
             status, body = caller.ask("POST", "/drafts/T/check")
@@ -189,12 +159,12 @@ def check(port, done):
     return said, caller.longest
 
 
-def watch(port, done):
+def watch(proxy, done):
     """Asks whether the service is up."""
-    caller, said = Caller(port, "ANNA"), collections.Counter()
+    caller, said = Caller(proxy, "ANNA"), collections.Counter()
     while not done.is_set():
         status, body = caller.ask("GET", "/up")
-        must("/up", (status, body) in ((200, "up"), (502, "down"), (503, "down")), status, body)
+        must("/up", (status, body) in ((200, "up"), (503, "down")), status, body)
         said[body] += 1
         caller.close()
         time.sleep(0.2)
@@ -214,10 +184,10 @@ def try_kind(program, given, kind):
         unit, done = Unit(program, folder, kind, random.Random(given.seed)), threading.Event()
         with unit.start(1) as service, service.client() as client:
             client.release()
-        with proxy_before(unit.port, folder) as port:
+        with Proxy(folder, unit.port, **UNLIMITED) as proxy:
             begun = time.time()
-            works = [lambda place=place: deal(port, place, done) for place in range(1, DEALERS + 1)]
-            works += [*[lambda: read(port, done)] * READERS, *[lambda: check(port, done)] * ENGINEERS, lambda: watch(port, done)]
+            works = [lambda place=place: deal(proxy, place, done) for place in range(1, DEALERS + 1)]
+            works += [*[lambda: read(proxy, done)] * READERS, *[lambda: check(proxy, done)] * ENGINEERS, lambda: watch(proxy, done)]
             said, raised = [None] * len(works), []
             callers = [threading.Thread(target=call, args=(works, place, said, raised, done)) for place in range(len(works))]
             for caller in callers:
