@@ -238,6 +238,18 @@ wait
 sqlite3 "$work/old.db" "update orders set codes = 'M2'"
 out desk "$work/old.db"; said "the order HALL1|7|1|1|M2 isn't right"
 
+# A store that is made by hand is its user's alone; who starts a desk as root is told so, and where a journal is more than half full.
+tried=$((tried + 3))
+for kind in db journal; do
+    (umask 022; exec "$top/partsbook" --quiet desk "$work/own.$kind" < /dev/null > "$work/found")
+    [ "$(stat -c %a "$work/own.$kind")" = 600 ] || wrong "own.$kind is made with mode $(stat -c %a "$work/own.$kind")"
+done
+truncate -s 2147483649 "$work/large.journal"
+PARTSBOOK_PROGRAM=$(command -v true) "$top/partsbook" desk "$work/large.journal" < /dev/null 2> "$work/said"
+said 'has 2147483649 of 4294967296 bytes'
+[ "$(id -u)" != 0 ] || said 'it runs as root'
+rm "$work/large.journal"
+
 # A service says when it listens, and where another has its port; a kill of the launcher ends the program.
 port=$((20000 + $$ % 20000))
 "$top/partsbook" serve "$work/serve.db" "$port" 1 1000 > /dev/null 2> "$work/said" < /dev/null &
