@@ -3,7 +3,7 @@
 
     tests/tools.py [PART..]
 
-Parts: rows, torn, changed, copy, keep, next, sheet, report, common. Without one, all of them. It needs crates/partsbook/out/partsbook, or the
+Parts: rows, torn, changed, trim, counts, copy, keep, next, sheet, report, common. Without one, all of them. It needs crates/partsbook/out/partsbook, or the
 program that PARTSBOOK_PROGRAM names, and for a part of `sheet` soffice, without which that part is left out. The status is 1 where
 something is otherwise.
 """
@@ -16,11 +16,14 @@ import os
 import pathlib
 import random
 import shutil
+import socket
 import subprocess
 import sys
 import tempfile
 import threading
 import time
+import urllib.error
+import urllib.request
 
 sys.dont_write_bytecode = True
 TOP = pathlib.Path(__file__).resolve().parent.parent
@@ -154,6 +157,87 @@ def changed(place):
     return "one bit changed 40 times: " + ", ".join(f"{count} {kind}" for kind, count in counts.most_common())
 
 
+def trim(place):
+    """A journal is put in place of itself with its rows alone, where that pays and no desk has it."""
+    store = place / "a.journal"
+    filled(store, drafts=40)
+    os.chmod(store, 0o640)
+    rows_before, bytes_before = tool("journal", "rows", store)[1], store.read_bytes()
+    check("a short journal is left", tool("journal", "trim", store) == (0, "", "") and store.read_bytes() == bytes_before)
+    check("so is one of which most counts", tool("journal", "trim", store, "1") == (0, "", "") and store.read_bytes() == bytes_before)
+    desk(store, b"".join(request("PUT", "/drafts/V", "BOB", b"text" * 100) for _ in range(40)))
+    rows_before, bytes_before = tool("journal", "rows", store)[1], store.read_bytes()
+    held = subprocess.Popen([PROGRAM, "desk", store], stdin=subprocess.PIPE, stdout=subprocess.PIPE)
+    held.stdin.write(request("GET", "/books/1", "BOB"))
+    held.stdin.flush()
+    held.stdout.read(1)
+    status, _, error = tool("journal", "trim", store, "1")
+    check("a desk's journal is refused", status == 1 and f"process {held.pid} has" in error and store.read_bytes() == bytes_before, error)
+    held.kill()
+    held.communicate()
+    link = place / "link.journal"
+    link.symlink_to(store)
+    status, said, error = tool("journal", "trim", link, "1")
+    check("it is trimmed", (status, said) == (0, "") and f"in place of {len(bytes_before)}" in error, error)
+    check("the rows are the same", tool("journal", "rows", store)[1] == rows_before)
+    tool("journal", "compact", store, place / "b.journal")
+    check("there are no others", store.read_bytes() == (place / "b.journal").read_bytes())
+    check("its mode and its link are kept", store.stat().st_mode & 0o777 == 0o640 and link.is_symlink())
+    check("nothing lies beside it", sorted(it.name for it in place.iterdir()) == ["a.journal", "b.journal", "link.journal"])
+    data = bytearray(bytes_before)
+    data[stores.Journal(bytes_before).records[3][0]] = 0
+    for name, spoilt, why in (("gate", bytes(data), "whole records stand behind it"), ("cut", bytes_before[:-30], "is damaged at")):
+        (place / f"{name}.journal").write_bytes(spoilt)
+        status, _, error = tool("journal", "trim", place / f"{name}.journal", "1")
+        check(f"{name}: it is refused and left", status == 1 and why in error and (place / f"{name}.journal").read_bytes() == spoilt, error)
+    (place / "empty.journal").write_bytes(b"\0PBJ")
+    check("an empty store is left", tool("journal", "trim", place / "empty.journal", "1") == (0, "", "") and (place / "empty.journal").read_bytes() == b"\0PBJ")
+    check("no store isn't made", tool("journal", "trim", place / "none.journal") == (0, "", "") and not (place / "none.journal").exists())
+    (place / "half.journal").write_bytes(journal_of([("books", [number, "T", 1, b"", b""]) for number in range(1, 130)]))
+    status, _, error = tool("journal", "trim", place / "half.journal")
+    check("a limit is told that is more than half used", status == 0 and "books 129 of 256" in error, error)
+    return f"{len(bytes_before)} bytes became {store.stat().st_size}, with the same rows; damaged ones and a desk's own were left"
+
+
+def counts(place):
+    """The counts of a service as a file and at a port, in the text form of Prometheus."""
+    line = "links 1200 open 2 failed 3 refused 0 requests 1300 orders 200 steps 997390"
+    wanted = {"links_total": 1200, "links_open": 2, "links_failed_total": 3, "links_refused_total": 0, "requests_total": 1300, "orders_total": 200, "steps_left": 997390}
+    (place / "s.journal").write_bytes(journal_of([]))
+    status, _, error = tool("desk-counts", "--store", place / "s.journal", place / "c.prom", text=f"listens\n{line[:-1]}x\n{line}\nlinks 7\n".encode())
+    check("it ends, and each line goes on", status == 0 and error.splitlines() == ["listens", f"{line[:-1]}x", line, "links 7"], error)
+    lines = (place / "c.prom").read_text().splitlines()
+    values = dict(it.removeprefix("partsbook_").split() for it in lines if not it.startswith("#"))
+    at = int(values.pop("counts_time_seconds"))
+    check("the time is now", abs(at - time.time()) < 60)
+    check("each count stands there", {name: int(value) for name, value in values.items()} == wanted | {"store_bytes": 9, "store_limit_bytes": stores.JOURNAL_LIMIT}, values)
+    check("each has its kind", all(f"# TYPE partsbook_{name} {'counter' if name.endswith('_total') else 'gauge'}" in lines for name in values))
+    with socket.socket() as free:
+        free.bind(("127.0.0.1", 0))
+        port = free.getsockname()[1]
+    running = subprocess.Popen([TOP / "tools" / "desk-counts", "--port", str(port), place / "d.prom"], stdin=subprocess.PIPE, stderr=subprocess.DEVNULL)
+    until, said = time.monotonic() + 30, []
+    for asked in (503, 200):
+        while time.monotonic() < until:
+            try:
+                with urllib.request.urlopen(f"http://127.0.0.1:{port}/metrics/desk", timeout=5) as answer:
+                    said.append((answer.status, answer.read().decode()))
+            except urllib.error.HTTPError as answer:
+                said.append((answer.code, ""))
+            except OSError:
+                continue
+            if said[-1][0] == asked:
+                break
+        if asked == 503:
+            running.stdin.write(line.encode() + b"\n")
+            running.stdin.flush()
+    check("nothing is made up before the first line, and then the file is given", said[0][0] == 503 and said[-1] == (200, (place / "d.prom").read_text()), said[-1])
+    running.stdin.close()
+    check("it ends with its input", running.wait(30) == 0)
+    check("wrong words have a usage", [tool("desk-counts", *words)[0] for words in ((), ("--port", "0", "x"), ("--what", "x"))] == [2, 1, 2])
+    return "a line became a file with nine values, the same at a port"
+
+
 def copy(place):
     """Copies while a desk takes orders: each has every order that was answered before the copy began."""
     store, answered, stop = place / "live.journal", [0], threading.Event()
@@ -227,8 +311,19 @@ def keep(place):
         pass
     status, said, _ = tool("desk-store", "why", place / "s.db")
     check("why names who has it", status == 1 and f"process {held.pid}" in said, said)
-    check("backup of a store of SQLite that is held is refused", tool("desk-store", "backup", place / "s.db", place / "backups-s.db")[0] == 1)
-    check("so is look", tool("desk-store", "look", place / "s.db")[0] == 1)
+    (place / "quiet").mkdir()
+    status, _, error = tool("desk-store", "backup", place / "s.db", place / "quiet")
+    check("a store of SQLite that is held is backed up where nothing is written", status == 0 and f"process {held.pid}" in error, error)
+    check("the backup has its rows", stores.read_store(next((place / "quiet").iterdir())) == stores.read_store(place / "s.db"))
+    check("look at it is refused", tool("desk-store", "look", place / "s.db")[0] == 1)
+    busy = threading.Event()
+    thread = threading.Thread(target=lambda: [os.utime(place / "s.db") for _ in iter(lambda: busy.wait(0.02), True)])
+    thread.start()
+    (place / "busy").mkdir()
+    status, _, error = tool("desk-store", "backup", place / "s.db", place / "busy")
+    busy.set()
+    thread.join()
+    check("and not backed up where it is written all the time", status == 1 and "is written all the time" in error and not list((place / "busy").iterdir()), error)
     # A kill leaves the log, which the backup has too.
     held.stdin.write(order("HALL6", 66))
     held.stdin.flush()
@@ -411,7 +506,7 @@ def report(place):
 
 
 def main(words):
-    parts = {"rows": rows, "torn": torn, "changed": changed, "copy": copy, "keep": keep, "next": next_}
+    parts = {"rows": rows, "torn": torn, "changed": changed, "trim": trim, "counts": counts, "copy": copy, "keep": keep, "next": next_}
     parts |= {"sheet": sheet, "report": report, "common": common}
     for name in words or parts:
         with tempfile.TemporaryDirectory(dir="/dev/shm" if os.path.isdir("/dev/shm") else None) as place:
