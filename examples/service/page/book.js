@@ -14,16 +14,17 @@ export const FIELDS = {
   variant: ["ID", "POSITION", "PART", "QUANTITY", "RULE", "FROM", "UNTIL"],
 };
 
-// The field that begins at a place, and where it ends: at a comma, at a line end, or at the end of the text.
+// The field that begins at a place, where it ends (at a comma, at a line end, or at the end of the text), and whether a quote is
+// never closed.
 function readField(whole, at) {
   if (whole[at] !== '"') {
     const end = endOfBare(whole, at);
-    return [whole.slice(at, end), end];
+    return [whole.slice(at, end), end, false];
   }
   let field = "";
   for (at += 1; ;) {
     const quote = whole.indexOf('"', at);
-    if (quote < 0) return [field + whole.slice(at), whole.length];
+    if (quote < 0) return [field + whole.slice(at), whole.length, true];
     field += whole.slice(at, quote);
     if (whole[quote + 1] === '"') {
       field += '"';
@@ -31,7 +32,7 @@ function readField(whole, at) {
       continue;
     }
     const end = endOfBare(whole, quote + 1);
-    return [field + whole.slice(quote + 1, end), end];
+    return [field + whole.slice(quote + 1, end), end, false];
   }
 }
 
@@ -42,26 +43,46 @@ function endOfBare(whole, at) {
   return bare.lastIndex;
 }
 
-// The records, each with its fields and the very text that it has in the book, and what stands before the first one.
+function lineEnds(words) {
+  return words.match(/\r\n|\r|\n/g)?.length ?? 0;
+}
+
+// What is odd about a quoted field, if anything: it is never closed, or goes over lines, some of which would be records.
+function oddQuote(field, line, open) {
+  const lines = lineEnds(field.replace(/(\r\n|\r|\n)$/, ""));
+  if (!open && lineEnds(field) === 0) return null;
+  const lost = Object.keys(FIELDS).some((kind) => new RegExp(`[\\r\\n]${kind},`).test(field));
+  return { kind: open ? "open" : lost ? "lines" : "text", first: line, last: line + (open ? lines : lineEnds(field)) };
+}
+
+// The records, each with its fields, the very text that it has in the book, the line on which it begins and what is odd about its
+// quotes; and what stands before the first one.
 export function readRecords(whole) {
   const records = [];
   let at = whole[0] === "\ufeff" ? 1 : 0;
   let before = null;
+  let line = 1;
   while (at < whole.length) {
     const begin = at;
     const fields = [];
+    const quotes = [];
     let more = !"\r\n".includes(whole[at]);
     if (more) before ??= begin;
     while (more) {
-      const [field, end] = readField(whole, at);
+      const [field, end, open] = readField(whole, at);
       fields.push(field);
+      if (whole[at] === '"') {
+        const odd = oddQuote(field, line + lineEnds(whole.slice(begin, at)), open);
+        if (odd !== null) quotes.push(odd);
+      }
       more = whole[end] === ",";
       at = more ? end + 1 : end;
     }
     if (whole[at] === "\r" && whole[at + 1] === "\n") at += 2;
     else if (at < whole.length) at += 1;
-    if (fields.length > 0) records.push({ fields, raw: whole.slice(begin, at) });
+    if (fields.length > 0) records.push({ fields, raw: whole.slice(begin, at), line, quotes });
     else if (records.length > 0) records.at(-1).raw += whole.slice(begin, at);
+    line += lineEnds(whole.slice(begin, at));
   }
   return { records, before: whole.slice(0, before ?? whole.length) };
 }

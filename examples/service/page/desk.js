@@ -65,10 +65,11 @@ export async function ask(method, path, body) {
   return new Answer(status, new TextDecoder().decode(bytes));
 }
 
-// The text of a draft. Where it is no UTF-8 it can't be shown, and `text` is null.
+// The text of a draft, and its first bytes as letters. Where it is no UTF-8 it can't be shown, and `text` is null.
 export async function askDraft(draft) {
   const [status, bytes] = await request("GET", `/drafts/${draft}`);
   const answer = new Answer(status, status === 200 ? "" : new TextDecoder().decode(bytes));
+  answer.head = String.fromCharCode(...new Uint8Array(bytes).slice(0, 4));
   if (status === 200) {
     try {
       answer.text = new TextDecoder("utf-8", { fatal: true, ignoreBOM: true }).decode(bytes);
@@ -100,7 +101,6 @@ export function trouble(answer) {
     case 507: return `The desk is full: it takes no more ${FULL[second] ?? second}. Tell whoever runs it.`;
   }
   if (first === "no" && second === "such") return `There is no such ${third}.`;
-  if (first === "order" && second === "fault") return third === "1" ? "This day isn't in the term of the book." : "The order has a code that the book doesn't have, or one twice.";
   return `The desk says: ${answer.lines[0] ?? answer.status}`;
 }
 

@@ -3,13 +3,14 @@
 
 import { ask, askDraft, readBooks, readReport, trouble } from "/page/desk.js";
 import { FIELDS, readRecords, writeRecord } from "/page/book.js";
+import { bookFault, oddQuotes, whole as wholeSentence } from "/page/faults.js";
 import { button, days, el, name, put, say, text, working } from "/page/parts.js";
 
 const ROWS_AT_ONCE = 100;
 const LARGEST_BUDGET = 50000;
 
 // The draft that is open: its records, which of them are changed, and where in the table one is.
-const open = { draft: null, owner: null, revision: 0, before: "", records: [], changed: false, kind: "", words: "", from: 0 };
+const open = { draft: null, owner: null, revision: 0, before: "", records: [], head: "", last: null, changed: false, kind: "", words: "", from: 0 };
 const place = {};
 let caller = "";
 
@@ -48,11 +49,20 @@ async function openDraft(draft) {
   place.report.hidden = true;
   Object.assign(open, { draft, owner: owner.words[1], revision: +owner.words[3], changed: false, kind: "", words: "", from: 0 });
   const read = whole.text === null ? { records: [], before: "" } : readRecords(whole.text);
-  Object.assign(open, read);
+  Object.assign(open, read, { head: whole.head, last: await lastBook(draft) });
   say(whole.text === null ? "The text is no UTF-8, and can't be shown. Put a file in its place." : "", whole.text === null);
   place.draft.value = draft;
   drawHead();
   drawTable();
+}
+
+// The last book that was released of a draft, with how many records it has; or null.
+async function lastBook(draft) {
+  const books = await ask("GET", "/books");
+  const last = books.good ? readBooks(books).filter((book) => book.draft === draft).at(-1) : undefined;
+  if (last === undefined) return null;
+  const text = await ask("GET", `/books/${last.number}`);
+  return text.good ? { number: last.number, records: readRecords(text.text).records.length } : null;
 }
 
 function mayLeave() {
@@ -79,14 +89,36 @@ function drawHead() {
   place.check = button("Check", () => working(place.check, "The desk checks it", () => check()), { class: "main" });
   place.release = button("Release as a book", () => working(place.release, "The desk checks and releases it", release));
   place.state = el("p", { class: "soft" });
-  put(place.head, el("h2", null, `Draft ${open.draft}`), place.state,
+  place.odd = el("div");
+  put(place.head, el("h2", null, `Draft ${open.draft}`), place.state, place.odd,
     el("p", { class: "actions" }, own ? [place.save, " ", place.check, " ", place.release, " "] : null,
       el("a", { href: `/drafts/${open.draft}`, download: `${open.draft}.csv` }, "Download")));
   drawState();
 }
 
 function drawState() {
-  put(place.state, `${open.owner === caller ? "It is yours" : `It is ${open.owner}'s, who alone can change it`}; revision ${open.revision}${open.changed ? ", changed here and not yet saved" : ""}.`);
+  put(place.state, `${open.owner === caller ? "It is yours" : `It is ${open.owner}'s, who alone can change it`}; revision ${open.revision}${open.changed ? ", changed here and not yet saved" : ""}. `,
+    counts(), ".");
+  return drawOdd();
+}
+
+function counts() {
+  const now = `${open.records.length} record${open.records.length === 1 ? "" : "s"}`;
+  return open.last === null ? now : `${now}; book ${open.last.number} had ${open.last.records}`;
+}
+
+// What an engineer should look at before a release, though the text may well be a book: quotes that hide records, and a text that
+// has lost half of what its last book had.
+async function oddities() {
+  const { records } = readRecords(whole());
+  const lines = await Promise.all(oddQuotes(records).map(([key, words]) => wholeSentence(key, words, key.startsWith("quote open") ? words.first : null)));
+  if (open.last !== null && records.length * 2 < open.last.records) lines.push(el("span", null, `The draft has ${counts()}.`));
+  return lines;
+}
+
+async function drawOdd() {
+  const lines = await oddities();
+  put(place.odd, lines.length === 0 ? null : el("ul", { class: "odd" }, lines.map((line) => el("li", null, line))));
 }
 
 function whole() {
@@ -117,20 +149,31 @@ async function check(budget) {
   if (!(await save())) return;
   const answer = await ask("POST", `/drafts/${open.draft}/check`, budget === undefined ? "" : { budget });
   if (answer.good) drawReport(readReport(answer.lines));
-  else if (answer.status === 422) drawFault(answer.words);
+  else if (answer.status === 422) await drawFault(answer.words);
   else failed(answer);
 }
 
 async function release() {
   if (open.changed) return say("Save and check what you changed first.", true);
+  const lines = await oddities();
+  if (lines.length === 0) return releaseIt();
+  const surely = button("Release all the same", () => working(surely, "The desk checks and releases it", releaseIt));
+  return drawPart("Release all the same?", [el("ul", { class: "odd" }, lines.map((line) => el("li", null, line))),
+    el("p", null, counts(), ". A book that was released can't be changed: dealers order from it as it is."),
+    el("p", { class: "actions" }, surely, " ", button("Don't release it", () => { place.report.hidden = true; place.release.focus(); }))]);
+}
+
+async function releaseIt() {
   const answer = await ask("POST", `/drafts/${open.draft}/release`, { revision: open.revision, budget: LARGEST_BUDGET });
   if (answer.good) {
     drawPart("It is a book", [el("p", { class: "verdict ok" }, answer.status === 201 ? `Revision ${open.revision} is book ${answer.words[1]} now, and takes orders.`
       : `Revision ${open.revision} was released before, as book ${answer.words[1]}.`)]);
+    open.last = await lastBook(open.draft);
+    await drawState();
     say(`Released as book ${answer.words[1]}.`);
   } else if (answer.status === 422) {
     if (answer.words[0] === "found" || answer.words[0] === "undecided") drawReport(readReport(answer.lines.slice(1)));
-    else drawFault(answer.words);
+    else await drawFault(answer.words);
   } else failed(answer);
 }
 
@@ -250,39 +293,17 @@ function cut(words) {
   return all.length > 80 ? `${all.slice(0, 80).join("")}…` : words;
 }
 
-const FAULTS = {
-  1: "The text has more than 1,048,576 bytes: shorten its free texts, or make a book for each half of the term.",
-  2: "The text is no UTF-8: save it so.",
-  3: "The first row is no book record: it has to be book,NAME,FIRST,LAST, parted by commas.",
-  4: "A second book record: take it out.",
-  5: "The first field is none of the eight words, or a group stands in a book of form 1: write the FORM 2 into the book record.",
-  6: "The row has too few fields, or a further one that isn't empty: count the commas. A TEXT with a comma stands in quotes.",
-  7: "A field is no name of its form: one to eight capitals and digits (a part 16), without blanks. A group has 2 to 64 codes, each once, with / between them.",
-  8: "A field is no number of one to five digits, or out of its range.",
-  9: "The first day is after the last: exchange them.",
-  10: "An earlier record has this name. Supplementing rules, constructibility rules and groups share their names.",
-  11: "No record has this code, module or position: add it, or correct the name.",
-  12: "The rule is no rule",
-  13: "It is one more than a book may have",
-};
-const RULE_FAULTS = {
-  1: "it is empty; write TRUE for one that always holds", 2: "a sign that stands in no rule; codes are capitals, / is or, + is and, - is not",
-  3: "a word that is no code of the book", 4: "something that may not stand there: a code, a connective or a bracket is missing before it",
-  5: "brackets or minus signs more than 64 deep", 6: "more than 512 words and signs: split the rule",
-};
-
-function drawFault(words) {
+async function drawFault(words) {
   say("The text is no book, or one that can't be checked.", true);
-  if (words[0] === "limit") {
-    return drawPart("It can't be checked", [el("p", { class: "verdict no" }, words[1] === "slices"
-      ? `It has ${words[2]} runs of days on which nothing changes, and 64 can be checked: let changes begin on the same day, or make a book for each half of the term.`
-      : `In slice ${+words[2] + 1} there are ${words[3]} questions, and 200,000 can be asked: split a position with many variants.`)]);
-  }
-  const [row, kind, more, at] = words.slice(2).map((word) => (/^\d+$/.test(word) ? +word : word));
-  const said = kind === 12 ? `The rule is no rule: ${more === 1 ? RULE_FAULTS[1] : `behind its first ${at} bytes comes ${RULE_FAULTS[more]}`}.`
-    : kind === 13 ? `${FAULTS[13]}: ${more === "choices" ? "variants at one position" : more}.` : FAULTS[kind];
-  return drawPart("The text has a fault", [el("p", { class: "verdict no" }, said ?? `The desk says: ${words.join(" ")}`),
-    row > 0 && row <= open.records.length ? rowButton(row - 1) : null]);
+  const row = words[0] === "limit" ? 0 : +words[2];
+  const text = { ...open, whole: whole() };
+  const { key, words: shown, record } = words[0] === "limit"
+    ? { key: `limit ${words[1]}`, words: words[1] === "slices" ? { word: words[2] } : { slice: words[2], word: words[3] }, record: null } : await bookFault(words, text);
+  const known = await wholeSentence(key, shown, record?.line);
+  return drawPart(words[0] === "limit" ? "It can't be checked" : "The text has a fault", [
+    el("p", { class: "verdict no" }, known ?? `The desk says: ${words.join(" ")}`),
+    row > 0 && row <= open.records.length ? rowButton(row - 1) : null,
+    place.odd.firstChild?.cloneNode(true)]);
 }
 
 // The records as a table. A hundred are shown at a time.

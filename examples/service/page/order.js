@@ -2,6 +2,7 @@
 
 import { ask, nextNumber, readBooks, readFree, readOrder, readOrders, readWhy, trouble } from "/page/desk.js";
 import { Book, readDays } from "/page/book.js";
+import { orderFault } from "/page/faults.js";
 import { button, days, el, name, put, say, text, working } from "/page/parts.js";
 
 const SHOWN = { ordered: "ordered", excluded: "not possible", comes: "comes by itself", left: "undecided", open: "" };
@@ -138,7 +139,7 @@ async function refresh(said = "") {
   now.gone = [];
   if (bad) {
     now.free = now.why = null;
-    say(trouble(bad), true);
+    await sayTrouble(bad);
   } else {
     now.free = readFree(free);
     now.why = readWhy(why);
@@ -151,6 +152,11 @@ async function refresh(said = "") {
   drawStates();
   await drawOrder();
   await askInstead();
+}
+
+async function sayTrouble(answer) {
+  const { day, codes, book } = now;
+  say((await orderFault(answer, { day, codes, first: book.first, last: book.last })) ?? trouble(answer), true);
 }
 
 // Where no car has all chosen codes: what can be chosen beside those that stay.
@@ -538,7 +544,7 @@ async function placeOrder() {
     const next = now.wanted === null ? "Take another number." : `${now.wanted} is the next free one: it is in the field now.`;
     return say(`Under number ${number} another order of yours is kept, of book ${answer.words[2]}. ${next}`, true);
   }
-  if (!answer.good) return say(trouble(answer), true);
+  if (!answer.good) return sayTrouble(answer);
   if (now.wanted !== null) now.wanted = Math.max(now.wanted, +number + 1);
   if (asked !== now.asked) return say(`Order ${number} is kept, as it was before you changed it here.`);
   now.placed = el("div", { class: "verdict ok placed" }, el("h3", { tabindex: -1 }, `Order ${number} is kept`),
