@@ -432,7 +432,8 @@ async function drawOrder() {
   const last = now.why?.outcome[0] === "accepted" && now.placed === null ? await placing(number) : now.placed;
   if (asked !== now.asked) return;
   const open = stillToChoose();
-  put(place.order, el("h2", { id: "summary-title" }, "Your order"), codesPart(), now.placed === null ? [verdict(open), openPart(open)] : null, last, addedPart());
+  place.order.classList.toggle("placed-order", now.placed !== null);
+  put(place.order, el("h2", { id: "summary-title" }, "Your order"), now.placed === null ? bookAndDay(now.number, now.book, now.day, "print") : null, codesPart(), now.placed === null ? [verdict(open), openPart(open)] : null, last, addedPart());
   drawBar(open);
 }
 
@@ -547,13 +548,17 @@ async function placeOrder() {
   if (!answer.good) return sayTrouble(answer);
   if (now.wanted !== null) now.wanted = Math.max(now.wanted, +number + 1);
   if (asked !== now.asked) return say(`Order ${number} is kept, as it was before you changed it here.`);
-  now.placed = el("div", { class: "verdict ok placed" }, el("h3", { tabindex: -1 }, `Order ${number} is kept`),
+  now.placed = el("div", { class: "verdict ok placed" }, el("h3", { tabindex: -1 }, `Order ${number} is kept`), bookAndDay(now.number, now.book, now.day),
     answer.status === 200 ? el("p", null, "It was placed before, and is kept once.") : null, shown(readOrder(answer), now.book),
     button("Order another one like it", () => change(now.codes, "")), " ", button("Begin anew", () => change([], "")));
   say("");
   place.number = null;
   await drawOrder();
   now.placed.querySelector("h3").focus();
+}
+
+function bookAndDay(number, book, day, kind = null) {
+  return el("p", { class: kind }, `Book ${number}${book === null ? "" : ` (${book.title})`}, day ${day}${table.byDay.has(day) ? `, ${table.byDay.get(day)}` : ""}`);
 }
 
 // The parts and the codes of an order that is kept.
@@ -623,7 +628,6 @@ async function openOrder(number) {
   say("");
   own.one.hidden = false;
   put(own.one, el("h2", null, `Order ${number}`),
-    el("p", null, `Book ${order.book}${book === null ? "" : ` (${book.title})`}, day ${order.day}${table.byDay.has(order.day) ? `, ${table.byDay.get(order.day)}` : ""}`),
-    shown(order, book));
+    bookAndDay(order.book, book, order.day), shown(order, book));
   own.one.focus();
 }
