@@ -4,6 +4,7 @@ own by its variables of the environment (those that its lines with `presetenv` n
 import contextlib
 import os
 import pathlib
+import shlex
 import ssl
 import subprocess
 import time
@@ -14,6 +15,12 @@ from service import PATIENCE, Broken, free_port
 CONFIGURATION = TOP / "examples" / "service" / "haproxy.cfg"
 # What no honest trial of many orders from one address should meet.
 UNLIMITED = {"DESK_CONNECTIONS": "500", "DESK_ADDRESS_REQUESTS": "1000000", "DESK_REQUESTS": "1000000", "DESK_ORDERS": "1000000"}
+
+
+def unit_words():
+    """The words that the shipped unit starts."""
+    with open(CONFIGURATION.parent / "partsbook.service") as file:
+        return next(shlex.split(line.partition("=")[2]) for line in file if line.startswith("ExecStart="))
 
 
 def make_certificate(path):

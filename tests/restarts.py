@@ -20,7 +20,6 @@ import http.client
 import os
 import pathlib
 import random
-import shlex
 import statistics
 import sys
 import tempfile
@@ -28,22 +27,15 @@ import threading
 import time
 
 from trial import built
-from desk_stream import PROGRAM, TOP, example
-from proxy import UNLIMITED, Proxy
+from desk_stream import PROGRAM, example
+from proxy import UNLIMITED, Proxy, unit_words
 from service import ACCEPTED, PATIENCE, Service, free_port, kept_orders, must, try_subjects
 
-SERVICE = os.path.join(TOP, "examples", "service")
 SECRETS = {"KIEL1": "another-secret", "ANNA": "a-secret"}
 DEALERS, READERS, ENGINEERS = 6, 2, 2
 WAYS = "last link", "kill", "stop file"
 # The links of a run that is to end by its last one.
 FEW_LINKS = 150
-
-
-def unit_words():
-    """The words that the unit starts."""
-    with open(os.path.join(SERVICE, "partsbook.service")) as file:
-        return next(shlex.split(line.partition("=")[2]) for line in file if line.startswith("ExecStart="))
 
 
 class Unit:
