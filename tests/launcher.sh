@@ -45,11 +45,21 @@ said() { # a part of a line
     grep -qF -- "$1" "$work/said" || { wrong "not said: $1"; sed 's/^/    /' "$work/said"; }
 }
 
+# The last command has to have said nothing.
+silent() { [ ! -s "$work/said" ] || { wrong 'something is said where all is well'; sed 's/^/    /' "$work/said"; }; }
+
 # A change of a book.
 changed() { sed "$2" "$books/$1" > "$work/book.csv"; }
 
-same "$books/compact.csv" order 40 P18 AWD AT8
+same "$books/compact.csv" check
 said 'read 16 codes, 6 supplementing rules, 14 constructibility rules, 3 modules, 8 positions, 21 variants'
+# Where all is well and short nothing is said.
+for words in 'order 40 P18 AWD AT8' 'free 40 P18' 'why 40 P18' 'ask 40 P18' 'days P18'; do
+    same "$books/compact.csv" $words
+    silent
+done
+same "$books/engine.csv" verify "$books/engine.cert"
+silent
 same "$books/compact-groups.csv" check
 said '5 constructibility rules, 4 groups,'
 same "$books/van.csv" prove
@@ -66,23 +76,31 @@ same "$books/engine.csv" sample 1 8 3
 changed compact.csv 's/all-wheel drive/"&/'
 same "$work/book.csv" check
 said 'read 8 codes, 0 supplementing rules'
-said 'the quote that opens on line 9 is never closed: lines 9 to 69 are one field'
+said 'line 9, column 10: the quote that opens here is never closed: lines 9 to 69 are one field, and no records'
+same "$work/book.csv" order 40 P18
+said 'read 8 codes, 0 supplementing rules'
+said 'lines 9 to 69 are one field, and no records'
 changed compact.csv 's/all-wheel drive/"&/; s/sunroof/&"/'
 same "$work/book.csv" check
 said 'lines 9 to 13 are one field in quotes'
 changed compact.csv 's/all-wheel drive/"all "" wheel, drive"/'
 same "$work/book.csv" check
 grep -q 'quote' "$work/said" && wrong 'a quoted text is taken for a fault'
+changed compact.csv 's/all-wheel drive/"all-wheel\ndrive"/'
+same "$work/book.csv" order 40 P18
+said 'line 9, column 10: lines 9 to 10 are one text'
 
 # What a book is in place of a book.
-tr , ';' < "$books/van.csv" > "$work/book.csv"; same "$work/book.csv" check; said 'parted by semicolons'
-tr , '\t' < "$books/van.csv" > "$work/book.csv"; same "$work/book.csv" check; said 'parted by tabs'
+tr , ';' < "$books/van.csv" > "$work/book.csv"; same "$work/book.csv" check; said 'separated by semicolons'
+tr , '\t' < "$books/van.csv" > "$work/book.csv"; same "$work/book.csv" check; said 'separated by tabs'
 iconv -t UTF-16 < "$books/van.csv" > "$work/book.csv"; same "$work/book.csv" check; said 'the text is UTF-16'
 printf 'book,T,1,10\ncode,M1,gr\374n\n' > "$work/book.csv"; same "$work/book.csv" check; said 'line 2 is the first with such a byte'
 changed van.csv 's/^book/BOOK/'; same "$work/book.csv" check; said 'has to be `book`, in small letters'
 { echo 'kind,name,x'; cat "$books/van.csv"; } > "$work/book.csv"; same "$work/book.csv" check; said 'without a header row'
 same "$books/engine.cert" check; said 'this is a certificate'
-: > "$work/book.csv"; same "$work/book.csv" check; said 'the text has no record'
+: > "$work/book.csv"; same "$work/book.csv" check; said 'no book came: standard input is empty'
+printf 'PK\003\004\024\000\377' > "$work/book.csv"; same "$work/book.csv" check; said 'this is a spreadsheet and no text'
+tried=$((tried + 1)); out order 40 P18; said 'no book came: it is read from standard input'
 head -c 1048577 /dev/zero > "$work/book.csv"; same "$work/book.csv" check; said 'more than 1,048,576 bytes'
 printf '\357\273\277' > "$work/book.csv"; tr '\n' '\r' < "$books/van.csv" >> "$work/book.csv"; same "$work/book.csv" check; said 'read 7 codes'
 
@@ -98,12 +116,14 @@ fault 's/^module,/Module,/' 'book fault 12 5' 'has to be `module`, in small lett
 fault 's/^construct,C1,.*/group,C1,one,M1\/M2,,/' 'book fault 7 5' 'needs a book of form 2'
 fault 's/engine one/engine, one/' 'book fault 2 6' 'a `code` record has 3 fields; this one has 4'
 fault 's/^code,M2/code,m2/' 'book fault 3 7' '`m2` has small letters'
-fault 's/,A100,1,/,A100,0,/' 'book fault 14 8' 'quantities from 1 to 999'
+fault 's/,A100,1,/,A100,0,/' 'book fault 14 8' 'line 14, column 20: `0` is no quantity: a quantity is a number of 1 to 5 digits from 1 to 999'
 fault 's/^variant,V1.*/variant,V1,P1,A100,1,M1,9,3/' 'book fault 14 9' 'line 14: variant,V1,P1,A100,1,M1,9,3'
 fault 's/^construct,C4/construct,C2/' 'book fault 10 10' 'is taken by line 8'
 fault 's/^variant,V1,P1/variant,V1,P2/' 'book fault 14 11' 'there is no position `P2`'
-fault 's/M1+-G7/M1+-G8/' 'book fault 11 12 3 4' 'at its 5th byte, `G8` is no code of the book'
-fault 's/M1+-G7/M1+-/' 'book fault 11 12 4 4' 'at its end'
+fault 's/M1+-G7/M1+-G8/' 'book fault 11 12 3 4' 'line 11, column 25: in the rule `M1+-G8`, at byte 5: `G8` is no code of the book; is `G5` or `G7` meant?'
+fault 's/M1+-G7/M1+-/' 'book fault 11 12 4 4' 'at its end: a code is missing'
+fault 's/M1+-G7/M1+(-G7/' 'book fault 11 12 4 7' 'at its end: a `)` is missing'
+fault 's/^construct,C2,M1/construct,C2,m1/; s/,A200,/,a200,/' 'book fault 8 7' '1 more like this: tools/lint tells each of them'
 # A text of three lines moves the lines of what follows, and no row.
 printf 'book,T,1,10\ncode,M1,"one\ntwo\nthree"\ncode,m2,x\n' > "$work/book.csv"; same "$work/book.csv" check; said 'line 5: code,m2,x'
 
@@ -112,10 +132,11 @@ same "$books/compact.csv" order 400 P18; said 'the term of the book, which is 1 
 same "$books/compact.csv" order 40 P18 XX; said 'the book has no code `XX`'
 same "$books/compact.csv" order 40 P18 P18; said 'the code `P18` is ordered twice'
 same "$books/compact.csv" order 40 p18; said '`p18`: codes are capitals and digits'
-same "$books/compact.csv" order 40 P18,AWD; said 'codes are parted by blanks'
+same "$books/compact.csv" order 40 P18,AWD; said 'codes are separated by blanks'
 same "$books/compact.csv" order 2027-02-09 P18; said 'is no day'
 same "$books/compact.csv" check "$books/van.csv"; said "partsbook check < $books/van.csv"
-same "$books/compact.csv" chek; said 'there is no command `chek`'
+same "$books/compact.csv" chek; said 'there is no command `chek`; is `check` meant?'
+same "$books/compact.csv" nonsense; said 'there is no command `nonsense`; partsbook --help has them all'
 same "$books/compact.csv"; said 'partsbook --help says'
 sed 's/^close 13 21/close 13 20/' "$books/engine.cert" > "$work/wrong.cert"
 same "$books/engine.csv" verify "$work/wrong.cert"; said 'wrong.cert, line 6: question 13 is not closed'
@@ -125,14 +146,87 @@ changed engine.csv 's/M1+-G7/M1+-G8/'
 same "$books/engine.csv" compare 1 "$work/book.csv"; said "the fault is in $work/book.csv"
 same "$work/book.csv" compare 1 "$books/engine.csv"; grep -q 'the fault is in' "$work/said" && wrong 'a fault of the first book is told of the second'
 changed engine.csv 's/engine two/"&/'
-same "$books/engine.csv" compare --budget 5 1 "$work/book.csv"; said "$work/book.csv: the quote that opens on line 3 is never closed"
+same "$books/engine.csv" compare --budget 5 1 "$work/book.csv"; said "$work/book.csv: line 3, column 9: the quote that opens here is never closed"
 same "$books/compact.csv" order 40 -- P18 XX; said 'the book has no code `XX`'
 same "$books/engine.csv" compare 1 --budget=5 "$work/none"; said "the file $work/none can't be read"
-same "$books/engine.csv" compare 2000 "$books/engine.csv"; said "the day isn't in the term of book 1"
+same "$books/engine.csv" compare 2000 "$books/engine.csv"; said "day 2000 isn't in the term of book 1"
+same "$books/compact.csv" order 40 P81; said 'the book has no code `P81`; is `P18` meant?'
+same "$books/compact.csv" ask 40 P18+-P81; said 'in the rule `P18+-P81`, at byte 6: `P81` is no code of the book; is `P18` meant?'
+
+# Each kind of wrong word is named, and what stands in its place.
+word() { # what is said, words..
+    expected=$1
+    shift
+    same "$books/compact.csv" "$@"
+    [ "$(cat "$work/wanted" | cut -c 1-6)" = 'usage:' ] || wrong "the program takes: $*"
+    said "$expected"
+}
+word '`check` has no option `--budgt`; is `--budget` meant?' check --budgt 5
+word '`check` has no option `--json`; it has --budget N and --workers N' check --json
+word '`check` has no option `-v`' check -v
+word '`order` has no option `--budget`' order 40 P18 --budget 5
+word '`free` has no option `--workers`' free 40 P18 --workers 2
+word '`--budget 0`: N is a number from 1 to 50000' check --budget 0
+word '`--budget lots`: N is a number from 1 to 50000' prove --budget=lots
+word '`--workers 99`: N is a number from 1 to 16' check --workers 99
+word '`--budget` is given twice' check --budget 5 --budget 6
+word '`--workers` is given twice' check --workers 2 --workers=3
+word '`--budget` needs a number behind it' check --budget
+word 'CERTFILE is missing' verify
+word 'FILE is missing' compare 1
+word 'DAY is missing' order
+word 'RULE is missing' ask 40
+word 'WORKERS and LINKS are missing' serve "$work/unmade.db" 8080
+grep -q 'a new one is made' "$work/said" && wrong 'a store is told to be made where words are missing'
+word 'PORT, WORKERS and LINKS are missing' serve "$work/unmade.db"
+word '`99999`: PORT is a number from 1 to 65535' serve "$work/unmade.db" 99999 2 3
+word '`17`: WORKERS is a number from 1 to 16' rejudge "$work/unmade.db" 1 17
+word '`0`: BOOK is a number from 1 to 4294967295' rejudge "$work/unmade.db" 0 1
+word '`0`: LINKS is a number from 1 to 1000000' serve "$work/unmade.db" 8080 1 0
+[ ! -e "$work/unmade.db" ] || wrong 'wrong words make a store'
+word '`7`: CODES is a multiple of 4 from 8 to 2000' sample 1 7 3
+word '`10001`: ORDERS is a number from 0 to 10000' sample 1 8 10001
+word '`4` is one word too many: partsbook sample START CODES ORDERS' sample 1 8 3 4
+word '`B` is one word too many: partsbook ask DAY RULE' ask 40 A B
+word '`-` is no file here: the book is read from standard input, and CERTFILE is another file' verify -
+word '`-` is no file here: without it the book is read from standard input' check -
+word '`P18+AWD` is a rule, and here stand codes' order 40 P18+AWD
+word '`ABCDEFGHI` is no code: a code is 1 to 8 capitals and digits' order 40 ABCDEFGHI
+word '`TRUE` is a word of the rules, and no code' order 40 TRUE
+word '`000040` is no day' order 000040 P18
+word "\`$books/van.csv\` is a file: the book is read from standard input, as in: partsbook order 40 < $books/van.csv" order 40 "$books/van.csv"
+
+# The words of which nothing is wrong are right: no sentence stands for words that the program takes.
+for words in 'check --budget=0000000010 --workers 02' 'check --' 'ask 40 -P18 --budget 5' 'ask 40 -- -P18' 'order 00040 -- P18' 'free --budget 5 40 P18' 'sample 4294967295 8 0'; do
+    same "$books/compact.csv" $words
+    grep -q '^usage' "$work/wanted" && wrong "the program doesn't take: $words"
+    LC_ALL=C awk -v table="$top/tools/faults.json" -f "$top/tools/sentences.awk" -f "$top/tools/words.awk" "$top/tools/help.txt" $words > "$work/found"
+    [ ! -s "$work/found" ] || wrong "$words: $(cat "$work/found")"
+done
+
+# Help of a command, wherever it is asked for before the word that ends options, with or without a program.
+helped() { # words..
+    tried=$((tried + 1))
+    PARTSBOOK_PROGRAM=$work/none "$top/partsbook" "$@" > "$work/found" 2> "$work/said" < /dev/null
+    [ $? = 0 ] || wrong "$*: no help"
+    [ "$(head -n 1 "$work/found" | cut -d' ' -f1-2)" = "partsbook $1" ] || wrong "$*: the help of another command"
+    silent
+}
+helped order --help
+helped order 40 P18 --help
+helped check --budgt --help
+tried=$((tried + 2))
+out help nonsense; [ $? = 2 ] || wrong 'help of no command has another status'; said 'there is no command `nonsense`'
+out chek --help; [ $? = 2 ] || wrong 'help of no command has another status'; said 'there is no command `chek`; is `check` meant?'
 
 # How large a check is, as the launcher shows it on a terminal: the slices are those of the report, and the questions those that the
 # program counts where there are too many.
-size() { LC_ALL=C awk -v mode=size -f "$top/tools/book.awk" "$1"; }
+size() { book_awk "$1" -v mode=size; }
+book_awk() {
+    file=$1
+    shift
+    LC_ALL=C awk -v table="$top/tools/faults.json" "$@" -f "$top/tools/sentences.awk" -f "$top/tools/book.awk" "$file"
+}
 for book in "$books"/*.csv; do
     # Requirements aren't a book.
     grep -qE '^(require|uses),' "$book" && continue
@@ -163,7 +257,7 @@ awk 'BEGIN {
 }' > "$work/book.csv"
 tried=$((tried + 1))
 "$program" supplements < "$work/book.csv" > "$work/wanted"
-asked() { LC_ALL=C awk -v mode=size -v asked=supplements -f "$top/tools/book.awk" "$1" | cut -d' ' -f2; }
+asked() { book_awk "$1" -v mode=size -v asked=supplements | cut -d' ' -f2; }
 [ "$(cat "$work/wanted")" = "limit questions 0 $(asked "$work/book.csv")" ] || wrong "the questions of supplements are $(cat "$work/wanted"), and not $(asked "$work/book.csv")"
 
 # Long work on a terminal, over a program that only waits: a shell, which runs the file that is called as the command is. `desk` has
@@ -223,7 +317,7 @@ if has require "$work/none"; then
     same "$books/tarn.csv" require "$books/tarn-laws.csv"
     same "$books/engine.csv" require "$work/none"; said "the file $work/none can't be read"
     printf 'require,R1,M1/M2,,\nuses,R2,A100,M1/M3,,\n' > "$work/wants.csv"
-    same "$books/engine.csv" require "$work/wants.csv"; said 'wants.csv, line 2: uses,R2,A100,M1/M3,,'; said 'no rule over the codes of the book'
+    same "$books/engine.csv" require "$work/wants.csv"; said 'wants.csv, line 2: uses,R2,A100,M1/M3,,'; said 'in the rule `M1/M3`, at byte 4: `M3` is no code of the book'
 fi
 
 # Stores, and who holds one.
