@@ -12,7 +12,8 @@ use Rattle.parts_usage.specs.declared.fault.OrderFault.{OrderFault}
 use Rattle.parts_usage.specs.declared.judgement.Outcome.{Outcome}
 use Rattle.parts_usage.specs.declared.judgement.Outcome.TheVariants as outcome
 use Rattle.findings.specs.declared.report.Note.{Note}
-use Rattle.order_text.specs.OutcomeText.{accepted_text, construct_id}
+use Rattle.order_text.specs.OutcomeText.{accepted_text}
+use Rattle.book_model.specs.Ids.{construct_id}
 use Rattle.release.specs.Release.{Release}
 use Rattle.release_check.specs.declared.not_released.NotReleased.{NotReleased}
 use Rattle.release_check.specs.declared.not_released.NotReleased.TheVariants as kept_back

@@ -10,7 +10,8 @@ use Rattle.parts_usage.specs.Outcome.{outcome_of}
 use Rattle.parts_usage.specs.declared.fault.OrderFault.{OrderFault}
 use Rattle.parts_usage.specs.declared.judgement.Outcome.{Outcome}
 use Rattle.parts_usage.specs.declared.judgement.Outcome.TheVariants as outcome
-use Rattle.order_text.specs.OutcomeText.{accepted_text, construct_id}
+use Rattle.order_text.specs.OutcomeText.{accepted_text}
+use Rattle.book_model.specs.Ids.{construct_id}
 use Rattle.release.specs.Orders.{IsWellFormed, can_be_built, supplemented}
 use Rattle.release.specs.Release.{Release, IsRelease}
 use Rattle.release.proofs.OrderLaws.{built, turned_away}

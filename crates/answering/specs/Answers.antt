@@ -23,8 +23,9 @@ use Rattle.order_repair.specs.declared.answer.WhyAnswer.{WhyAnswer}
 use Rattle.findings.specs.Notes.{IsReport}
 use Rattle.findings.specs.declared.report.Ask.TheVariants as ask
 use Rattle.findings.specs.declared.report.Note.{Note}
-use Rattle.order_text.specs.OutcomeText.{accepted_text, construct_id}
-use Rattle.pb_reports.specs.ReportText.{report_text}
+use Rattle.order_text.specs.OutcomeText.{accepted_text}
+use Rattle.book_model.specs.Ids.{construct_id}
+use Rattle.findings.specs.ReportText.{report_text}
 use Rattle.release_check.specs.NotReleased.{IsRefusal}
 use Rattle.release.specs.Release.{Release, IsRelease}
 use Rattle.release_check.specs.declared.checking.NotChecked.{NotChecked}

@@ -17,7 +17,8 @@ use Rattle.pb_outside.specs.Faults.{Fails}
 use Rattle.book_model.specs.Contents.{Contents}
 use Rattle.book_model.specs.Parts.{parts}
 use Rattle.parts_usage.specs.Broken.{first_broken_of}
-use Rattle.order_text.specs.OutcomeText.{accepted_text, construct_id}
+use Rattle.order_text.specs.OutcomeText.{accepted_text}
+use Rattle.book_model.specs.Ids.{construct_id}
 use Rattle.release.specs.Orders.{HasOneList, IsWellFormed, can_be_built, supplemented}
 use Rattle.desk_words.specs.declared.order_words.OrderWords.{OrderWords}
 use Rattle.desk_words.specs.declared.reply.Reply.{Reply}

@@ -9,6 +9,7 @@ mod calls;
 mod drafts;
 mod gate;
 mod headline;
+mod judged;
 mod names;
 mod orders;
 mod seat;

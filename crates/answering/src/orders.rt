@@ -4,7 +4,8 @@ ghost use Rattle.pb_base.specs.Answers.{Gives};
 ghost use Rattle.release.specs.Judged.{as_outcome, refused_by};
 ghost use Rattle.pb_base.specs.Names.{is_code_name};
 ghost use Rattle.parts_usage.specs.Outcome.{outcome_of};
-ghost use Rattle.order_text.specs.OutcomeText.{construct_id, outcome_text};
+ghost use Rattle.order_text.specs.OutcomeText.{outcome_text};
+ghost use Rattle.book_model.specs.Ids.{construct_id};
 ghost use Rattle.desk_words.specs.declared.reply.Reply.TheVariants as Reply;
 ghost use Rattle.order_desk.specs.declared.event.Event.TheVariants as Event;
 ghost use Rattle.order_desk.specs.declared.event.Reading.TheVariants as Reading;
@@ -17,6 +18,7 @@ ghost use Rattle.answering.specs.Told.{BookAccepts, IsBookThere, as_kept, as_loo
 
 use crate::asked::{KeptOrder, Looked, ask_number, ask_order, ask_place};
 use crate::gate::Gate;
+use crate::judged::judged_text;
 use crate::names::{code_names_law, name_law};
 use crate::turns::Turns;
 use book_model::Book;
@@ -24,7 +26,7 @@ use desk_words::{OrderWords, Reply};
 use order_desk::SharedBook;
 use parts_usage::OrderFault;
 use pb_base::{Body, Fail, Id, Memory};
-use release::{Judged, judge, judged_text};
+use release::{Judged, judge};
 use std::alloc::Global;
 
 /// Places an order under the caller's number.

@@ -5,3 +5,4 @@ pub mod Guarding
 pub mod Absent
 pub mod Plain
 pub mod Cases
+pub mod AskText

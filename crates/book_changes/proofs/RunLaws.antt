@@ -5,7 +5,7 @@ use Rattle.std.specs.List.{AllZip, IsDistinct}
 use Rattle.std.specs.Option.{option_map, option_to_list}
 use Rattle.std.specs.Prelude.{Ok, Err}
 use Rattle.std.proofs.lemmas.List.{take_more}
-use Rattle.pb_base.specs.NamedSet.{named}
+use Rattle.pb_base.specs.NamedSet.{named, set_of_names}
 use Rattle.pb_base.specs.Names.{same_name}
 use Rattle.book_model.specs.Contents.{Contents}
 use Rattle.book_model.specs.Good.{is_good}
@@ -13,7 +13,6 @@ use Rattle.book_model.specs.Sound.{IsReleasable}
 use Rattle.book_model.specs.Slices.{IsSteady}
 use Rattle.book_model.specs.declared.record.Slice.{Slice}
 use Rattle.book_model.proofs.DaysAlike.{good_on_slice}
-use Rattle.pb_base.specs.NamedSet.{set_of_names}
 use Rattle.pb_base.specs.Results.{unless}
 use Rattle.pb_base.specs.declared.named_set.NameFault.{NameFault}
 use Rattle.pb_base.proofs.Faultless.{no_fault}
@@ -22,8 +21,8 @@ use Rattle.clausify.proofs.ItemLaws.{length_from_good}
 use Rattle.chosen_parts.specs.Chosen.{use_of, AreFew}
 use Rattle.chosen_parts.specs.declared.part_use.PartUse.{PartUse}
 use Rattle.chosen_parts.proofs.FewLaws.{few_from_sound}
-use Rattle.book_compare.specs.Common.{AreNamed, DiffersWith}
-use Rattle.book_compare.specs.Picked.{picked}
+use Rattle.book_compare.specs.Common.{DiffersWith}
+use Rattle.pb_base.specs.Picked.{AreNamed, picked}
 use Rattle.lost_cars.specs.CommonCar.{IsCommonAnswer, IsCommonCar}
 use Rattle.lost_cars.specs.Losses.{IsCar, KeepsCars}
 use Rattle.lost_cars.proofs.NotedLaws.{car_of_set}

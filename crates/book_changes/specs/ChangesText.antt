@@ -11,8 +11,8 @@ use Rattle.book_model.specs.Contents.{Contents}
 use Rattle.book_model.specs.Slices.{days_from_to}
 use Rattle.book_model.specs.declared.record.Slice.{Slice}
 use Rattle.chosen_parts.specs.declared.part_use.PartUse.{PartUse}
-use Rattle.desk_words.specs.Lines.{line, number_behind}
-use Rattle.order_text.specs.OutcomeText.{names_from}
+use Rattle.pb_base.specs.Lines.{line, number_behind}
+use Rattle.pb_base.specs.NamesText.{names_from}
 use Rattle.book_compare.specs.CompareText.{name_behind}
 use Rattle.lost_cars.specs.declared.note.Cause.{Cause}
 use Rattle.lost_cars.specs.declared.note.Cause.TheVariants.{Entry, Code}

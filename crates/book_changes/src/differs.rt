@@ -6,7 +6,7 @@ ghost use Rattle.pb_base.specs.NamedSet.{named};
 ghost use Rattle.pb_base.specs.Names.{same_name};
 ghost use Rattle.book_model.specs.Good.{is_good};
 ghost use Rattle.chosen_parts.specs.Chosen.{chosen, AreFew};
-ghost use Rattle.book_compare.specs.Common.{AreNamed};
+ghost use Rattle.pb_base.specs.Picked.{AreNamed};
 ghost use Rattle.lost_cars.specs.Losses.{IsCar};
 ghost use Rattle.book_changes.specs.Days.{IsJointRun, IsRunOf};
 ghost use Rattle.book_changes.specs.Differs.{IsSelected, IsTrueNote};

@@ -9,10 +9,8 @@ use crate::count::told_in;
 use crate::run::{Common, DifferNote, RunNotes};
 use book_model::{Book, Slice};
 use chosen_parts::PartUse;
-use desk_words::put_number;
 use lost_cars::{Cause, LossNote};
-use order_text::put_names;
-use pb_base::{Body, CodeName, Day, Memory, Text};
+use pb_base::{Body, CodeName, Day, Memory, Text, put_names, put_number};
 use std::alloc::Global;
 
 /// For each run `days FIRST LAST` and its lines: `no common car`, `lost ENTRY with CODE ..` or `lost code CODE with CODE ..`, `won ..`,

@@ -52,7 +52,7 @@ use Rattle.pb_base.specs.InParts.{InParts}
 use Rattle.pb_base.specs.Results.{and_then, unless}
 use Rattle.pb_base.specs.Places.{places_of}
 use Rattle.pb_base.specs.Rule.{Rule, always}
-use Rattle.pb_base.specs.declared.limits.TheConstants.{MOST_TEXT_BYTES}
+use Rattle.pb_base.specs.declared.limits.TheConstants.{MOST_TEXT_BYTES, DEFAULT_BUDGET}
 use Rattle.pb_outside.specs.Files.{NamedBytes, FilesTold, content_of, within_room, ReadsFile}
 use Rattle.rule_text.specs.Reading.{rule_of}
 use Rattle.rule_text.specs.declared.fault.RuleFault.{RuleFault}
@@ -75,7 +75,6 @@ use Rattle.book_commands.specs.RunReply.{RunReply, outcome_notes, outcome_status
 use Rattle.book_commands.specs.Sample.{RepliesToSample}
 use Rattle.book_sample.specs.Lines.{sample_text}
 use Rattle.command_words.specs.Size.{Size}
-use Rattle.pb_base.specs.declared.limits.TheConstants.{DEFAULT_BUDGET}
 use Rattle.book_commands.specs.Supplements.{IsSupplementReply, RepliesToSupplements, supplement_reply}
 use Rattle.book_commands.specs.Why.{IsWhyReply, RepliesToWhy, repair_notes, why_reply}
 use Rattle.book_commands.specs.declared.comparing.Span.{Span}

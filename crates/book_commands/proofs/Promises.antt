@@ -29,8 +29,7 @@ use Rattle.book_commands.proofs.Releasable.{check-releasable, proof-releasable, 
 use Rattle.book_commands.proofs.Nothing.{check_nothing, proof_nothing, supplements_nothing, compare_nothing, free_nothing, why_nothing, ask_nothing}
 use Rattle.book_commands.proofs.Required.{require_nothing}
 use Rattle.book_commands.proofs.RequireLaws.{require-kind, require-told, has_stated}
-use Rattle.book_commands.proofs.Statuses.{same-kind, order-kind, verify-kind, check-kind, proof-kind, supplements-kind, texts-kind}
-use Rattle.book_commands.proofs.Statuses.{order-status, verify-status, check-answered, proof-answered, supplements-answered, compare-answered, changes-told}
+use Rattle.book_commands.proofs.Statuses.{same-kind, order-kind, verify-kind, check-kind, proof-kind, supplements-kind, texts-kind, order-status, verify-status, check-answered, proof-answered, supplements-answered, compare-answered, changes-told}
 use Rattle.book_commands.proofs.Valid.{has_book, has_certificate}
 use Rattle.book_commands.proofs.WhyLaws.{why-kind, why-answered}
 

@@ -38,8 +38,7 @@ use Rattle.supplement_findings.specs.declared.report.SupplementNote.{SupplementN
 use Rattle.pb_outside.specs.Files.{NamedBytes, FilesTold, content_of, within_room, ReadsFile}
 use Rattle.book_commands.specs.Ends.{IsDecided, IsOrderStatus, IsCheckStatus, IsVerifyStatus, IsSampleStatus, EndsCheck, EndsSample}
 use Rattle.book_commands.specs.Logged.{logged_behind, is_spent}
-use Rattle.book_commands.specs.RunReply.{RunReply, outcome_status, judged_reply, order_reply, certified_reply, content_reply}
-use Rattle.book_commands.specs.RunReply.{verdict_status, report_reply}
+use Rattle.book_commands.specs.RunReply.{RunReply, outcome_status, judged_reply, order_reply, certified_reply, content_reply, verdict_status, report_reply}
 use Rattle.book_commands.specs.Checks.{IsReported, IsProvedBy, IsProved, RepliesWithin, inquiry, RepliesToCheck, RepliesToProof}
 use Rattle.book_commands.specs.Sample.{RepliesToSample}
 use Rattle.command_words.specs.Size.{Size}

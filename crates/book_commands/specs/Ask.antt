@@ -5,13 +5,13 @@ use Rattle.std.specs.Prelude.{◌≡◌, ℕ, Bool, true, false, List, [], ◌�
 use Rattle.blame.specs.Blame.{IsTold}
 use Rattle.blame.specs.declared.blamed.Told.{Told}
 use Rattle.blame.specs.declared.blamed.Told.TheVariants as told
-use Rattle.blame_text.specs.AskText.{ask_text}
+use Rattle.blame.specs.AskText.{ask_text}
 use Rattle.book_model.specs.Activity.{is_within}
 use Rattle.book_model.specs.Contents.{Contents}
 use Rattle.book_text.specs.BookText.{book_of}
 use Rattle.book_text.specs.declared.fault.BookFault.{BookFault}
-use Rattle.desk_words.specs.FaultText.{rule_fault_text as kind_and_place}
-use Rattle.desk_words.specs.Lines.{line}
+use Rattle.rule_text.specs.FaultText.{rule_fault_text as kind_and_place}
+use Rattle.pb_base.specs.Lines.{line}
 use Rattle.left_laws.specs.Laws.{OrdersMeet}
 use Rattle.parts_usage.specs.declared.fault.OrderFault.TheVariants.{DayOutsideTerm}
 use Rattle.pb_base.specs.Rule.{Rule}

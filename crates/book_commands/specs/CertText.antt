@@ -6,7 +6,7 @@ use Rattle.derivation.specs.declared.fault.CertFault.{CertFault}
 use Rattle.derivation.specs.declared.fault.CertKind.{CertKind}
 use Rattle.derivation.specs.declared.fault.CertKind.TheVariants.{Syntax, WrongBook, NoSuchStep, NoPivot, NotClosed, BadSet, Trailing, TooLarge, Limit}
 use Rattle.derivation.specs.declared.fault.Certified.{Certified}
-use Rattle.desk_words.specs.Lines.{line, number_behind}
+use Rattle.pb_base.specs.Lines.{line, number_behind}
 use Rattle.desk_words.specs.FaultText.{limit_text}
 
 -- the number of a kind

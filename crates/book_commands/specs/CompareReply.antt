@@ -18,7 +18,7 @@ use Rattle.book_model.specs.Sound.{IsReleasable}
 use Rattle.book_text.specs.BookText.{book_of}
 use Rattle.book_text.specs.declared.fault.BookFault.{BookFault}
 use Rattle.book_text.specs.declared.fault.BookKind.TheVariants.{TooLarge}
-use Rattle.desk_words.specs.Lines.{line}
+use Rattle.pb_base.specs.Lines.{line}
 use Rattle.pb_outside.specs.Files.{NamedBytes, FilesTold, content_of, ReadsFile, FailsToRead}
 use Rattle.book_commands.specs.Ample.{AreChangesDecided, ArePositionsDecided, IsAmpleForBoth, IsAmpleForFile}
 use Rattle.book_commands.specs.ChangesReply.{RepliesToChanges}

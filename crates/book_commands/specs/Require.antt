@@ -14,8 +14,8 @@ use Rattle.book_text.specs.declared.fault.BookKind.TheVariants.{TooLarge}
 use Rattle.kept_requirements.specs.Notes.{IsReport, is_failing, is_undecided}
 use Rattle.kept_requirements.specs.declared.note.RequirementNote.{RequirementNote}
 use Rattle.pb_outside.specs.Files.{NamedBytes, FilesTold, content_of, ReadsFile, FailsToRead}
-use Rattle.requirement_text.specs.FaultText.{requirement_fault_text}
-use Rattle.requirement_text.specs.NotesText.{requirement_text}
+use Rattle.requirements.specs.FaultText.{requirement_fault_text}
+use Rattle.kept_requirements.specs.NotesText.{requirement_text}
 use Rattle.requirements.specs.Requirements.{requirements_of}
 use Rattle.requirements.specs.declared.fault.RequirementFault.{RequirementFault}
 use Rattle.requirements.specs.declared.fault.RequirementKind.TheVariants.{AsInBooks}

@@ -17,8 +17,8 @@ use Rattle.findings.specs.declared.report.Note.{Note as Told}
 use Rattle.findings.specs.declared.report.Verdict.{Verdict}
 use Rattle.findings.specs.declared.report.Verdict.TheVariants.{Releasable, Blocked, Undecided}
 use Rattle.order_text.specs.OutcomeText.{outcome_text}
-use Rattle.desk_words.specs.Lines.{line, number_behind}
-use Rattle.pb_reports.specs.ReportText.{report_text}
+use Rattle.pb_base.specs.Lines.{line, number_behind}
+use Rattle.findings.specs.ReportText.{report_text}
 use Rattle.book_commands.specs.CertText.{cert_fault_text, verified_text}
 use Rattle.book_commands.specs.Logged.{logged}
 use Rattle.book_commands.specs.declared.log.Note.{Note}
@@ -26,8 +26,7 @@ use Rattle.book_commands.specs.declared.object.Object.{Object}
 use Rattle.book_commands.specs.declared.object.Object.TheVariants.{Keeper}
 use Rattle.book_commands.specs.declared.run_status.RunStatus.{RunStatus}
 use Rattle.book_commands.specs.declared.run_status.RunStatus.TheVariants as statuses
-use Rattle.book_commands.specs.declared.log.Note.TheVariants.{Text as TextNote, Order as OrderNote, Limit as LimitNote}
-use Rattle.book_commands.specs.declared.log.Note.TheVariants.{Refused as RefusedNote, Unfit as UnfitNote, Cert as CertNote, BadRow as BadRowNote, Count as CountNote}
+use Rattle.book_commands.specs.declared.log.Note.TheVariants.{Text as TextNote, Order as OrderNote, Limit as LimitNote, Refused as RefusedNote, Unfit as UnfitNote, Cert as CertNote, BadRow as BadRowNote, Count as CountNote}
 
 pub record RunReply : Type 0 where
   pub text : List ℕ

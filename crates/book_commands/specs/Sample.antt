@@ -10,7 +10,7 @@ use Rattle.book_sample.specs.Groups.{behind_groups}
 use Rattle.book_sample.specs.Lines.{sample_text}
 use Rattle.book_sample.specs.Orders.{Stream, order_at, behind_order}
 use Rattle.book_text.specs.BookText.{book_of}
-use Rattle.desk_words.specs.Lines.{line, number_behind}
+use Rattle.pb_base.specs.Lines.{line, number_behind}
 use Rattle.desk_words.specs.declared.order_words.OrderWords.{OrderWords}
 use Rattle.derivation.specs.Accepted.{IsAccepted}
 use Rattle.findings.specs.Notes.{IsReport, verdict_of}
@@ -21,7 +21,7 @@ use Rattle.parts_usage.specs.Outcome.{outcome_of}
 use Rattle.parts_usage.specs.declared.fault.OrderFault.{OrderFault}
 use Rattle.parts_usage.specs.declared.judgement.Outcome.{Outcome}
 use Rattle.parts_usage.specs.declared.judgement.Outcome.TheVariants.{Accepted, Refused, Unfit}
-use Rattle.pb_reports.specs.ReportText.{report_text}
+use Rattle.findings.specs.ReportText.{report_text}
 use Rattle.release.specs.declared.judging.Judged.{Judged}
 use Rattle.release.specs.declared.judging.Judged.TheVariants as judged
 use Rattle.book_commands.specs.Checks.{inquiry}

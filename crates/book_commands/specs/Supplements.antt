@@ -6,7 +6,7 @@ use Rattle.std.specs.List.{list_any}
 use Rattle.book_model.specs.Contents.{Contents}
 use Rattle.book_text.specs.BookText.{book_of}
 use Rattle.book_text.specs.declared.fault.BookFault.{BookFault}
-use Rattle.pb_reports.specs.SupplementText.{supplement_text}
+use Rattle.supplement_findings.specs.SupplementText.{supplement_text}
 use Rattle.supplement_findings.specs.Limits.{slices_within}
 use Rattle.supplement_findings.specs.Notes.{SupplementInquiry, IsReport, is_finding, is_undecided}
 use Rattle.supplement_findings.specs.declared.report.SupplementNote.{SupplementNote}

@@ -12,16 +12,14 @@ use crate::judge::{book_fault_reply, order_fault_reply};
 use crate::log::Note;
 use crate::run_reply::RunReply;
 use crate::run_status::RunStatus;
-use blame::{Told, find_or_blame};
-use blame_text::ask_text;
+use blame::{Told, ask_text, find_or_blame};
 use book_model::{Book, active};
 use book_text::read_book;
 use command_words::{Budget, RuleWord};
-use desk_words::put_rule_fault;
 use left_laws::left_laws;
 use parts_usage::OrderFault;
 use pb_base::{Body, Day, Fail, Formula, Memory, Text};
-use rule_text::{RuleFault, read_rule};
+use rule_text::{RuleFault, put_rule_fault, read_rule};
 use std::alloc::Global;
 
 /// Whether a car of this day meets the rule, by the book of the text, and what is to blame if none does.

@@ -4,8 +4,8 @@ ghost use Rattle.book_commands.specs.CertText.{cert_number, limit_behind, cert_d
 
 use book_model::{Book, LimitFault};
 use derivation::{CertFault, CertKind, Certified};
-use desk_words::{put_limit, put_number};
-use pb_base::{Body, Memory, Text};
+use desk_words::put_limit;
+use pb_base::{Body, Memory, Text, put_number};
 use std::alloc::Global;
 
 /// `verified NAME slices S steps N`.

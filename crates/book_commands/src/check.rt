@@ -14,9 +14,8 @@ use crate::run_reply::RunReply;
 use crate::run_status::RunStatus;
 use book_model::{Book, LimitFault};
 use command_words::{Budget, Workers};
-use findings::{Report, Verdict, verdict_of};
+use findings::{Report, Verdict, report_text, verdict_of};
 use pb_base::{Fail, Memory};
-use pb_reports::report_text;
 use release_check::{
     CertifiedBook, NotChecked, NotReleased, ReportedBook, certify_text_by, check_text_by,
 };

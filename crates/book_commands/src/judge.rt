@@ -3,8 +3,7 @@ ghost use Rattle.std.specs.Prelude.{◌≡◌, IfOk};
 ghost use Rattle.std.specs.Option.{option_to_list};
 ghost use Rattle.book_text.specs.BookText.{book_of};
 ghost use Rattle.parts_usage.specs.Outcome.{outcome_of};
-ghost use Rattle.book_commands.specs.RunReply.{book_fault_reply, order_fault_reply, outcome_status, outcome_notes};
-ghost use Rattle.book_commands.specs.RunReply.{outcome_reply, judged_reply, order_reply};
+ghost use Rattle.book_commands.specs.RunReply.{book_fault_reply, order_fault_reply, outcome_status, outcome_notes, outcome_reply, judged_reply, order_reply};
 
 use crate::fault_text::{book_fault_text, order_fault_text};
 use crate::log::Note;

@@ -17,12 +17,15 @@ use crate::run_status::RunStatus;
 use book_model::Book;
 use book_text::{BookKind, read_book};
 use command_words::{Budget, FileName, Workers};
-use kept_requirements::{RequirementNote, any_fails, any_undecided, check_requirements};
+use kept_requirements::{
+    RequirementNote, any_fails, any_undecided, check_requirements, requirement_text,
+};
 use pb_base::limits::MOST_TEXT_BYTES;
 use pb_base::{Fail, Memory};
 use pb_outside::{Files, OutError};
-use requirement_text::{requirement_fault_text, requirement_text};
-use requirements::{Requirement, RequirementFault, RequirementKind, read_requirements};
+use requirements::{
+    Requirement, RequirementFault, RequirementKind, read_requirements, requirement_fault_text,
+};
 use std::alloc::Global;
 use std::thread::Threads;
 

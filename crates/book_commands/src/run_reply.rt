@@ -5,8 +5,7 @@ ghost use Rattle.book_commands.specs.RunReply.{bad_row_reply, bad_row_text, read
 use crate::log::Note;
 use crate::object::Object;
 use crate::run_status::RunStatus;
-use desk_words::put_number;
-use pb_base::{Body, Memory, Text};
+use pb_base::{Body, Memory, Text, put_number};
 use std::alloc::Global;
 use std::marker::Model;
 

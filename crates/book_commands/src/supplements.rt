@@ -16,10 +16,11 @@ use book_model::Book;
 use book_text::read_book;
 use command_words::{Budget, Workers};
 use pb_base::{Fail, Memory};
-use pb_reports::supplement_text;
 use std::alloc::Global;
 use std::thread::Threads;
-use supplement_findings::{SupplementReport, any_finding, any_undecided, check_supplements};
+use supplement_findings::{
+    SupplementReport, any_finding, any_undecided, check_supplements, supplement_text,
+};
 
 /// Which supplementing rules of the book of the text break constructible sets, and which keep each other from firing, asked by so
 /// many workers.

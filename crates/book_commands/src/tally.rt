@@ -3,8 +3,7 @@ ghost use Rattle.std.specs.Prelude.{◌≡◌, ◌+◌, ◌++◌, ◌<◌, Ok, O
 ghost use Rattle.release.specs.Judged.{as_outcome};
 ghost use Rattle.book_commands.specs.Sample.{counted, lines_in, nothing_counted, tally_text};
 
-use desk_words::put_number;
-use pb_base::{Memory, Text};
+use pb_base::{Memory, Text, put_number};
 use release::Judged;
 
 /// How many orders are accepted and refused, and how many lines the parts lists of the accepted ones have.

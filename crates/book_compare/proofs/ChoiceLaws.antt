@@ -13,7 +13,7 @@ use Rattle.chosen_parts.proofs.UseLaws.{same_from_test, test_from_same}
 use Rattle.book_compare.specs.Asked.{uses, new_keys, keys_of, literals_with, key_literals}
 use Rattle.book_compare.specs.Keys.{KeyLiterals}
 use Rattle.book_compare.proofs.KeyLaws.{chooses_first, chooses_second, differs}
-use Rattle.book_compare.proofs.PickLaws.{either_true}
+use Rattle.pb_base.proofs.PickLaws.{either_true}
 use Rattle.book_compare.proofs.UsageLaws.{has_use}
 
 same_self : (p : PartUse) → is_same_use p p ≡ true

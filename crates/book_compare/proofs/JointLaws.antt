@@ -28,7 +28,8 @@ use Rattle.clausify.proofs.ItemLaws.{AllFit, AllMeet, items_named, items_named-a
 use Rattle.clausify.proofs.GoalLaws.{UsagesFit, usages_fit, AllRight, right_from_choices}
 use Rattle.clausify.proofs.SliceLaws.{items_fit}
 use Rattle.clausify.proofs.LiftLaws.{lifted, IsLiftedOver, lift_items, truth_from_sat}
-use Rattle.book_compare.specs.Common.{AreNamed, IsCommon}
+use Rattle.book_compare.specs.Common.{IsCommon}
+use Rattle.pb_base.specs.Picked.{AreNamed}
 use Rattle.book_compare.specs.Numbering.{numbers_of, missing_from, added_from, alone}
 use Rattle.book_compare.specs.JointItems.{absent_item, absent_items, renamed_item, day_variants, renamed_usage, renamed_usage_items, renamed_usages, second_items, joint_items, first_variable, joint_clauses, first_rules_at, first_usages_at, second_rules_at, second_usages_at, first_usages, second_usages}
 use Rattle.clausify.proofs.AgreeLaws.{Agree, holds_agree, all_meet_agree, all_fit_more}

@@ -27,11 +27,11 @@ use Rattle.chosen_parts.specs.declared.part_use.PartUse.{PartUse}
 use Rattle.chosen_parts.proofs.FewLaws.{few_chosen, few_from_sound}
 use Rattle.book_compare.specs.Asked.{is_variant_of, usages_in, usages_at, uses, keys_of, literals_with, key_literals, asked_keys, asked_clauses, asked_variables, asked_goal}
 use Rattle.book_compare.specs.Comparison.{IsLeft}
-use Rattle.book_compare.specs.Common.{AreNamed, IsCommon, DiffersWith, AreAlike}
+use Rattle.book_compare.specs.Common.{IsCommon, DiffersWith, AreAlike}
+use Rattle.pb_base.specs.Picked.{AreNamed, picked}
 use Rattle.book_compare.specs.JointItems.{joint_items, first_variable, joint_clauses, joint_variables, first_usages, second_usages}
 use Rattle.book_compare.specs.Keys.{KeyLiterals, position_clauses}
 use Rattle.book_compare.specs.Numbering.{missing_from, added_from}
-use Rattle.book_compare.specs.Picked.{picked}
 use Rattle.book_compare.specs.Comparing.{IsOfTerm, AreBooks}
 use Rattle.book_compare.specs.Together.{place_keys, searched_clauses, searched_variables, goal_at}
 use Rattle.book_compare.specs.declared.place.Place.{Place}
@@ -39,7 +39,8 @@ use Rattle.book_compare.proofs.ChoiceLaws.{same_when_none, none_when_same}
 use Rattle.book_compare.proofs.JointLaws.{lift_common, alone_false, first_good, first_right, second_good, second_right}
 use Rattle.book_compare.proofs.KeyLaws.{Values, constant, values_from_names, chooses_first, chooses_second, lost, won, truths, values_of, key_values, differs, keys_values, position_values}
 use Rattle.book_compare.proofs.NumberLaws.{cases_option, missing_below}
-use Rattle.book_compare.proofs.PickLaws.{picked_distinct, named-picked, picked_named, picked_in_other}
+use Rattle.book_compare.proofs.PickLaws.{picked_in_other}
+use Rattle.pb_base.proofs.PickLaws.{picked_distinct, named-picked, picked_named}
 use Rattle.book_compare.proofs.TogetherLaws.{together_values, sat_from_together, goal_by_values, differs_together, keys_there}
 use Rattle.book_compare.proofs.UsageLaws.{has_use, first_variants, renamed_variants, chosen_by_key}
 

@@ -11,7 +11,7 @@ use Rattle.pb_base.specs.Sets.{has}
 use Rattle.pb_base.specs.NamedSet.{named}
 use Rattle.pb_base.proofs.NamedSets.{code_at_place, has-named}
 use Rattle.chosen_parts.proofs.PlaceLaws.{none_found}
-use Rattle.book_compare.specs.Common.{AreNamed}
+use Rattle.pb_base.specs.Picked.{AreNamed}
 use Rattle.book_compare.specs.Numbering.{numbers_from, further, missing_from, added_from}
 
 -- what is not found is none of the names

@@ -4,7 +4,7 @@ use Rattle.book_compare.proofs.StepRuns.{dropped}
 use Rattle.std.specs.List.{slice_get}
 use Rattle.std.specs.Option.{IfSome}
 use Rattle.std.proofs.lemmas.Option.{slice_get-get_or}
-use Rattle.book_compare.specs.Picked.{picked_one, picked_from}
+use Rattle.pb_base.specs.Picked.{picked_one, picked_from}
 
 pub picked_step : (x : List Bool) (codes : List (List ℕ)) (place : ℕ) (names more all : List (List ℕ)) → place < length codes
     → IfSome (slice_get codes place) (λ name. more ≡ names ++ picked_one x place name) → names ++ picked_from place x (drop place codes) ≡ all

@@ -3,7 +3,7 @@ use Rattle.std.proofs.Common.{◌≡◌, ℕ, ◌+◌, ◌-◌, ◌<◌, ◌≤�
 use Rattle.book_compare.proofs.NumberLaws.{cases_option}
 use Rattle.std.specs.List.{filter}
 use Rattle.std.specs.Option.{is_none, option_to_list}
-use Rattle.std.proofs.lemmas.List.{take_more}
+use Rattle.std.proofs.lemmas.List.{take_more, map-append}
 use Rattle.std.proofs.lemmas.List.Elements.{filter-append}
 use Rattle.pb_base.specs.InParts.{InParts}
 use Rattle.pb_base.proofs.PartLaws.{parts_more}
@@ -15,7 +15,6 @@ use Rattle.book_compare.specs.Comparison.{IsNoted, IsNotedAt, AreNoted, IsCompar
 use Rattle.book_compare.specs.Searched.{IsPut, ArePut, AddsPlaces}
 use Rattle.book_compare.specs.declared.note.CompareNote.{CompareNote}
 use Rattle.book_compare.specs.declared.place.Place.{Place}
-use Rattle.std.proofs.lemmas.List.{map-append}
 
 module _ (first second : Contents) (day : ℕ) where
   pub adds_none : (old : List Place) → AddsPlaces first second day [] old old

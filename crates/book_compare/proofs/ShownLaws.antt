@@ -14,12 +14,13 @@ use Rattle.book_model.specs.Good.{is_good}
 use Rattle.chosen_parts.specs.Chosen.{is_same_use, chosen}
 use Rattle.chosen_parts.specs.declared.part_use.PartUse.{PartUse}
 use Rattle.chosen_parts.proofs.UseLaws.{same_from_test, test_from_same}
-use Rattle.book_compare.specs.Common.{AreNamed, IsCommon, DiffersWith, AreAlike}
+use Rattle.book_compare.specs.Common.{IsCommon, DiffersWith, AreAlike}
+use Rattle.pb_base.specs.Picked.{AreNamed, picked}
 use Rattle.book_compare.specs.Numbering.{numbers_of, missing_from, added_from}
-use Rattle.book_compare.specs.Picked.{picked}
 use Rattle.book_compare.specs.Shown.{same_uses, are_absent, other_set, is_common, is_other, shows}
 use Rattle.book_compare.proofs.NumberLaws.{length-numbers_from, all_added, number_has, missing_absent}
-use Rattle.book_compare.proofs.PickLaws.{picked_distinct, named-picked, picked_named, picked_in_other, named_own}
+use Rattle.book_compare.proofs.PickLaws.{picked_in_other}
+use Rattle.pb_base.proofs.PickLaws.{picked_distinct, named-picked, picked_named, named_own}
 
 same_uses_self : (ps : List PartUse) → same_uses ps ps ≡ true
 same_uses_self [] = refl

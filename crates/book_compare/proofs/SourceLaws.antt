@@ -10,7 +10,7 @@ use Rattle.inquiry.specs.declared.told.Told.{Told}
 use Rattle.inquiry.specs.declared.told.Told.TheVariants.{Finding, Undecided}
 use Rattle.book_compare.specs.Comparing.{AreBooks}
 use Rattle.book_compare.specs.Comparison.{IsNoted, AreNoted}
-use Rattle.book_compare.specs.Picked.{picked}
+use Rattle.pb_base.specs.Picked.{picked}
 use Rattle.book_compare.specs.Source.{comparison, note_of}
 use Rattle.book_compare.specs.declared.place.Place.{Place}
 use Rattle.book_compare.proofs.BoundLaws.{joint_variables_fit, searched_below, goal_below, together_few}

@@ -3,16 +3,13 @@
 --     DiffersWith first second day id names  such codes, with which the books choose other parts at the position of an id
 --     AreAlike first second day id           there are none
 use Rattle.std.specs.Prelude.{◌≡◌, ℕ, true, List}
-use Rattle.std.specs.List.{AllByRecursion, IsDistinct, list_any}
+use Rattle.std.specs.List.{IsDistinct}
 use Rattle.pb_base.specs.Names.{same_name}
 use Rattle.pb_base.specs.NamedSet.{named}
+use Rattle.pb_base.specs.Picked.{AreNamed}
 use Rattle.book_model.specs.Contents.{Contents}
 use Rattle.book_model.specs.Good.{is_good}
 use Rattle.chosen_parts.specs.Chosen.{chosen}
-
--- all names are those of codes
-abbrev pub AreNamed : List (List ℕ) → List (List ℕ) → Type 0
-AreNamed codes names = AllByRecursion (λ name. list_any (same_name name) codes ≡ true) names
 
 pub record IsCommon (first second : Contents) (day : ℕ) (names : List (List ℕ)) : Type 0 where
   pub distinct : IsDistinct same_name names

@@ -3,7 +3,7 @@
 --     compare_text notes   the lines, then how many positions differ
 use Rattle.std.specs.Prelude.{ℕ, Bool, true, false, List, ◌∷◌, ◌++◌, codes, length, filter}
 use Rattle.std.specs.List.{flat_map}
-use Rattle.desk_words.specs.Lines.{line, number_behind}
+use Rattle.pb_base.specs.Lines.{line, number_behind}
 use Rattle.book_compare.specs.declared.note.CompareNote.{CompareNote}
 use Rattle.book_compare.specs.declared.note.CompareNote.TheVariants.{Finding, Undecided}
 

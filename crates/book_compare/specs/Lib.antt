@@ -5,7 +5,6 @@ pub mod Keys
 pub mod Asked
 pub mod Together
 pub mod Asking
-pub mod Picked
 pub mod Shown
 pub mod Comparison
 pub mod Comparing

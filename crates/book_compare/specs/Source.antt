@@ -7,7 +7,7 @@ use Rattle.inquiry.specs.Form.{Form}
 use Rattle.inquiry.specs.declared.told.Told.{Told}
 use Rattle.inquiry.specs.declared.told.Told.TheVariants as told
 use Rattle.book_compare.specs.JointItems.{joint_variables}
-use Rattle.book_compare.specs.Picked.{picked}
+use Rattle.pb_base.specs.Picked.{picked}
 use Rattle.book_compare.specs.Shown.{shows}
 use Rattle.book_compare.specs.Together.{searched_clauses, searched_variables, searched_goals}
 use Rattle.book_compare.specs.declared.comparing.Comparing.{Comparing}

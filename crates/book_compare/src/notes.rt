@@ -3,7 +3,7 @@ ghost use Rattle.std.specs.Prelude.{◌≡◌, ◌++◌, ◌<◌, ◌≤◌, [],
 ghost use Rattle.pb_base.specs.declared.limits.TheConstants.{MOST_BUDGET};
 ghost use Rattle.book_compare.specs.Comparing.{IsComparing};
 ghost use Rattle.book_compare.specs.Comparison.{AreNoted};
-ghost use Rattle.book_compare.specs.Picked.{picked_one, picked};
+ghost use Rattle.pb_base.specs.Picked.{picked_one, picked};
 ghost use Rattle.book_compare.specs.Source.{note_of};
 
 use crate::comparing::Comparing;

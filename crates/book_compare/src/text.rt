@@ -4,8 +4,7 @@ ghost use Rattle.std.specs.List.{list_any};
 ghost use Rattle.book_compare.specs.CompareText.{is_finding, is_undecided, finding_line, undecided_line, note_line, findings_in, compare_text};
 
 use crate::note::CompareNote;
-use desk_words::put_number;
-use pb_base::{Body, CodeName, Memory, Text};
+use pb_base::{Body, CodeName, Memory, Text, put_number};
 use std::alloc::Global;
 
 /// `differs POSITION with CODES` or `undecided POSITION after N` for each note, and at the end `end` and the number of positions that

@@ -1,6 +1,7 @@
 pub mod Activity
 pub mod Contents
 pub mod ContentsCode
+pub mod Ids
 pub mod Good
 pub mod Parts
 pub mod Slices

@@ -1,12 +1,11 @@
 -- The steps of reading a book's text, from its bytes to the passes.
 use Rattle.std.proofs.Common.{◌≡◌, ◌≤◌, ◌<◌, ℕ, Bool, true, false, List, length, Result, Err, refl, arith, nat_lt}
 use Rattle.std.specs.Str.{is_utf8}
-use Rattle.pb_base.specs.Answers.{Answers}
+use Rattle.pb_base.specs.Answers.{Answers, Gives}
 use Rattle.pb_base.specs.declared.answer.Fail.{Fail}
 use Rattle.pb_base.specs.declared.answer.Fail.TheVariants.{Refused, Memory}
 use Rattle.book_text.specs.Rows.{rows_of}
 use Rattle.pb_base.specs.Results.{and_then}
-use Rattle.pb_base.specs.Answers.{Gives}
 use Rattle.pb_base.specs.declared.limits.TheConstants.{MOST_TEXT_BYTES}
 use Rattle.book_text.specs.BookText.{book_of, book_of_rows}
 use Rattle.book_text.specs.declared.fault.BookFault.{BookFault}

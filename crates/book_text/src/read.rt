@@ -1,12 +1,11 @@
 //! The book of a text.
 ghost use Rattle.std.specs.Prelude.{◌≡◌, ◌≤◌, List, Ok, length};
 ghost use Rattle.std.specs.Str.{is_utf8};
-ghost use Rattle.pb_base.specs.Answers.{Answers};
+ghost use Rattle.pb_base.specs.Answers.{Answers, Gives};
 ghost use Rattle.pb_base.specs.Results.{and_then};
 ghost use Rattle.book_model.specs.Book.{IsBook};
 ghost use Rattle.book_text.specs.BookText.{book_of, book_of_rows, book_behind};
 ghost use Rattle.book_text.specs.PartialBook.{records_of, IsGrouped};
-ghost use Rattle.pb_base.specs.Answers.{Gives};
 ghost use Rattle.pb_base.specs.declared.answer.Fail.{Fail};
 ghost use Rattle.pb_base.specs.declared.limits.TheConstants.{MOST_TEXT_BYTES};
 ghost use Rattle.book_text.specs.Records.{book_with, no_records};

@@ -19,7 +19,7 @@ use Rattle.supplement.specs.Completion.{first_firing, with_code_of, completion_b
 use Rattle.supplement.specs.declared.firing.Firing.{Firing}
 use Rattle.supplement.proofs.FirstFiring.{firing_of, first_firing-is}
 use Rattle.supplement.proofs.Laws.{completion-none, completion-firing, fewer_absent}
-use Rattle.book_compare.specs.Common.{AreNamed}
+use Rattle.pb_base.specs.Picked.{AreNamed}
 use Rattle.firing_sequence.specs.Sequence.{firing_order, same_at, same_sequences}
 use Rattle.change_laws.proofs.AlikeLaws.{matches_alike, one_code, same_rules}
 use Rattle.change_laws.proofs.RankLaws.{BothFirst, FirstOf, comes_first, firing_is, first_of_both, matches, no_firing}

@@ -3,7 +3,7 @@ use Rattle.std.proofs.Common.{◌≡◌, ℕ, false, List, [], ◌∷◌, None, 
 use Rattle.std.specs.List.{list_any}
 use Rattle.std.proofs.lemmas.Bool.{both_ways, true≢false}
 use Rattle.book_model.specs.Contents.{Contents}
-use Rattle.book_compare.specs.Picked.{picked}
+use Rattle.pb_base.specs.Picked.{picked}
 use Rattle.lost_cars.specs.Losses.{IsLossNoted, is_lost}
 use Rattle.lost_cars.specs.declared.note.Cause.{Cause}
 use Rattle.lost_cars.specs.declared.note.LossNote.{LossNote}

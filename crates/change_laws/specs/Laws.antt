@@ -11,7 +11,7 @@ use Rattle.book_model.specs.Contents.{Contents}
 use Rattle.release.specs.Accepting.{accepts}
 use Rattle.release.specs.Orders.{IsWellFormed, supplemented}
 use Rattle.chosen_parts.specs.Chosen.{HaveSameParts}
-use Rattle.book_compare.specs.Common.{AreNamed}
+use Rattle.pb_base.specs.Picked.{AreNamed}
 use Rattle.book_changes.specs.declared.run.RunNotes.{RunNotes}
 
 pub record ChangesNothing (notes : RunNotes) : Type 0 where

@@ -1,10 +1,9 @@
 -- The variables of a slice are few enough to be numbered, and the questions of a choice are few.
-use Rattle.std.proofs.Common.{ℕ, zero, suc, ◌+◌, ◌*◌, ◌≤◌, ◌<◌, Bool, true, false, List, [], ◌∷◌, length, map, sym, ap, subst, arith, length-append}
-use Rattle.std.specs.List.{filter, AllByRecursion}
+use Rattle.std.proofs.Common.{ℕ, zero, suc, ◌+◌, ◌*◌, ◌≤◌, ◌<◌, Bool, true, false, List, [], ◌∷◌, length, map, sym, ap, subst, arith, length-append, inl, inr}
+use Rattle.std.specs.List.{filter, AllByRecursion, slice_get}
 use Rattle.std.proofs.lemmas.Bool.{cases_Bool, cond-true, cond-false}
 use Rattle.std.proofs.lemmas.List.{length-map}
 use Rattle.std.proofs.lemmas.List.Elements.{recursion_from_All}
-use Rattle.std.proofs.Common.{inl, inr}
 use Rattle.pb_base.specs.Rule.{Rule, code, negation, both, either, always, never, nodes}
 use Rattle.book_model.specs.Contents.{Contents}
 use Rattle.book_model.specs.Activity.{is_within}
@@ -16,7 +15,6 @@ use Rattle.book_model.specs.declared.record.Supplement.{Supplement}
 use Rattle.book_model.specs.declared.record.Construct.{Construct}
 use Rattle.book_model.specs.declared.record.Position.{Position}
 use Rattle.book_model.specs.declared.record.Variant.{Variant}
-use Rattle.std.specs.List.{slice_get}
 use Rattle.std.specs.Option.{option_map_or}
 use Rattle.clausify.specs.Formulas.{connectives}
 use Rattle.clausify.specs.Items.{Item, variables_of, supplement_item, demand_item, construct_item, usage_item, rule_items, usage_items}

@@ -1,8 +1,7 @@
 -- How far a loop over records has come: what is made so far and what is left make the whole.
 use Rattle.std.proofs.Common.{◌≡◌, ℕ, suc, ◌+◌, ◌<◌, Bool, true, false, List, [], ◌∷◌, ◌++◌, length, get_or, drop, map, refl, sym, ap, subst, ◌≤◌, ◌∙◌, arith, append_assoc, drop-cons, length-append, take, drop_at}
-use Rattle.std.proofs.lemmas.List.{take_at}
+use Rattle.std.proofs.lemmas.List.{take_at, length-map}
 use Rattle.std.specs.List.{filter}
-use Rattle.std.proofs.lemmas.List.{length-map}
 use Rattle.std.proofs.lemmas.Bool.{cond-true, cond-false}
 use Rattle.clausify.specs.Formulas.{connectives, both_clauses}
 use Rattle.book_model.specs.Activity.{is_within}

@@ -2,9 +2,7 @@
 ghost use Rattle.std.specs.Prelude.{◌≡◌, ◌%◌, ◌≤◌, IfOk, IfSome};
 ghost use Rattle.pb_base.specs.declared.limits.TheConstants.{MOST_BUDGET};
 ghost use Rattle.command_words.specs.Prepared.{lent, lent_option};
-ghost use Rattle.command_words.specs.Meaning.{number_in, codes_of, order_of, budget_of, budget_alone, check_of, prove_of, supplements_of};
-ghost use Rattle.command_words.specs.Meaning.{only_one, verify_of, desk_of, compare_of, rejudge_of, free_of, why_of, days_of, impact_of, require_of, changes_of};
-ghost use Rattle.command_words.specs.Meaning.{door_of, serve_of, codes_number, sample_of, asked};
+ghost use Rattle.command_words.specs.Meaning.{number_in, codes_of, order_of, budget_of, budget_alone, check_of, prove_of, supplements_of, only_one, verify_of, desk_of, compare_of, rejudge_of, free_of, why_of, days_of, impact_of, require_of, changes_of, door_of, serve_of, codes_number, sample_of, asked};
 
 use crate::budget::Budget;
 use crate::file_name::FileName;

@@ -1,8 +1,7 @@
 //! What is done with the words by hand, before the option parser has them.
 ghost use Rattle.std.specs.Prelude.{◌≡◌, ◌++◌, IfOk, OnOk, option_map};
 ghost use Rattle.command_words.specs.Parts.{is_plain};
-ghost use Rattle.command_words.specs.Prepared.{texts_of, lent, if_done, is_long, plain_front, behind_plain};
-ghost use Rattle.command_words.specs.Prepared.{last_words, ended, is_cut_short, with_option, from_option, prepared};
+ghost use Rattle.command_words.specs.Prepared.{texts_of, lent, if_done, is_long, plain_front, behind_plain, last_words, ended, is_cut_short, with_option, from_option, prepared};
 
 use pb_base::Memory;
 use std::alloc::Global;

@@ -2,7 +2,7 @@
 use Rattle.std.proofs.Common.{◌≡◌, ◌∙◌, ℕ, suc, List, [], ◌∷◌, ◌++◌, Some, length, refl, sym, ap, ap₂, subst, arith}
 use Rattle.std.specs.Prelude.{Option, None, codes}
 use Rattle.book_model.specs.Contents.{Contents}
-use Rattle.desk_words.specs.Lines.{line, number_behind}
+use Rattle.pb_base.specs.Lines.{line, number_behind}
 use Rattle.desk_words.specs.declared.order_words.OrderWords.{OrderWords}
 use Rattle.order_again.specs.Again.{AreAgain, IsAgain, IsAgainOf}
 use Rattle.order_again.specs.ImpactText.{counts_text, impact_text}

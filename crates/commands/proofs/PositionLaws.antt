@@ -12,7 +12,7 @@ use Rattle.book_compare.specs.Common.{DiffersWith}
 use Rattle.book_compare.specs.Comparing.{AreBooks}
 use Rattle.book_compare.specs.JointItems.{joint_clauses, joint_variables}
 use Rattle.book_compare.specs.Keys.{position_clauses}
-use Rattle.book_compare.specs.Picked.{picked}
+use Rattle.pb_base.specs.Picked.{picked}
 use Rattle.book_compare.specs.Together.{searched_clauses}
 use Rattle.book_compare.proofs.NoteLaws.{differs_with, lifts_other}
 

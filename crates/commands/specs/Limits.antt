@@ -1,8 +1,6 @@
 -- The limits of a run, as numbers.
 use Rattle.std.specs.Prelude.{◌≡◌}
-use Rattle.pb_base.specs.declared.limits.TheConstants.{MOST_TEXT_BYTES, MOST_CODES, MOST_SUPPLEMENTS, MOST_CONSTRUCTS, MOST_GROUPS, LEAST_GROUP_CODES, MOST_GROUP_CODES}
-use Rattle.pb_base.specs.declared.limits.TheConstants.{MOST_MODULES, MOST_POSITIONS, MOST_VARIANTS, MOST_CHOICES, MOST_NODES, MOST_NESTING, LAST_DAY}
-use Rattle.pb_base.specs.declared.limits.TheConstants.{MOST_SLICES, MOST_QUESTIONS, MOST_CERT_BYTES, MOST_BUDGET, DEFAULT_BUDGET}
+use Rattle.pb_base.specs.declared.limits.TheConstants.{MOST_TEXT_BYTES, MOST_CODES, MOST_SUPPLEMENTS, MOST_CONSTRUCTS, MOST_GROUPS, LEAST_GROUP_CODES, MOST_GROUP_CODES, MOST_MODULES, MOST_POSITIONS, MOST_VARIANTS, MOST_CHOICES, MOST_NODES, MOST_NESTING, LAST_DAY, MOST_SLICES, MOST_QUESTIONS, MOST_CERT_BYTES, MOST_BUDGET, DEFAULT_BUDGET}
 use Rattle.order_desk.specs.declared.limits.TheConstants.{MOST_DRAFTS, MOST_BOOKS, MOST_ORDERS, MOST_REVISION, MOST_ORDER_NUMBER}
 use Rattle.desk_run.specs.declared.run.TheConstants.{MOST_STEPS}
 use Rattle.book_commands.specs.Inputs.{input_limit}

@@ -7,7 +7,7 @@
 use Rattle.std.specs.Prelude.{◌≡◌, ◌⊎◌, true, ℕ, ◌/◌, List, [], ◌∷◌, ◌++◌, IfSome, codes, length}
 use Rattle.pb_base.specs.declared.answer.Fail.{Fail}
 use Rattle.pb_outside.specs.declared.error.OutError.TheVariants as out
-use Rattle.desk_words.specs.Lines.{line, number_behind}
+use Rattle.pb_base.specs.Lines.{line, number_behind}
 use Rattle.order_desk.specs.Rows.{rows_of}
 use Rattle.order_desk.specs.Tables.{State, Tables}
 use Rattle.order_desk.specs.Valid.{IsValid}

@@ -9,7 +9,7 @@ ghost use Rattle.inquiry.specs.Form.{MeetsGoal};
 ghost use Rattle.book_compare.specs.Asked.{asked_clauses, asked_goal};
 ghost use Rattle.book_compare.specs.Common.{DiffersWith};
 ghost use Rattle.book_compare.specs.Comparing.{AreBooks};
-ghost use Rattle.book_compare.specs.Picked.{picked};
+ghost use Rattle.pb_base.specs.Picked.{picked};
 ghost use Rattle.book_commands.specs.RunReply.{RunReply};
 ghost use Rattle.book_model.specs.Contents.{Contents};
 ghost use Rattle.book_commands.specs.declared.run_status.RunStatus.{RunStatus};

@@ -1,8 +1,6 @@
 -- The lines that tell of a fault.
 use Rattle.std.specs.Prelude.{ℕ, List, [], ◌++◌, Option, None, Some, codes}
-use Rattle.rule_text.specs.Fault.{fault_number}
-use Rattle.rule_text.specs.declared.fault.RuleFault.{RuleFault}
-use Rattle.rule_text.specs.declared.fault.RuleFault.TheVariants.{Empty, BadByte, UnknownCode, Expected, TooDeep, TooLong}
+use Rattle.rule_text.specs.FaultText.{rule_fault_text}
 use Rattle.book_model.specs.declared.slicing.LimitFault.{LimitFault}
 use Rattle.book_model.specs.declared.slicing.LimitFault.TheVariants.{Slices, Questions}
 use Rattle.book_text.specs.Fault.{kind_number}
@@ -14,19 +12,7 @@ use Rattle.book_text.specs.declared.fault.Which.TheVariants.{Codes, Supplements,
 use Rattle.parts_usage.specs.Fault.{fault_number as order_number}
 use Rattle.parts_usage.specs.declared.fault.OrderFault.{OrderFault}
 use Rattle.parts_usage.specs.declared.fault.OrderFault.TheVariants.{DayOutsideTerm, UnknownCode as UnknownOrdered, RepeatedCode}
-use Rattle.desk_words.specs.Lines.{line, number_behind, optional_number}
-
--- where a rule's text is at fault
-abbrev pub rule_place : RuleFault → Option ℕ
-rule_place Empty = None
-rule_place (BadByte at) = Some at
-rule_place (UnknownCode at) = Some at
-rule_place (Expected at) = Some at
-rule_place (TooDeep at) = Some at
-rule_place (TooLong at) = Some at
-
-abbrev pub rule_fault_text : RuleFault → List ℕ
-rule_fault_text fault = number_behind (fault_number fault) ++ optional_number (rule_place fault)
+use Rattle.pb_base.specs.Lines.{line, number_behind, optional_number}
 
 abbrev pub which_text : Which → List ℕ
 which_text Codes = codes " codes"

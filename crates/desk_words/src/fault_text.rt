@@ -1,13 +1,12 @@
 //! The lines that tell of a fault.
 ghost use Rattle.std.specs.Prelude.{◌≡◌, ◌++◌, OnOk};
-ghost use Rattle.desk_words.specs.FaultText.{rule_place, rule_fault_text, which_text, kind_detail, book_fault_text, order_place, order_fault_text, limit_text, limit_fault_text};
+ghost use Rattle.desk_words.specs.FaultText.{which_text, kind_detail, book_fault_text, order_place, order_fault_text, limit_text, limit_fault_text};
 
-use crate::lines::{put_number, put_optional};
 use book_model::LimitFault;
 use book_text::{BookFault, BookKind, Which};
 use parts_usage::OrderFault;
-use pb_base::{Memory, Text};
-use rule_text::RuleFault;
+use pb_base::{Memory, Text, put_number, put_optional};
+use rule_text::put_rule_fault;
 
 /// Puts the line `book fault ROW KIND`, with what the kind has to add.
 pub fn put_book_fault(text: &mut Text, fault: &BookFault) -> Result<(), Memory>
@@ -27,27 +26,6 @@ fn put_kind_detail(text: &mut Text, kind: &BookKind) -> Result<(), Memory>
         BookKind::BadRule(fault) => put_rule_fault(text, fault),
         BookKind::Limit(which) => text.put(which_text(which)),
         _ => Ok(()),
-    }
-}
-
-/// Puts the number of a rule's fault, and its place in the text where it has one, without the end of a line.
-pub fn put_rule_fault(text: &mut Text, fault: &RuleFault) -> Result<(), Memory>
-    ensures { OnOk result (text.new ≡ text.old ++ rule_fault_text fault.now) }
-{
-    put_number(text, u64::from(fault.number()))?;
-    put_optional(text, rule_place(fault))
-}
-
-fn rule_place(fault: &RuleFault) -> Option<u64>
-    ensures { result ≡ rule_place fault.now }
-{
-    match fault {
-        RuleFault::Empty => None,
-        RuleFault::BadByte(at) => Some(u64::from(*at)),
-        RuleFault::UnknownCode(at) => Some(u64::from(*at)),
-        RuleFault::Expected(at) => Some(u64::from(*at)),
-        RuleFault::TooDeep(at) => Some(u64::from(*at)),
-        RuleFault::TooLong(at) => Some(u64::from(*at)),
     }
 }
 

@@ -3,12 +3,10 @@
 
 mod call;
 mod fault_text;
-mod lines;
 mod order_words;
 mod reply;
 
 pub use call::{Call, What};
-pub use fault_text::{put_book_fault, put_limit, put_limit_fault, put_order_fault, put_rule_fault};
-pub use lines::{put_number, put_optional};
+pub use fault_text::{put_book_fault, put_limit, put_limit_fault, put_order_fault};
 pub use order_words::{OrderWords, equal_orders};
 pub use reply::{FullOf, Missing, Reply};

@@ -6,3 +6,4 @@ pub mod Answering
 pub mod Checkable
 pub mod Core
 pub mod Checked
+pub mod ReportText

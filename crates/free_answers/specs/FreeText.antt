@@ -8,7 +8,7 @@ use Rattle.std.specs.Prelude.{ℕ, ◌+◌, Bool, true, false, List, [], ◌∷�
 use Rattle.std.specs.Option.{option_map_or}
 use Rattle.pb_base.specs.Sets.{has}
 use Rattle.book_model.specs.Contents.{Contents}
-use Rattle.desk_words.specs.Lines.{line, number_behind}
+use Rattle.pb_base.specs.Lines.{line, number_behind}
 use Rattle.left_cars.specs.declared.states.CodeState.{CodeState}
 use Rattle.left_cars.specs.declared.states.CodeState.TheVariants.{Ordered, Forced, Excluded, Open, Undecided}
 use Rattle.left_cars.specs.declared.states.Freedom.{Freedom}

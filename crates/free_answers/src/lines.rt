@@ -1,7 +1,7 @@
 //! The lines that tell of codes.
 ghost use Rattle.std.specs.Prelude.{◌≡◌, ◌<◌, ◌++◌, length, IfSome, OnOk, slice_get};
 ghost use Rattle.pb_base.specs.Sets.{has};
-ghost use Rattle.desk_words.specs.Lines.{line};
+ghost use Rattle.pb_base.specs.Lines.{line};
 ghost use Rattle.free_answers.specs.FreeText.{code_word, line_at, lines_from, open_word};
 
 use left_cars::CodeState;

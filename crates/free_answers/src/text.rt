@@ -5,11 +5,10 @@ ghost use Rattle.free_answers.specs.FreeText.{end_text, free_text, freedom_text,
 use crate::answer::FreeAnswer;
 use crate::lines::put_lines;
 use book_model::Book;
-use desk_words::put_number;
 use left_cars::{CodeState, Freedom};
 use order_text::{outcome_text, put_refused};
 use parts_usage::Outcome;
-use pb_base::{Body, CodeSet, Memory, Text};
+use pb_base::{Body, CodeSet, Memory, Text, put_number};
 use std::alloc::Global;
 
 /// `now` with what the order comes to, then `none`, `undecided`, or a line for each code, and `end` with the number of codes that are

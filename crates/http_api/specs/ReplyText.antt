@@ -1,7 +1,7 @@
 -- The body of a reply's response: a line, and what stands behind it.
 --     text_of reply    the body
 use Rattle.std.specs.Prelude.{ℕ, List, [], ◌++◌, codes}
-use Rattle.desk_words.specs.Lines.{line, number_behind}
+use Rattle.pb_base.specs.Lines.{line, number_behind}
 use Rattle.desk_words.specs.FaultText.{book_fault_text, order_fault_text, limit_fault_text}
 use Rattle.desk_words.specs.declared.reply.Missing.{Missing}
 use Rattle.desk_words.specs.declared.reply.Missing.TheVariants.{Draft, Book, Order}

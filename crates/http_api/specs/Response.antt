@@ -3,7 +3,7 @@
 use Rattle.std.specs.Prelude.{◌≡◌, ◌⊎◌, ◌==◌, ℕ, Bool, true, false, List, [], ◌++◌, codes, length, if◌then◌else◌}
 use Rattle.std.specs.Fmt.{decimal}
 use Rattle.http.specs.StatusCode.{code_digits}
-use Rattle.desk_words.specs.Lines.{line}
+use Rattle.pb_base.specs.Lines.{line}
 use Rattle.desk_words.specs.declared.reply.Reply.{Reply}
 use Rattle.desk_words.specs.declared.reply.Reply.TheVariants.{Raw}
 use Rattle.http_api.specs.declared.denied.Denied.{Denied}

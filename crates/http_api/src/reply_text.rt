@@ -1,13 +1,11 @@
 //! The body of a reply's response: a line, and what stands behind it.
 ghost use Rattle.std.specs.Prelude.{◌≡◌, ◌++◌, ◌∷◌, OnOk, [], codes};
-ghost use Rattle.desk_words.specs.Lines.{line, number_behind};
+ghost use Rattle.pb_base.specs.Lines.{line, number_behind};
 ghost use Rattle.http_api.specs.ReplyText.{full_line, line_of, missing_line, rest_of};
 ghost use Rattle.desk_words.specs.declared.reply.Reply.{Reply};
 
-use desk_words::{
-    FullOf, Missing, Reply, put_book_fault, put_limit_fault, put_number, put_order_fault,
-};
-use pb_base::{Body, Id, Memory, Text};
+use desk_words::{FullOf, Missing, Reply, put_book_fault, put_limit_fault, put_order_fault};
+use pb_base::{Body, Id, Memory, Text, put_number};
 use std::alloc::Global;
 
 /// Puts the line of a reply, where it has one.

@@ -1,3 +1,4 @@
 pub mod Kept
 pub mod Notes
 pub mod Rows
+pub mod NotesText

@@ -11,8 +11,8 @@ use Rattle.pb_base.specs.Names.{same_name}
 use Rattle.pb_base.specs.NamedSet.{named}
 use Rattle.pb_base.specs.Rule.{Rule}
 use Rattle.pb_base.specs.Sets.{has}
-use Rattle.book_compare.specs.Picked.{picked}
-use Rattle.book_compare.proofs.PickLaws.{named-picked, picked_distinct, picked_named}
+use Rattle.pb_base.specs.Picked.{picked}
+use Rattle.pb_base.proofs.PickLaws.{named-picked, picked_distinct, picked_named}
 use Rattle.book_model.specs.Activity.{is_within}
 use Rattle.book_model.specs.Book.{SupplementFits}
 use Rattle.book_model.specs.Contents.{Contents}

@@ -14,7 +14,7 @@ use Rattle.pb_base.specs.NamedSet.{named}
 use Rattle.pb_base.specs.Names.{same_name}
 use Rattle.pb_base.specs.Rule.{Rule, holds}
 use Rattle.pb_base.specs.Sets.{has}
-use Rattle.book_compare.specs.Picked.{picked}
+use Rattle.pb_base.specs.Picked.{picked}
 use Rattle.book_model.specs.Book.{IsBook}
 use Rattle.book_model.specs.Contents.{Contents}
 use Rattle.book_model.specs.Sound.{IsReleasable}

@@ -22,7 +22,7 @@ use Rattle.book_model.specs.Good.{is_good, is_closed, is_constructible, is_met, 
 use Rattle.book_model.specs.declared.record.Construct.{Construct}
 use Rattle.book_model.specs.declared.record.Supplement.{Supplement}
 use Rattle.book_model.proofs.BookLimits.{constructs_below}
-use Rattle.book_compare.specs.Common.{AreNamed}
+use Rattle.pb_base.specs.Picked.{AreNamed}
 use Rattle.lost_cars.specs.ByName.{by_name}
 use Rattle.lost_cars.specs.Violation.{firing, unmet}
 use Rattle.lost_cars.specs.Losses.{Says, IsCar, is_missed, is_lost, read_by_own, lost_rule, LosesNone, QuestionFits, questions}

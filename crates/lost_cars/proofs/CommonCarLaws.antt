@@ -1,6 +1,6 @@
 -- The formula of common cars says which cars of the own book are cars of the other, and what an answer to it says.
 use Rattle.std.proofs.Common.{◌≡◌, ℕ, suc, ◌+◌, ◌≤◌, ◌^◌, arith, Bool, true, false, not, ◌&&◌, ◌||◌, ◌==◌, List, [], ◌∷◌, ◌++◌, Option, Some, None, length, map, refl, sym, ap, subst, ◌∙◌, inl, inr}
-use Rattle.book_compare.proofs.PickLaws.{named_own}
+use Rattle.pb_base.proofs.PickLaws.{named_own}
 use Rattle.std.specs.Prelude.{Result, Ok, Err, IfOk}
 use Rattle.std.specs.List.{slice_get, slice_index_or, list_any, AllByRecursion, AllZip, IsDistinct}
 use Rattle.std.specs.Option.{option_map_or, is_none}
@@ -17,7 +17,7 @@ use Rattle.book_model.specs.Good.{is_good, is_closed, is_constructible, fires, b
 use Rattle.rules_met.specs.Met.{IsAnswer, RuleIsSmall}
 use Rattle.rules_met.specs.declared.answer.RuleAnswer.{RuleAnswer}
 use Rattle.rules_met.specs.declared.answer.RuleAnswer.TheVariants.{Met, NotMet, Left}
-use Rattle.book_compare.specs.Picked.{picked}
+use Rattle.pb_base.specs.Picked.{picked}
 use Rattle.book_compare.proofs.NumberLaws.{cases_option, not_there, not_named}
 use Rattle.lost_cars.specs.Asks.{IsPut, ArePut}
 use Rattle.lost_cars.specs.CommonCar.{any_rule_from, none_rule, IsAsked, IsCommonAnswer, IsCommonRule}

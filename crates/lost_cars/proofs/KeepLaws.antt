@@ -13,12 +13,12 @@ use Rattle.pb_base.specs.Names.{same_name, place_in}
 use Rattle.pb_base.proofs.NamedSets.{code_at_place}
 use Rattle.book_model.specs.Contents.{Contents}
 use Rattle.book_model.specs.Good.{is_good, is_closed, is_constructible, fires, breaks}
-use Rattle.book_compare.specs.Common.{AreNamed}
+use Rattle.pb_base.specs.Picked.{AreNamed}
 use Rattle.pb_base.proofs.Faultless.{same_self}
 use Rattle.book_model.specs.declared.record.Construct.{Construct}
 use Rattle.book_model.specs.declared.record.Supplement.{Supplement}
 use Rattle.book_compare.proofs.NumberLaws.{not_there, cases_option}
-use Rattle.book_compare.proofs.PickLaws.{either_true, code_named}
+use Rattle.pb_base.proofs.PickLaws.{either_true, code_named}
 use Rattle.lost_cars.specs.Losses.{IsCar, is_missed, is_lost, LosesNone, IsLossNoted, AreLosses, KeepsCars, questions}
 use Rattle.lost_cars.specs.declared.note.LossNote.{LossNote}
 use Rattle.lost_cars.specs.declared.question.Question.{Question}

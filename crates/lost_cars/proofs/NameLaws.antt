@@ -13,7 +13,7 @@ use Rattle.pb_base.specs.Sets.{has}
 use Rattle.pb_base.specs.declared.node.Leaf.TheVariants.{Code as LeafCode, No as LeafNo}
 use Rattle.pb_base.proofs.LeafLaws.{holds-with_leaves, codes_below-with_leaves}
 use Rattle.pb_base.proofs.NamedSets.{code_at_place, has-named}
-use Rattle.book_compare.specs.Common.{AreNamed}
+use Rattle.pb_base.specs.Picked.{AreNamed}
 use Rattle.book_compare.proofs.NumberLaws.{not_there, not_named, place_within, cases_option}
 use Rattle.lost_cars.specs.ByName.{own_leaf, by_name}
 

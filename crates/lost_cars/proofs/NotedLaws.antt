@@ -14,9 +14,8 @@ use Rattle.clausify.proofs.ItemLaws.{length_from_good}
 use Rattle.rules_met.specs.Met.{IsAnswer, IsLeftOn, RuleIsSmall}
 use Rattle.rules_met.specs.declared.answer.RuleAnswer.{RuleAnswer}
 use Rattle.rules_met.specs.declared.answer.RuleAnswer.TheVariants.{Met, NotMet, Left}
-use Rattle.book_compare.specs.Common.{AreNamed}
-use Rattle.book_compare.specs.Picked.{picked}
-use Rattle.book_compare.proofs.PickLaws.{picked_distinct, picked_named, named-picked, named_own}
+use Rattle.pb_base.specs.Picked.{AreNamed, picked}
+use Rattle.pb_base.proofs.PickLaws.{picked_distinct, picked_named, named-picked, named_own}
 use Rattle.lost_cars.specs.Losses.{IsCar, is_lost, IsLostBy, LosesNone, IsLossNoted, QuestionFits, Says, cause_of}
 use Rattle.lost_cars.specs.Asks.{IsAsk, IsPut, ArePut}
 use Rattle.lost_cars.specs.Noting.{notes_for, notes_by, AreAnswered}

@@ -11,7 +11,7 @@ use Rattle.book_model.specs.Contents.{Contents}
 use Rattle.rules_met.specs.Met.{IsLeftOn}
 use Rattle.rules_met.specs.declared.answer.RuleAnswer.{RuleAnswer}
 use Rattle.rules_met.specs.declared.answer.RuleAnswer.TheVariants.{Met, NotMet, Left}
-use Rattle.book_compare.specs.Picked.{picked}
+use Rattle.pb_base.specs.Picked.{picked}
 use Rattle.lost_cars.specs.Losses.{IsCar, LosesNone, Says, lost_rule, questions}
 use Rattle.lost_cars.specs.declared.question.Question.{Question}
 

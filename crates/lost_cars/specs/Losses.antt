@@ -20,8 +20,7 @@ use Rattle.pb_base.specs.Rule.{Rule, code, holds, never}
 use Rattle.book_model.specs.Contents.{Contents}
 use Rattle.book_model.specs.Good.{is_good, fires, breaks}
 use Rattle.rules_met.specs.Met.{IsLeftOn}
-use Rattle.book_compare.specs.Common.{AreNamed}
-use Rattle.book_compare.specs.Picked.{picked}
+use Rattle.pb_base.specs.Picked.{AreNamed, picked}
 use Rattle.lost_cars.specs.ByName.{by_name}
 use Rattle.lost_cars.specs.Violation.{firing, unmet}
 use Rattle.lost_cars.specs.declared.note.Cause.{Cause}

@@ -3,7 +3,7 @@
 --     impact_text to stock told    a line for each order, then how many there are, and how many of each kind
 use Rattle.std.specs.Prelude.{ℕ, Bool, true, false, List, ◌++◌, codes, count_by, length}
 use Rattle.book_model.specs.Contents.{Contents}
-use Rattle.desk_words.specs.Lines.{line, number_behind}
+use Rattle.pb_base.specs.Lines.{line, number_behind}
 use Rattle.order_again.specs.StockText.{lines_from}
 use Rattle.order_again.specs.declared.impact.Kind.{Kind}
 use Rattle.order_again.specs.declared.impact.Kind.TheVariants as kind

@@ -4,7 +4,7 @@
 use Rattle.std.specs.Prelude.{ℕ, List, [], ◌∷◌, ◌++◌, codes, length}
 use Rattle.book_model.specs.Contents.{Contents}
 use Rattle.desk_words.specs.FaultText.{order_fault_text}
-use Rattle.desk_words.specs.Lines.{line, number_behind}
+use Rattle.pb_base.specs.Lines.{line, number_behind}
 use Rattle.order_text.specs.OutcomeText.{refused_text}
 use Rattle.order_again.specs.declared.outcome.Again.{Again}
 use Rattle.order_again.specs.declared.outcome.Again.TheVariants.{Same, Other, Refused, Fault}

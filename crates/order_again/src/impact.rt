@@ -6,8 +6,7 @@ use crate::kept::Stock;
 use crate::outcome::Again;
 use crate::text::put_lines;
 use book_model::Book;
-use desk_words::put_number;
-use pb_base::{Body, Memory, Text};
+use pb_base::{Body, Memory, Text, put_number};
 use std::alloc::Global;
 
 /// The kinds of answers that are counted.

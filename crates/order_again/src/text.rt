@@ -5,9 +5,9 @@ ghost use Rattle.order_again.specs.StockText.{again_text, stock_line, lines_from
 use crate::kept::Stock;
 use crate::outcome::Again;
 use book_model::Book;
-use desk_words::{put_number, put_order_fault};
+use desk_words::put_order_fault;
 use order_text::put_refused;
-use pb_base::{Body, Memory, Text};
+use pb_base::{Body, Memory, Text, put_number};
 use std::alloc::Global;
 
 /// A line for each order, its caller, its number and `same`, `other`, `refused RULE` or the order's fault, and at the end `end`

@@ -13,8 +13,9 @@ use Rattle.book_model.specs.Contents.{Contents}
 use Rattle.book_model.specs.declared.record.Position.{Position}
 use Rattle.chosen_parts.specs.Chosen.{chosen}
 use Rattle.chosen_parts.specs.declared.part_use.PartUse.{PartUse}
-use Rattle.desk_words.specs.Lines.{line, number_behind}
-use Rattle.order_text.specs.OutcomeText.{names_from, refused_text, unfit_text}
+use Rattle.pb_base.specs.Lines.{line, number_behind}
+use Rattle.order_text.specs.OutcomeText.{refused_text, unfit_text}
+use Rattle.pb_base.specs.NamesText.{names_from}
 use Rattle.parts_usage.specs.declared.judgement.Outcome.{Outcome}
 use Rattle.parts_usage.specs.declared.judgement.Outcome.TheVariants.{Accepted, Refused, Unfit}
 use Rattle.order_days.specs.Same.{is_same_set, are_same_uses}

@@ -8,8 +8,7 @@ ghost use Rattle.order_days.specs.DaysText.{Built, use_text, uses_text, now_betw
 use crate::same::{same_choice, same_set};
 use book_model::{Book, Variant};
 use chosen_parts::chosen_variant;
-use order_text::put_names;
-use pb_base::{CodeSet, Day, Id, Memory, Text};
+use pb_base::{CodeSet, Day, Id, Memory, Text, put_names};
 
 /// Puts the line of the codes in a set.
 pub(crate) fn put_codes(text: &mut Text, book: &Book, set: &CodeSet) -> Result<(), Memory>

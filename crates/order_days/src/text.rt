@@ -2,18 +2,17 @@
 ghost use Rattle.std.specs.Prelude.{◌≡◌, ◌++◌, Some, All, IfOk, IfSome, OnOk, length, slice_get, if◌then◌else◌};
 ghost use Rattle.std.specs.Option.{option_and_then, option_map};
 ghost use Rattle.chosen_parts.specs.Chosen.{AreFew};
-ghost use Rattle.desk_words.specs.Lines.{line, number_behind};
+ghost use Rattle.pb_base.specs.Lines.{line, number_behind};
 ghost use Rattle.order_text.specs.OutcomeText.{unfit_text};
 ghost use Rattle.order_days.specs.Days.{FitsBook, FitsOutcome};
 ghost use Rattle.order_days.specs.DaysText.{Built, accepted_text, built_by, built_text, days_line, days_text, is_built, outcome_text, run_text};
 
 use crate::lines::{put_changed_codes, put_codes, put_now};
 use crate::run::Run;
-use book_model::Book;
-use desk_words::put_number;
-use order_text::{position_id, put_refused};
+use book_model::{Book, position_id};
+use order_text::put_refused;
 use parts_usage::Outcome;
-use pb_base::{Body, CodeSet, Day, Memory, Text};
+use pb_base::{Body, CodeSet, Day, Memory, Text, put_number};
 use std::alloc::Global;
 
 /// The lines of each run: `days FIRST LAST`, then `accepted`, `refused RULE` or `unfit POSITION COUNT`. After `accepted` the codes, if

@@ -4,8 +4,8 @@ ghost use Rattle.order_desk.specs.Listing.{book_and_day, book_line, book_lines, 
 
 use crate::{KeptBook, MOST_LISTED, OrderKey};
 use book_model::Book;
-use desk_words::{OrderWords, put_number};
-use pb_base::{Body, Memory, Text};
+use desk_words::OrderWords;
+use pb_base::{Body, Memory, Text, put_number};
 use std::alloc::Global;
 use std::collections::btree_map::Range;
 

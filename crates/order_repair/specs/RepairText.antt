@@ -9,15 +9,17 @@ use Rattle.std.specs.Option.{option_map_or}
 use Rattle.std.specs.List.{flat_map, fold}
 use Rattle.pb_base.specs.Sets.{none_of}
 use Rattle.book_model.specs.Contents.{Contents}
-use Rattle.desk_words.specs.Lines.{line, number_behind}
-use Rattle.order_text.specs.OutcomeText.{names_from, position_id, refused_text, unfit_text}
+use Rattle.pb_base.specs.Lines.{line, number_behind}
+use Rattle.order_text.specs.OutcomeText.{refused_text, unfit_text}
+use Rattle.pb_base.specs.NamesText.{names_from}
+use Rattle.book_model.specs.Ids.{position_id}
 use Rattle.parts_usage.specs.declared.judgement.Outcome.{Outcome}
 use Rattle.parts_usage.specs.declared.judgement.Outcome.TheVariants.{Accepted, Refused, Unfit as UnfitOutcome}
 use Rattle.supplement.specs.declared.completed.Added.{Added}
 use Rattle.blame.specs.declared.blamed.Blamed.{Blamed}
 use Rattle.blame.specs.declared.entries.Entry.{Entry}
 use Rattle.blame.specs.declared.entries.Entry.TheVariants.{Supplement, Construct, Chosen}
-use Rattle.blame_text.specs.AskText.{entry_behind, how_blamed}
+use Rattle.blame.specs.AskText.{entry_behind, how_blamed}
 use Rattle.order_repair.specs.declared.answer.Change.{Change}
 use Rattle.order_repair.specs.declared.answer.Change.TheVariants.{Add, Unfit}
 use Rattle.order_repair.specs.declared.answer.Kept.{Kept}

@@ -1,17 +1,14 @@
 //! The lines that tell how an order would be accepted.
 ghost use Rattle.std.specs.Prelude.{◌≡◌, ◌++◌, ◌∷◌, [], IfOk, OnOk};
 ghost use Rattle.std.specs.List.{flat_map, list_all};
-ghost use Rattle.blame_text.specs.AskText.{entry_behind, how_blamed};
+ghost use Rattle.blame.specs.AskText.{entry_behind, how_blamed};
 ghost use Rattle.order_repair.specs.RepairText.{add_text, added_line, change_text, clash_text, code_in, codes_text, leave_text, name_behind, rule_behind, set_at, with_code};
 
 use crate::answer::Change;
-use blame::{Blamed, Entry};
-use blame_text::put_entries;
-use book_model::Book;
-use desk_words::put_number;
-use order_text::{position_id, put_names};
+use blame::{Blamed, Entry, put_entries};
+use book_model::{Book, position_id};
 use parts_usage::Unfit;
-use pb_base::{CodeName, CodeSet, Memory, Text};
+use pb_base::{CodeName, CodeSet, Memory, Text, put_names, put_number};
 use std::alloc::Global;
 use supplement::Added;
 

@@ -1,2 +1,1 @@
-pub mod NamesText
 pub mod Texts

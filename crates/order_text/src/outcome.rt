@@ -2,13 +2,10 @@
 ghost use Rattle.std.specs.Prelude.{◌≡◌, ◌++◌, IfOk, OnOk};
 ghost use Rattle.order_text.specs.OutcomeText.{accepted_text, refused_text, unfit_text, outcome_text};
 
-use crate::ids::{construct_id, position_id};
-use crate::names::put_names;
 use crate::parts::put_parts;
-use book_model::Book;
-use desk_words::put_number;
+use book_model::{Book, construct_id, position_id};
 use parts_usage::{Outcome, PartsList};
-use pb_base::{Body, CodeSet, Memory, Text};
+use pb_base::{Body, CodeSet, Memory, Text, put_number};
 use std::alloc::Global;
 
 /// `accepted` with the codes and the parts list, `refused RULE`, or `unfit POSITION COUNT`.

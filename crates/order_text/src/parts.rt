@@ -3,8 +3,7 @@ ghost use Rattle.std.specs.Prelude.{◌≡◌, ◌++◌, OnOk};
 ghost use Rattle.std.specs.List.{flat_map};
 ghost use Rattle.order_text.specs.OutcomeText.{part_text, parts_line};
 
-use crate::ids::{module_id, position_id};
-use book_model::Book;
+use book_model::{Book, module_id, position_id};
 use parts_usage::Line;
 use pb_base::{Memory, Text};
 

@@ -11,3 +11,5 @@ mod PaddingLemmas
 mod TableLemmas
 pub mod TablePlaces
 pub mod PlacesLaws
+pub mod NamesText
+pub mod PickLaws

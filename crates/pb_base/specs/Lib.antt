@@ -12,3 +12,6 @@ pub mod NamedSet
 pub mod Digits
 pub mod InParts
 pub mod Places
+pub mod Picked
+pub mod Lines
+pub mod NamesText

@@ -3,9 +3,8 @@ use Rattle.std.proofs.Common.{◌≡◌, inl, inr, ℕ, zero, suc, ◌+◌, ◌/
 use Rattle.std.specs.List.{IsDistinct, list_any, slice_set, AllByRecursion}
 use Rattle.std.proofs.lemmas.Bool.{cases_eq, false≢true, true≢false, cond-true, cond-false, eqb-false, ne_eqb}
 use Rattle.std.proofs.lemmas.Cmp.{nat_eq_equiv}
-use Rattle.std.proofs.Math.ListN.{replicate, length-replicate}
+use Rattle.std.proofs.Math.ListN.{replicate, length-replicate, get_or-append, get_or-eq_default}
 use Rattle.std.proofs.lemmas.List.{map-append, get_or-set_same, get_or-set_other, length-set, length-take-le, get_or-take, take_all}
-use Rattle.std.proofs.Math.ListN.{get_or-append, get_or-eq_default}
 use Rattle.std.proofs.Math.Seq.{get_or-append_seam, take-suc}
 use Rattle.std.proofs.lemmas.Map.Keys.{IsDistinct-push}
 use Rattle.clause_pool.specs.Literal.{complement}

@@ -1,30 +1,25 @@
 -- What is held where a clause is attached.
 use Rattle.std.proofs.Common.{◌≡◌, inl, inr, ℕ, ◌+◌, ◌-◌, ◌^◌, ◌<◌, ◌≤◌, true, false, List, [], ◌∷◌, ◌++◌, Option, Some, None, length, map, take, get_or, eqb, refl, sym, subst, ◌∙◌, ap, arith, length-append}
-use Rattle.std.proofs.lemmas.Bool.{cases_eq, cases_order, true≢false, false≢true, or_cases, eqb-true}
-use Rattle.std.proofs.lemmas.List.{take-take, take_all}
+use Rattle.std.proofs.lemmas.Bool.{cases_eq, cases_order, true≢false, false≢true, or_cases, eqb-true, cases_Bool}
+use Rattle.std.proofs.lemmas.List.{take-take, take_all, take-append-le}
 use Rattle.std.proofs.Math.ListN.{get_or-append, get_or-eq_default}
 use Rattle.std.proofs.Math.Seq.{get_or-append_seam}
 use Rattle.clause_pool.specs.Literal.{complement}
 use Rattle.clause_pool.specs.Clause.{has}
-use Rattle.propagate.specs.Trail.{IsReason, OthersFalse, IsTrail}
-use Rattle.propagate.specs.Assignment.{Assigned, end_of}
+use Rattle.propagate.specs.Trail.{IsReason, OthersFalse, IsTrail, AllFalse}
+use Rattle.propagate.specs.Assignment.{Assigned, end_of, IsAssigned}
 use Rattle.propagate.specs.Watching.{HasTrue, Watching, Visits, head_of, clause_at, pair_of, IsListed, IsVisited, IsWatched, IsHeld, AreHeld, IsVisiting, Grown, AreReasons, IsPairIn}
 use Rattle.propagate.specs.Watching.IsHeld.{fixed, paired}
 use Rattle.propagate.specs.Attaching.{Attached}
 use Rattle.propagate.specs.declared.watch.Watched.{Watched}
 use Rattle.propagate.specs.Visiting.{Scene, scene}
-use Rattle.propagate.specs.Joining.{Joined}
+use Rattle.propagate.specs.Joining.{Joined, trail_of}
 use Rattle.propagate.proofs.KeepLaws.{held_more, open_visited, visiting_grown, same_default, end_grown, has_at}
 use Rattle.propagate.proofs.QuietLaws.{has_take}
 use Rattle.propagate.proofs.EngineLaws.{ends_rise, decided_grown}
 use Rattle.propagate.specs.Running.{IsEngine}
-use Rattle.propagate.specs.Trail.{AllFalse}
 use Rattle.propagate.specs.Quiet.{IsConsistent}
-use Rattle.propagate.specs.Assignment.{IsAssigned}
 use Rattle.propagate.specs.Engine.{IsOpenAbove}
-use Rattle.propagate.specs.Joining.{trail_of}
-use Rattle.std.proofs.lemmas.Bool.{cases_Bool}
-use Rattle.std.proofs.lemmas.List.{take-append-le}
 
 module _ (w x : Watching) (c : List ℕ) (pair : Watched) (h : Attached w x c pair) where
   clause_before : (k : ℕ) → k < length w.clauses → clause_at x.clauses k ≡ clause_at w.clauses k

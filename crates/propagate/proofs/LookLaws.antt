@@ -1,12 +1,11 @@
 -- What a look at an entry keeps and answers.
 use Rattle.std.proofs.Common.{◌≡◌, ◌⊎◌, inl, inr, ℕ, ◌+◌, ◌<◌, ◌≤◌, Bool, true, false, not, List, Some, length, refl, sym, subst, ◌∙◌, ap, arith}
 use Rattle.std.specs.List.{slice_get}
-use Rattle.std.proofs.lemmas.Bool.{cases_eq, true≢false}
+use Rattle.std.proofs.lemmas.Bool.{cases_eq, true≢false, or_left}
 use Rattle.std.proofs.lemmas.Option.{get_or_from_slice_get, slice_get_within}
 use Rattle.clause_pool.specs.Literal.{complement}
 use Rattle.clause_pool.specs.Clause.{has}
 use Rattle.clause_pool.proofs.ClauseLaws.{has-append}
-use Rattle.std.proofs.lemmas.Bool.{or_left}
 use Rattle.propagate.specs.Trail.{OthersFalse, IsReason}
 use Rattle.propagate.specs.Assignment.{Assigned}
 use Rattle.propagate.specs.Watching.{HasTrue, Watching, EntryFits, IsPairIn, clause_at, pair_of, list_of, Grown, AreReasons, AreTrue, Keeps, Shifted, Watches}

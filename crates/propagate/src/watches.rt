@@ -1,8 +1,7 @@
 //! The clauses with what each watches.
 ghost use Rattle.std.specs.Prelude.{◌≡◌, ◌^◌, ◌<◌, All, [], ℕ, length, IfOk, OnOk, OnErr};
 ghost use Rattle.propagate.specs.Trail.{AreLiterals};
-ghost use Rattle.propagate.specs.Watching.{IsWatching, EntryFits, IsPairIn, AreApart, IsOneOf, Shifted};
-ghost use Rattle.propagate.specs.Watching.{Watches, IsListed, IsEntryAt, HasAt, clause_at, pair_of, no_pair, list_of};
+ghost use Rattle.propagate.specs.Watching.{IsWatching, EntryFits, IsPairIn, AreApart, IsOneOf, Shifted, Watches, IsListed, IsEntryAt, HasAt, clause_at, pair_of, no_pair, list_of};
 ghost use Rattle.propagate.specs.Attaching.{Attached};
 
 use crate::clause_store::ClauseStore;

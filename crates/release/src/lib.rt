@@ -2,14 +2,12 @@
 #![tactic(auto)]
 
 mod accepting;
-mod answer_text;
 mod certified;
 mod judging;
 mod orders;
 mod released;
 
 pub use accepting::accepts;
-pub use answer_text::judged_text;
 pub use certified::{FromFault, from_cert};
 pub use judging::{Judged, judge};
 pub use orders::order_laws;

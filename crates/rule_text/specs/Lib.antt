@@ -1,6 +1,7 @@
 pub mod Token
 pub mod Grammar
 pub mod Fault
+pub mod FaultText
 pub mod FirstFault
 pub mod Reading
 pub mod Printing

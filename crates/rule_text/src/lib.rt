@@ -3,6 +3,7 @@
 
 mod expression;
 mod fault;
+mod fault_text;
 mod print;
 mod read;
 mod reader;
@@ -10,5 +11,6 @@ mod standing;
 mod token;
 
 pub use fault::RuleFault;
+pub use fault_text::put_rule_fault;
 pub use print::print_rule;
 pub use read::read_rule;

@@ -6,12 +6,11 @@ use Rattle.std.proofs.lemmas.Bool.{cases_Bool, cond-true, cond-false, eqb-true, 
 use Rattle.std.proofs.lemmas.List.{length-map, map-append}
 use Rattle.std.proofs.lemmas.List.Filters.{length-filter_both}
 use Rattle.std.proofs.lemmas.List.Sums.{sum_by-cons}
-use Rattle.pb_base.specs.Leaves.{with_present}
+use Rattle.pb_base.specs.Leaves.{with_present, present}
 use Rattle.pb_base.specs.Node.{nodes_of, size, size_with}
 use Rattle.pb_base.specs.Rule.{Rule, code, negation, both, either, always, never, nodes}
 use Rattle.pb_base.proofs.LeafLaws.{nodes-with_leaves}
 use Rattle.pb_base.proofs.Nodes.{length-nodes_of}
-use Rattle.pb_base.specs.Leaves.{present}
 use Rattle.book_model.specs.Activity.{is_within}
 use Rattle.book_model.specs.Book.{IsBook, ConstructFits, DemandFits, RuleFits}
 use Rattle.book_model.specs.Contents.{Contents}

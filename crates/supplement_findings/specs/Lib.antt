@@ -8,3 +8,4 @@ pub mod Notes
 pub mod Answering
 pub mod NoteOf
 pub mod Slices
+pub mod SupplementText

@@ -4,8 +4,7 @@ ghost use Rattle.clausify.specs.Encoding.{EncodesItems};
 ghost use Rattle.clausify.specs.Formulas.{literals_from};
 ghost use Rattle.clausify.specs.Items.{free_item, variables_of};
 ghost use Rattle.supplement_findings.specs.Answering.{AreTouched, IsSource};
-ghost use Rattle.supplement_findings.specs.Clauses.{breaks_own, swaps_own, own, own_variables, breaks_lits, swaps_lits, question_lits};
-ghost use Rattle.supplement_findings.specs.Clauses.{question_clauses, question_goal, question_variables};
+ghost use Rattle.supplement_findings.specs.Clauses.{breaks_own, swaps_own, own, own_variables, breaks_lits, swaps_lits, question_lits, question_clauses, question_goal, question_variables};
 ghost use Rattle.supplement_findings.specs.Questions.{QuestionFits};
 ghost use Rattle.supplement_findings.specs.Touching.{afters, afters_at, touched_from};
 

@@ -19,6 +19,7 @@ mod sets;
 mod slice;
 mod slices;
 mod source;
+mod text;
 mod together;
 mod touched;
 
@@ -26,3 +27,4 @@ pub use check::check_supplements;
 pub use laws::{calm_where_none_is_found, one_end, unasked_never_swap};
 pub use question::SupplementQuestion;
 pub use report::{SupplementNote, SupplementReport, any_finding, any_undecided, findings_in};
+pub use text::supplement_text;

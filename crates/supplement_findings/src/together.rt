@@ -2,9 +2,7 @@
 ghost use Rattle.std.specs.Prelude.{◌≡◌, ◌+◌, ◌^◌, ◌<◌, ◌∷◌, [], Some, All, IfOk, OnOk, length, map, if◌then◌else◌};
 ghost use Rattle.clausify.specs.Items.{free_item};
 ghost use Rattle.supplement_findings.specs.Answering.{IsSource, goals_of};
-ghost use Rattle.supplement_findings.specs.Clauses.{all_other, all_other_lits, and_rest, literal_with, other_lits, other_own};
-ghost use Rattle.supplement_findings.specs.Clauses.{shared_lits, shared_rules, swaps_own, together_clauses, together_start};
-ghost use Rattle.supplement_findings.specs.Clauses.{together_swaps, together_variables, unbroken, unbroken_rules};
+ghost use Rattle.supplement_findings.specs.Clauses.{all_other, all_other_lits, and_rest, literal_with, other_lits, other_own, shared_lits, shared_rules, swaps_own, together_clauses, together_start, together_swaps, together_variables, unbroken, unbroken_rules};
 ghost use Rattle.supplement_findings.specs.Questions.{QuestionFits};
 ghost use Rattle.supplement_findings.specs.Touching.{after, construct_at, is_active_rule, touched_from};
 ghost use Rattle.wide_clauses.specs.Encoding.{WidensItems};

@@ -6,8 +6,8 @@ use crate::requirement_line::put_requirement;
 use crate::supplement_line::put_supplement;
 use clausify::Question;
 use commands::Note;
-use desk_words::{put_book_fault, put_limit_fault, put_number, put_order_fault};
-use pb_base::{Memory, Text};
+use desk_words::{put_book_fault, put_limit_fault, put_order_fault};
+use pb_base::{Memory, Text, put_number};
 
 /// Puts a line that tells of a note behind a text: its kind and its numbers, and of the learnt clauses how many they are. Of a
 /// set it says only whether there is one.

@@ -1,8 +1,7 @@
 //! The notes on supplementing rules, a line each.
 
 use crate::note_line::put_numbers;
-use desk_words::put_number;
-use pb_base::{Memory, Text};
+use pb_base::{Memory, Text, put_number};
 use supplement_findings::{SupplementNote, SupplementQuestion};
 
 /// Puts the end of a line that tells of a note behind a text. Of a set it says only that there is one.

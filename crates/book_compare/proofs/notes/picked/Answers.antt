@@ -1,5 +1,5 @@
 use Rattle.std.proofs.Common.{◌<◌, length, arith}
-use Rattle.book_compare.specs.Picked.{picked}
+use Rattle.pb_base.specs.Picked.{picked}
 use Rattle.book_compare.proofs.PickRuns.{picked_step}
 use Rattle.book_compare.proofs.notes.picked.Goals as goal
 

@@ -1,5 +1,5 @@
 use Rattle.std.proofs.Common.{◌≡◌, ◌++◌, drop}
-use Rattle.book_compare.specs.Picked.{picked_from, picked}
+use Rattle.pb_base.specs.Picked.{picked_from, picked}
 use Rattle.book_compare.proofs.notes.picked.Given as goal
 
 abbrev pub invariant-loop-place : goal.invariant-loop-place

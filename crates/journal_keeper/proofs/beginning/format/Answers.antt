@@ -1,8 +1,7 @@
-use Rattle.std.proofs.Common.{◌≡◌, ℕ, List, [], ◌∷◌, ◌++◌, refl, sym, ap, subst, ◌∙◌, arith}
+use Rattle.std.proofs.Common.{◌≡◌, ℕ, List, [], ◌∷◌, ◌++◌, refl, sym, ap, subst, ◌∙◌, arith, false}
 use Rattle.std.specs.Option.{option_map}
 use Rattle.keeper.specs.Rows.{bare}
 use Rattle.journal_keeper.specs.declared.stage.Stage.TheVariants.{Late, Open}
-use Rattle.std.proofs.Common.{false}
 use Rattle.disk.specs.Disk.{overwritten, Torn, AfterStep, Only}
 use Rattle.journal_keeper.specs.Journal.{header, unopened}
 use Rattle.journal_keeper.specs.Stage.{seen_by, IsBlank, KeepsBlank}

@@ -1,8 +1,0 @@
-use Rattle.std.proofs.Common.{◌≡◌, ◌++◌, drop}
-use Rattle.std.specs.List.{flat_map}
-use Rattle.pb_reports.specs.ReportText.{note_text}
-use Rattle.pb_reports.proofs.report.put_notes.Given as goal
-
--- the text so far and the lines of the notes that are left make the whole
-abbrev pub invariant-loop-note : goal.invariant-loop-note
-invariant-loop-note l = l.text ++ flat_map (note_text l.book) (drop l.note-index l.notes) ≡ l.initial.text ++ flat_map (note_text l.book) l.notes

@@ -1,2 +1,0 @@
-pub mod FaultText
-pub mod NotesText
