@@ -5,7 +5,7 @@ ghost use Rattle.order_text.specs.OutcomeText.{accepted_text, refused_text, unfi
 use crate::parts::put_parts;
 use book_model::{Book, construct_id, position_id};
 use parts_usage::{Outcome, PartsList};
-use pb_base::{Body, CodeSet, Memory, Text, put_number};
+use pb_base::{Body, CodeSet, Memory, Text, put_names, put_number};
 use std::alloc::Global;
 
 /// `accepted` with the codes and the parts list, `refused RULE`, or `unfit POSITION COUNT`.
