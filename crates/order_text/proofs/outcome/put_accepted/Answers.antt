@@ -1,7 +1,8 @@
 use Rattle.std.proofs.Common.{◌≡◌, ◌++◌, ◌∷◌, []}
 use Rattle.std.specs.Prelude.{codes}
 use Rattle.std.specs.List.{flat_map}
-use Rattle.order_text.specs.OutcomeText.{names_from, parts_line}
+use Rattle.pb_base.specs.NamesText.{names_from}
+use Rattle.order_text.specs.OutcomeText.{parts_line}
 use Rattle.order_text.proofs.Texts.{four_pieces}
 use Rattle.order_text.proofs.outcome.put_accepted.Goals as goal
 
