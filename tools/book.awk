@@ -3,7 +3,8 @@
 #
 #   LC_ALL=C awk -v table=faults.json -v mode=counts -f sentences.awk -f book.awk BOOK
 #                              the counts, where the first record is one of a book; then what looks wrong, as by `quotes`
-#   .. -v mode=quotes ..       LINE COLUMN SENTENCE for each quote that hides records, or is never closed, and each text of lines
+#   .. -v mode=quotes ..       LINE COLUMN HIDES SENTENCE for each quote that hides records or is never closed (HIDES is 1), and each
+#                              text of several lines (0)
 #   .. -v mode=faults ..       ROW KIND NUMBER LINE COLUMN SENTENCE for each fault, NUMBER being that of a rule and else 0
 #   .. -v mode=size ..         SLICES QUESTIONS, of a check of all slices together
 #   .. -v mode=size -v asked=prove ..  the same of `prove`, or of `supplements`
@@ -12,6 +13,8 @@
 #   .. -v mode=field -v want=ROW -v nth=N ..  LINE COLUMN FIELDS of this record, and its field N behind that
 #   .. -v mode=rule ..         as by `faults`, of the rule that the variable PARTSBOOK_RULE of the environment has
 #   .. -v mode=near -v name=CODE ..  whether a code of the book is meant that is near this one
+#
+# A text in which another sign than the comma separates fields is read with -v comma=SIGN.
 #
 # A field is in quotes only where it begins with one; two quotes in it stand for one; bytes behind the closing quote belong to the
 # field. A record ends with CR, LF or CRLF outside quotes, and an empty line is no record. Columns are bytes, counted from 1. Texts
@@ -24,7 +27,7 @@ function fields_needed(kind) {
 function is_kind(word) { return word in plural }
 
 function begins_record(line) {
-    return line ~ /^(book|code|supplement|construct|group|module|position|variant),/
+    return match(line, /^(book|code|supplement|construct|group|module|position|variant)/) && substr(line, RLENGTH + 1, 1) == comma
 }
 
 # One record, of fields[1] to fields[n], which began on this line. Each field begins in a line and a column of its own.
@@ -105,7 +108,7 @@ function end_record() {
 # A line without a quote, outside quotes.
 function plain(text,   n, i, column) {
     if (text == "") return
-    n = split(text, fields, ",")
+    n = split(text, fields, comma)
     if (mode == "faults" || mode == "field") {
         column = 1
         for (i = 1; i <= n; i++) {
@@ -135,7 +138,7 @@ function scanned(text,   i, c, size) {
         else if (c == "\"" && state == 3) {
             state = 2
             field = field "\""
-        } else if (c == "," && state != 2) {
+        } else if (c == comma && state != 2) {
             close_quotes()
             end_field()
         } else {
@@ -172,6 +175,7 @@ function line_read(text) {
 }
 
 BEGIN {
+    if (comma == "") comma = ","
     plural["book"] = "book"
     plural["code"] = "codes"
     plural["supplement"] = "supplementing rules"
@@ -237,16 +241,16 @@ function print_quotes(in_words,   i, part) {
         split(hidden[i], part, " ")
         put["first"] = part[1]
         put["last"] = part[2]
-        print where_at(in_words, part[1], part[3]) sentence(part[4] " " part[5])
+        print where_at(in_words, part[1], part[3], part[4] == "quote") sentence(part[4] " " part[5])
     }
     if (!open_quote) return
     put["first"] = opened
     put["last"] = lines
-    print where_at(in_words, opened, opened_at) sentence(lines > opened ? "quote open" : "quote open one")
+    print where_at(in_words, opened, opened_at, 1) sentence(lines > opened ? "quote open" : "quote open one")
 }
 
-function where_at(in_words, line, column) {
-    return in_words == "" ? line " " column " " : "line " line ", column " column ": "
+function where_at(in_words, line, column, hides) {
+    return in_words == "" ? line " " column " " hides " " : "line " line ", column " column ": "
 }
 
 function joined(   text, i, f) {

@@ -4,6 +4,7 @@ docs/CHECKING.md have both texts."""
 import csv
 import io
 
+from faults import Fault, faults_of, quotes_of, sentence, tell_quotes
 from program import Refused, run
 
 # The fields of each record behind its first one.
@@ -75,15 +76,31 @@ class Finding:
         return " ".join([self.kind, *self.names])
 
 
-class Report:
-    """What `check` says of a book: slices with their findings, or a fault."""
+def faults_told(said, text):
+    """The faults of a text, of which the program has told one in this line: that one comes first, and there is none that it doesn't
+    tell in some way."""
+    words = said.split(" ")
+    if words[:2] == ["book", "fault"]:
+        found = faults_of(text)
+        return sorted(found, key=lambda fault: not fault.is_told(words)) if any(fault.is_told(words) for fault in found) else []
+    if words[:2] == ["limit", "slices"]:
+        return [Fault(0, 0, 0, 1, 1, sentence("limit slices", word=words[2]))]
+    if words[:2] == ["limit", "questions"]:
+        return [Fault(0, 0, 0, 1, 1, sentence("limit questions", slice=words[2], word=words[3]))]
+    return []
 
-    def __init__(self, text, options=()):
+
+class Report:
+    """What `check` says of a book: slices with their findings, or a fault. Quotes that hide records are told on standard error."""
+
+    def __init__(self, text, options=(), name=None, quiet=False):
         self.status, said = run(["check", *options], text)
         lines = said.decode("utf-8", "replace").splitlines()
-        self.text, self.fault, self.slices, self.verdict, self.book = said, None, [], None, None
+        self.text, self.fault, self.slices, self.verdict, self.book, self.faults = said, None, [], None, None, []
+        self.quotes = quotes_of(text) if quiet else tell_quotes(text, name=name)
         if self.status not in (0, 1, 7):
             self.fault = lines[0] if lines else f"the program ended with {self.status}"
+            self.faults = faults_told(self.fault, text)
             if self.status == 2:
                 raise Refused(f"the program doesn't know these options: {' '.join(options)}")
             return
