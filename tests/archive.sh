@@ -1,5 +1,6 @@
 #!/bin/sh
-# Tries the archive to install: makes it twice, which has to give the same bytes, unpacks it in an empty folder, looks at its sums,
+# Tries the archive to install and the package of Debian: makes both twice, which has to give the same bytes, unpacks them, looks at
+# their sums, runs the command of the package, and completes a word as bash does; then, of the archive,
 # types the pages README.md and docs/TOOLS.md there, without the kit on the path, and places an order in the page of the archive in a
 # browser, if one is there. Then the launcher is called through a link from another folder, and the manual page is shown.
 #
@@ -59,6 +60,43 @@ ln -s "$home/partsbook" "$work/bin/partsbook"
 holds 'through a link, from another folder' sh -c "cd '$work/elsewhere' && [ \"\$('$work/bin/partsbook' --quiet order 40 E60 TOW < '$home/examples/compact.csv')\" = 'refused ETOW' ]"
 holds 'it says which version it is' sh -c "'$work/bin/partsbook' --version | grep -q '^partsbook [0-9.]*, of the sources at commit'"
 holds 'its manual page has each command' sh -c "for word in order check serve; do grep -q \"^.SS partsbook \$word\" '$home/share/man/man1/partsbook.1' || exit 1; done"
+if command -v dpkg-deb > /dev/null; then
+    deb=$(basename "$work"/one/*.deb)
+    holds "$deb, $(wc -c < "$work/one/$deb") bytes, is made twice the same" cmp "$work/one/$deb" "$work/two/$deb"
+    holds 'it can be unpacked' dpkg-deb --extract "$work/one/$deb" "$work/installed"
+    installed=$work/installed/usr
+    holds 'each of its files has its sum' sh -c "cd '$installed/lib/partsbook' && sha256sum --check --quiet SHA256SUMS && [ \$(wc -l < SHA256SUMS) = \$(find . -type f ! -name SHA256SUMS | wc -l) ]"
+    holds 'its files are those of the archive' sh -c "cd '$installed/lib/partsbook' && find . -type f ! -name SHA256SUMS -exec cmp {} '$home/'{} \;"
+    holds 'its command answers' sh -c "[ \"\$('$installed/bin/partsbook' --quiet order 40 E60 TOW < '$home/examples/compact.csv')\" = 'refused ETOW' ]"
+    holds 'and names its pages where they are' sh -c "cd '$work/elsewhere' && printf 'book,T,1,9\ncode,m,x\n' | '$installed/bin/partsbook' check 2>&1 | grep -q '$installed/lib/partsbook/docs/BOOK-FORMAT.md'"
+    holds 'it needs what it names' sh -c "dpkg-deb --field '$work/one/$deb' Depends | grep -q '^libc6, util-linux$'"
+    holds 'its manual page is that of the archive' sh -c "gzip --decompress --stdout '$installed/share/man/man1/partsbook.1.gz' | cmp - '$home/share/man/man1/partsbook.1'"
+    holds 'its completion too' cmp "$installed/share/bash-completion/completions/partsbook" "$home/share/bash-completion/completions/partsbook"
+fi
+# What bash completes: the words before, and what comes out.
+cat > "$work/complete.sh" << 'END'
+. "$1/share/bash-completion/completions/partsbook"
+cd "$1/examples" || exit 1
+try() { # what comes out, words..
+    wanted=$1
+    shift
+    COMP_WORDS=("$@") COMP_CWORD=$(($# - 1)) COMPREPLY=()
+    _partsbook
+    [ "${COMPREPLY[*]}" = "$wanted" ] || { echo "$*: ${COMPREPLY[*]}, and not $wanted"; exit 1; }
+}
+: > 'a book.csv'
+try 'check changes' partsbook ch
+try 'prove' partsbook --quiet pr
+try '--help --budget --workers' partsbook check ''
+try '--budget' partsbook free 40 --b
+try 'engine.csv engine.cert' partsbook verify engine.c
+try 'a book.csv' partsbook compare 1 'a b'
+try '' partsbook compare ''
+try 'tarn-laws.csv' partsbook require --budget 5 tarn-
+try 'supplements' partsbook help su
+rm 'a book.csv'
+END
+holds 'bash completes commands, options and files' bash "$work/complete.sh" "$home"
 if command -v man > /dev/null; then
     holds 'man shows it without a warning' sh -c "[ -z \"\$(LC_ALL=C.UTF-8 MANROFFSEQ= man --warnings -l -Tutf8 '$home/share/man/man1/partsbook.1' 2>&1 > /dev/null)\" ]"
 fi

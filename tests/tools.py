@@ -3,7 +3,7 @@
 
     tests/tools.py [PART..]
 
-Parts: rows, torn, changed, trim, counts, copy, keep, next, sheet, report, common. Without one, all of them. It needs crates/partsbook/out/partsbook, or the
+Parts: rows, torn, changed, trim, counts, copy, keep, next, sheet, report, lint, quotes, answers, pages, common. Without one, all of them. It needs crates/partsbook/out/partsbook, or the
 program that PARTSBOOK_PROGRAM names, and for a part of `sheet` soffice, without which that part is left out. The status is 1 where
 something is otherwise.
 """
@@ -14,7 +14,9 @@ import io
 import json
 import os
 import pathlib
+import pty
 import random
+import re
 import shutil
 import socket
 import subprocess
@@ -31,6 +33,7 @@ sys.path.insert(0, str(TOP / "tools"))
 from trial import built
 import stores
 from book_rows import read_records
+from faults import faults_of
 from stores import flat, journal_of, read_journal, tables_of
 
 PROGRAM = os.environ.setdefault("PARTSBOOK_PROGRAM", built())
@@ -500,14 +503,264 @@ def report(place):
     check("a text is no markup", "<script" not in page and "&lt;script&gt;" in page)
     status, text, _ = tool("report", "--json", text=b"code,A,b\n")
     check("a fault is told", status == 3 and json.loads(text)["fault"] == "book fault 1 3")
+    check("with its sentence", "is no `book` record" in json.loads(text)["faults"][0]["sentence"], text)
     undecided = tool("report", "--budget", "1", text=example("tarn.csv"))
     check("a budget is handed on", undecided[0] in (0, 7))
     return f"{count} findings of 7 books, each with its rows"
 
 
+def spoilt(dice, data):
+    """A book with one or two bytes, fields or rows that are otherwise."""
+    for _ in range(dice.choice((1, 1, 2))):
+        rows = data.split(b"\n")[:-1]
+        at = dice.randrange(len(rows))
+        fields = rows[at].split(b",")
+        way = dice.randrange(8)
+        if way == 0:
+            rows[at] = rows[at][: dice.randrange(len(rows[at]) + 1)]
+        elif way == 1:
+            fields[dice.randrange(len(fields))] = dice.choice((b"", b"x", b"A/B", b"0", b"100000", b"TRUE", b"ABCDEFGHI", b"*", b'"A,B"', b"-"))
+            rows[at] = b",".join(fields)
+        elif way == 2:
+            rows.insert(dice.randrange(len(rows) + 1), rows[at])
+        elif way == 3:
+            del rows[at]
+        elif way == 4:
+            place = dice.randrange(len(rows[at]) + 1)
+            rows[at] = rows[at][:place] + dice.choice((b"(", b")", b"-", b"+", b"/", b";", b"m", b" ", b"A", b'"', b",", b"\xff")) + rows[at][place:]
+        elif way == 5:
+            place = dice.randrange(len(rows[at]) + 1)
+            rows[at] = rows[at][:place] + rows[at][place + 1 :]
+        elif way == 6:
+            rows[at] = rows[at].replace(b"-", b"-" * dice.choice((1, 64, 65))).replace(b"/", b"/" + b"A/" * dice.choice((0, 600)))
+        else:
+            rows[at] = b",".join(fields[: dice.randrange(1, len(fields) + 1)] + fields[dice.randrange(len(fields)) :])
+        data = b"\n".join(rows) + b"\n"
+    return data
+
+
+def lint(place):
+    """Each fault that the program tells is among those that lint tells, at its row, kind and place; and of a book without one there is
+    none. Then what a command line has of it."""
+    dice, counts = random.Random(4), collections.Counter()
+    for _ in range(500):
+        data = spoilt(dice, dice.choice(BOOKS).read_bytes())
+        done = subprocess.run([PROGRAM, "order", "99999"], input=data, capture_output=True, check=False)
+        words = done.stdout.decode().split()
+        found = faults_of(data)
+        if words[:2] != ["book", "fault"]:
+            check(f"lint tells {[fault.sentence for fault in found]} of a book", not found, data[:300])
+            counts["none"] += 1
+            continue
+        told = [fault for fault in found if fault.is_told(words)]
+        check(f"{done.stdout} is told", told, data[:2000])
+        counts["of kind " + words[3]] += 1
+        if len(words) == 6 and told:
+            # The place of a rule's fault, counted from 0 in a field that begins with no quote, is its column.
+            lines = data.splitlines()
+            line = lines[told[0].line - 1]
+            if b'"' not in line:
+                rule = read_records(line.decode())[0].fields
+                before = len(b",".join(field.encode() for field in rule[: {"supplement": 4, "variant": 5}.get(rule[0], 3)])) + 1
+                check(f"{words} is at column {told[0].column}", told[0].column == before + int(words[5]) + 1, line)
+    book = example("engine.csv").replace(b"construct,C2,M1", b"construct,C2,m1").replace(b",A200,1", b",a200,x")
+    (place / "a.csv").write_bytes(book)
+    status, said, _ = tool("lint", place / "a.csv", TOP / "examples" / "engine.csv")
+    wanted = [f"{place}/a.csv:8:14: `m1` has small letters", f"{place}/a.csv:15:15: `a200` is no part", f"{place}/a.csv:15:20: `x` is no quantity"]
+    check("lint tells each fault with its place", status == 1 and all(map(str.startswith, said.splitlines(), wanted)) and len(said.splitlines()) == 3, said)
+    status, said, _ = tool("lint", TOP / "examples" / "engine.csv")
+    check("of a book that can be released nothing", status == 0 and said == "", said)
+    van = TOP / "examples" / "van.csv"
+    status, said, _ = tool("lint", van)
+    plain = json.loads(tool("report", "--json", text=van.read_bytes())[1])
+    sentences = {(f["sentence"], f["blocks"]) for part in plain["slices"] for f in part["findings"]}
+    told = {(re.sub(r"^(note: )?days? [\d ,to]*: ", "", line.split(": ", 1)[1]), "note: " not in line) for line in said.splitlines()}
+    check("lint has each finding of a report", status == 1 and told == sentences, str(told ^ sentences))
+    check("at a line of the book", all(re.match(rf"{re.escape(str(van))}:\d+:1: ", line) for line in said.splitlines()), said)
+    check("lint without a file", tool("lint")[0] == 2 and tool("lint", place / "none.csv")[0] == 2)
+    check("a spreadsheet is told", "spreadsheet" in sheet_told(place))
+    coloured(place / "a.csv")
+    return f"{sum(counts.values())} spoilt books: " + ", ".join(f"{count} {kind}" for kind, count in sorted(counts.items()))
+
+
+def sheet_told(place):
+    tool("to-sheet", TOP / "examples" / "engine.csv", place / "e.xlsx")
+    return tool("lint", place / "e.xlsx")[1]
+
+
+def coloured(path):
+    """Colours go to a terminal alone, and not where NO_COLOR is set."""
+    for more, wanted in (({}, True), ({"NO_COLOR": "1"}, False)):
+        above, below = pty.openpty()
+        env = {**{name: value for name, value in os.environ.items() if name != "NO_COLOR"}, "TERM": "xterm", **more}
+        subprocess.run([TOP / "tools" / "lint", path], stdout=below, env=env, check=False)
+        os.close(below)
+        said = b""
+        try:
+            while part := os.read(above, 65536):
+                said += part
+        except OSError:
+            pass
+        os.close(above)
+        check(f"colours on a terminal with {more}", (b"\033[31m" in said) == wanted, said)
+
+
+def quotes(place):
+    """A quote that hides records is told by each tool that reads a book, and neither made into a book nor released."""
+    book = example("compact.csv").replace(b"all-wheel drive", b'"all-wheel drive')
+    (place / "open.csv").write_bytes(book)
+    wanted = "line 9, column 10: the quote that opens here is never closed: lines 9 to 69 are one field, and no records"
+    count = 0
+    for name, *words in (("report",), ("report", "--html"), ("json", "order", "40", "P18"), ("json", "check"), ("compare", "40", place / "open.csv")):
+        _, said, error = tool(name, *words, text=book)
+        check(f"{name} {words} tells the quote", wanted in error, error)
+        count += 1
+    status, said, _ = tool("report", "--json", text=book)
+    found = json.loads(said)["quotes"]
+    check("report --json has it", [(one["line"], one["column"], one["hides"]) for one in found] == [(9, 10, True)], said[-300:])
+    check("report --html has it", "the quote that opens here is never closed" in tool("report", "--html", text=book)[1])
+    status, _, error = tool("to-sheet", place / "open.csv", place / "open.xlsx")
+    check("to-sheet tells it", wanted in error, error)
+    status, said, _ = tool("lint", place / "open.csv")
+    check("lint tells it", status == 1 and said.startswith(f"{place}/open.csv:9:10: the quote that opens here is never closed"), said)
+    for delimiter in (b",", b";", b"\t"):
+        (place / "saved").write_bytes(book.replace(b",", delimiter))
+        status, said, error = tool("from-sheet", place / "saved")
+        check(f"from-sheet of {delimiter} makes no book of it", status == 1 and said == "" and wanted in error, error)
+    closed = book.replace(b"sunroof", b'sunroof"')
+    (place / "saved").write_bytes(closed)
+    status, said, error = tool("from-sheet", place / "saved")
+    check("nor where the quote is closed later", status == 1 and said == "" and "lines 9 to 13 are one field in quotes, and no records" in error, error)
+    lines = example("compact.csv").replace(b"all-wheel drive", b'"all-wheel\ndrive"')
+    (place / "saved").write_bytes(lines)
+    status, said, error = tool("from-sheet", place / "saved")
+    check("a text of two lines is told and kept", status == 0 and said.encode() == lines and "lines 9 to 10 are one text" in error, error)
+    status, said, _ = tool("lint", place / "saved")
+    check("and is a note of lint's", f"{place}/saved:9:10: note: lines 9 to 10 are one text" in said, said)
+    status, _, error = tool("desks", "release", "T", place / "open.csv", "ANNA", "1")
+    check("desks releases no such book", status == 1 and "isn't released while a quote in it hides records" in error, error)
+    return f"an open quote is told by {count + 5} tools and ways of theirs, and neither made into a book nor released"
+
+
+def said_again(whole):
+    """The lines of which tools/json has made this object."""
+    outcome = {"accepted": "accepted", "refused": f"refused {whole.get('rule')}", "unfit": f"unfit {whole.get('position')} {whole.get('count')}"}
+    words = lambda *parts: " ".join(str(part) for part in parts)
+    if whole["command"] == "order":
+        lines = [outcome[whole["outcome"]]]
+        if whole["outcome"] == "accepted":
+            lines.append(words("codes", *whole["codes"]))
+            lines += [f"{row['module'] or '-'},{row['position']},{row['part']},{row['quantity']}" for row in whole["parts"]]
+    elif whole["command"] == "free":
+        now = said_again({**whole["now"], "command": "order", "codes": [], "parts": []})[0]
+        left = {"some": [], None: [], "none": ["none"], "undecided": ["undecided"]}[whole["left"]]
+        lines = [f"now {now}", *left, *(words(row["state"], row["code"]) for row in whole["codes"]), words("end", whole["open"])]
+    elif whole["command"] == "why":
+        lines = [words("adds", row["code"], "by", row["rule"]) for row in whole["adds"]]
+        lines += [outcome[whole["outcome"]]]
+        if whole["clash"]:
+            lines.append(words("clash", *whole["clash"]["codes"], "by" if whole["clash"]["each_needed"] else "within", *whole["clash"]["rules"]))
+        lines += [words(name, *whole[name]) for name in ("leave", "add") if whole[name] is not None]
+        if whole["unfit"]:
+            lines.append(words("unfit", whole["unfit"]["position"], whole["unfit"]["count"], "with", *whole["unfit"]["car"]))
+        lines += ["no order"] * whole.get("no_order", False) + ["undecided"] * whole["undecided"] + ["end"]
+    else:
+        lines = []
+        part = lambda one: words(one["part"], f"x{one['quantity']}") if one else "-"
+        for block in whole["days"]:
+            lines.append(words("days", *(day for run in block["runs"] for day in (run["first"], run["last"]))))
+            for one in block["changes"]:
+                kind = one["kind"]
+                if kind == "differs":
+                    lines.append(words(kind, one["position"], "with", *one["car"], "has", part(one["has"]), "next", part(one["next"])))
+                elif kind in ("lost", "won"):
+                    lines.append(words(kind, *(["code", one["code"]] if "code" in one else [one["rule"]]), "with", *one["car"]))
+                elif kind == "undecided":
+                    lines.append(words(kind, *one["question"], "after", one["after"]))
+                else:
+                    lines.append(kind)
+        lines.append(words("end", whole["changes"]))
+    return lines
+
+
+def next_books(place):
+    """Pairs of books, of which the second is in a file, and the words with which they are compared."""
+    engine, compact = example("engine.csv"), example("compact.csv")
+    nexts = {
+        "same": engine, "part": engine.replace(b"A100", b"A150"), "none": engine.replace(b"construct,C3,*,G5/G7", b"construct,C3,*,G5+G7"),
+        "rule": engine + b"construct,C9,*,-AC,500,\n", "code": engine.replace(b"code,AC,air\n", b""),
+        "more": engine.replace(b"M1+-G7", b"M1+-G7+-AC"), "quantity": engine.replace(b"A200,1", b"A200,2"), "fault": b"book,T,1,10\ncode,m,x\n",
+    }
+    for name, text in nexts.items():
+        (place / f"{name}.csv").write_bytes(text)
+        yield engine, place / f"{name}.csv"
+    (place / "compact.csv").write_bytes(compact.replace(b"construct,CSUN", b"construct,CSUNX"))
+    yield compact, place / "compact.csv"
+
+
+def answers(place):
+    """Each answer as JSON says what the program says: the lines are made of it again."""
+    count, kinds = 0, collections.Counter()
+    asked = [("order", "40", "P18", "AWD", "AT8"), ("order", "40", "E60", "TOW"), ("order", "40"), ("order", "40", "E60"), ("free", "40", "P18", "AWD"),
+             ("free", "40", "E60", "TOW"), ("free", "40"), ("free", "40", "--budget", "1"), ("why", "40", "E60", "TOW"), ("why", "40", "P18", "AWD", "AT8"),
+             ("why", "40"), ("why", "40", "--budget", "1", "E60", "TOW"), ("why", "305")]
+    calls = [(words, example(book)) for words in asked for book in ("compact.csv", "estate.csv", "van.csv")]
+    calls += [(("changes", path), text) for text, path in next_books(place)]
+    for words, text in calls:
+        done = subprocess.run([PROGRAM, *words], input=text, capture_output=True, check=False)
+        status, said, error = tool("json", *words, text=text)
+        check(f"{words} has the status of the program", status == done.returncode, f"{status} {error}")
+        whole = json.loads(said)
+        lines = done.stdout.decode().splitlines()
+        again = [whole["fault"]] if "fault" in whole else whole["report"] if "report" in whole else said_again(whole)
+        check(f"{words} is the same as JSON", again == lines, f"{again} {lines}")
+        kinds["fault" if "fault" in whole else words[0]] += 1
+    status, said, _ = tool("json", "check", text=example("van.csv"))
+    plain = tool("report", "--json", text=example("van.csv"))
+    check("check is that of report", status == plain[0] and json.loads(said).items() >= json.loads(plain[1]).items())
+    broken = json.loads(tool("json", "order", "40", "M1", text=example("engine.csv").replace(b"code,M1", b"code,m1"))[1])
+    check("a fault has its place and sentence", broken["faults"][0]["line"] == 2 and "small letters" in broken["faults"][0]["sentence"], str(broken))
+    check("wrong words", tool("json", "sample")[0] == 2 and tool("json", "order", "x", text=b"")[0] == 1)
+    return "answers as JSON: " + ", ".join(f"{count} of {kind}" for kind, count in kinds.items())
+
+
+def pages(place):
+    """The page of changes has each line of `changes`, and no text as markup."""
+    rows = 0
+    for text, path in next_books(place):
+        done = subprocess.run([PROGRAM, "changes", path], input=text, capture_output=True, check=False)
+        lines = [line for line in done.stdout.decode().splitlines() if not line.startswith(("days ", "end "))]
+        status, page, error = tool("report", "--changes", path, text=text)
+        check(f"the page of {path.name} has the status", status == done.returncode, error)
+        if done.stdout.startswith((b"days", b"end")):
+            found = re.findall(r'<tr><td><strong class="\w+">([a-z ]+)</strong>', page)
+            kinds = [line if line == "no common car" else line.split()[0] for line in lines]
+            check(f"the page of {path.name} has each line", found == kinds, f"{found} {kinds}")
+            rows += len(found)
+        else:
+            check(f"the page of {path.name} shows what was said", done.stdout.decode().strip() in page, page[-300:])
+    hostile = example("engine.csv").replace(b"engine one", b'"<script>alert(1)</script>"')
+    (place / "hostile.csv").write_bytes(hostile.replace(b"A100", b"A150"))
+    page = tool("report", "--changes", place / "hostile.csv", text=hostile)[1]
+    check("a text is no markup", "<script" not in page and "&lt;script&gt;" in page, page[-500:])
+    check("without a file", tool("report", "--changes")[0] == 2)
+    van = tool("report", "--html", text=example("van.csv"))[1]
+    asked = {line for line in re.findall(r"`partsbook ask (.*?)` names", van)}
+    for line in asked:
+        day, rule = line.replace("&#x27;", "").split(" ", 1)
+        done = subprocess.run([PROGRAM, "ask", day, rule], input=example("van.csv"), capture_output=True, check=False)
+        check(f"ask {line}, which a report names, is answered with the rules", done.stdout.startswith(b"none by "), done.stdout)
+    return f"{rows} changes on pages; {len(asked)} questions that a report names are answered with rules"
+
+
 def main(words):
+<<<<<<< HEAD
     parts = {"rows": rows, "torn": torn, "changed": changed, "trim": trim, "counts": counts, "copy": copy, "keep": keep, "next": next_}
     parts |= {"sheet": sheet, "report": report, "common": common}
+=======
+    parts = {"rows": rows, "torn": torn, "changed": changed, "copy": copy, "keep": keep, "next": next_}
+    parts |= {"sheet": sheet, "report": report, "lint": lint, "quotes": quotes, "answers": answers, "pages": pages, "common": common}
+>>>>>>> a94295e3 (Pages of the new tools, a hook of git, and their trials)
     for name in words or parts:
         with tempfile.TemporaryDirectory(dir="/dev/shm" if os.path.isdir("/dev/shm") else None) as place:
             print(f"{name}: {parts[name](pathlib.Path(place))}", flush=True)
