@@ -5,11 +5,13 @@
 #
 #   tests/launcher.sh [PROGRAM]
 #
-# PROGRAM is the built program, crates/partsbook/out/partsbook without the word. The status is 1 where something is otherwise.
+# PROGRAM is the built program, crates/partsbook/out/partsbook without the word. Without a program what needs none is tried: help,
+# wrong words, where faults are, and what all scripts do then. The status is 1 where something is otherwise.
 top=$(cd "$(dirname "$0")/.." && pwd) || exit 1
 named=$1
+without=1
 . "$top/tests/trial.sh"
-export PARTSBOOK_PROGRAM="$program"
+[ -z "$program" ] || export PARTSBOOK_PROGRAM="$program"
 books=$top/examples
 failed=0
 tried=0
@@ -50,6 +52,203 @@ silent() { [ ! -s "$work/said" ] || { wrong 'something is said where all is well
 
 # A change of a book.
 changed() { sed "$2" "$books/$1" > "$work/book.csv"; }
+
+book_awk() { # book, words of its own
+    file=$1
+    shift
+    LC_ALL=C awk -v table="$top/tools/faults.json" "$@" -f "$top/tools/sentences.awk" -f "$top/tools/book.awk" "$file"
+}
+
+# Each kind of wrong word is named, and what stands in its place.
+words_awk() { LC_ALL=C awk -v table="$top/tools/faults.json" -f "$top/tools/sentences.awk" -f "$top/tools/words.awk" "$top/tools/help.txt" "$@"; }
+word() { # what is said, words..
+    expected=$1
+    shift
+    tried=$((tried + 1))
+    words_awk "$@" > "$work/said"
+    said "$expected"
+    [ -n "$program" ] || return
+    same "$books/compact.csv" "$@"
+    [ "$(cut -c 1-6 "$work/wanted")" = 'usage:' ] || wrong "the program takes: $*"
+    said "$expected"
+}
+word 'there is no command `chek`; is `check` meant?; partsbook --help has them all' chek
+word 'there is no command `nonsense`; partsbook --help has them all' nonsense
+word 'partsbook --help says'
+word '`check` has no option `--budgt`; is `--budget` meant?' check --budgt 5
+word '`check` has no option `--json`; it has --budget N and --workers N' check --json
+word '`check` has no option `-v`' check -v
+word '`order` has no option `--budget`' order 40 P18 --budget 5
+word '`free` has no option `--workers`' free 40 P18 --workers 2
+word '`--budget 0`: N is a number from 1 to 50000' check --budget 0
+word '`--budget lots`: N is a number from 1 to 50000' prove --budget=lots
+word '`--workers 99`: N is a number from 1 to 16' check --workers 99
+word '`--budget` is given twice' check --budget 5 --budget 6
+word '`--workers` is given twice' check --workers 2 --workers=3
+word '`--budget` needs a number behind it' check --budget
+word 'CERTFILE is missing' verify
+word 'FILE is missing' compare 1
+word 'DAY is missing' order
+word 'RULE is missing' ask 40
+word 'WORKERS and LINKS are missing' serve "$work/unmade.db" 8080
+grep -q 'a new one is made' "$work/said" && wrong 'a store is told to be made where words are missing'
+word 'PORT, WORKERS and LINKS are missing' serve "$work/unmade.db"
+word '`99999`: PORT is a number from 1 to 65535' serve "$work/unmade.db" 99999 2 3
+word '`17`: WORKERS is a number from 1 to 16' rejudge "$work/unmade.db" 1 17
+word '`0`: BOOK is a number from 1 to 4294967295' rejudge "$work/unmade.db" 0 1
+word '`0`: LINKS is a number from 1 to 1000000' serve "$work/unmade.db" 8080 1 0
+[ ! -e "$work/unmade.db" ] || wrong 'wrong words make a store'
+word '`7`: CODES is a multiple of 4 from 8 to 2000' sample 1 7 3
+word '`10001`: ORDERS is a number from 0 to 10000' sample 1 8 10001
+word '`4` is one word too many: partsbook sample START CODES ORDERS' sample 1 8 3 4
+word '`B` is one word too many: partsbook ask DAY RULE' ask 40 A B
+word '`-` is no file here: the book is read from standard input, and CERTFILE is another file' verify -
+word '`-` is no file here: without it the book is read from standard input' check -
+word '`P18+AWD` is a rule, and here stand codes' order 40 P18+AWD
+word '`ABCDEFGHI` is no code: a code is 1 to 8 capitals and digits' order 40 ABCDEFGHI
+word '`TRUE` is a word of the rules, and no code' order 40 TRUE
+word '`000040` is no day' order 000040 P18
+word '`2027-02-09` is no day' order 2027-02-09 P18
+word '`p18`: codes are capitals and digits' order 40 p18
+word 'codes are separated by blanks' order 40 P18,AWD
+word "\`-x\` can't begin with -: a file of this name is ./-x" verify -- -x
+word "partsbook check < $books/van.csv" check "$books/van.csv"
+word "\`$books/van.csv\` is a file: the book is read from standard input, as in: partsbook order 40 < $books/van.csv" order 40 "$books/van.csv"
+
+# The words of which nothing is wrong are right: no sentence stands for words that the program takes.
+for words in 'check --budget=0000000010 --workers 02' 'check --' 'ask 40 -P18 --budget 5' 'ask 40 -- -P18' 'order 00040 -- P18' 'free --budget 5 40 P18' 'sample 4294967295 8 0'; do
+    words_awk $words > "$work/found"
+    [ ! -s "$work/found" ] || wrong "$words: $(cat "$work/found")"
+    [ -n "$program" ] || continue
+    same "$books/compact.csv" $words
+    grep -q '^usage' "$work/wanted" && wrong "the program doesn't take: $words"
+done
+
+# Help of a command, wherever it is asked for before the word that ends options, with or without a program.
+helped() { # words..
+    tried=$((tried + 1))
+    PARTSBOOK_PROGRAM=$work/none "$top/partsbook" "$@" > "$work/found" 2> "$work/said" < /dev/null
+    [ $? = 0 ] || wrong "$*: no help"
+    [ "$(head -n 1 "$work/found" | cut -d' ' -f1-2)" = "partsbook $1" ] || wrong "$*: the help of another command"
+    silent
+}
+helped order --help
+helped order 40 P18 --help
+helped check --budgt --help
+tried=$((tried + 2))
+out help nonsense; [ $? = 2 ] || wrong 'help of no command has another status'; said 'there is no command `nonsense`'
+out chek --help; [ $? = 2 ] || wrong 'help of no command has another status'; said 'there is no command `chek`; is `check` meant?'
+for word in $("$top/partsbook" --help | sed -n 's/^  \([a-z]*\) .*/\1/p' | grep -v '^help$'); do
+    "$top/partsbook" help "$word" | grep -q "^partsbook" || wrong "there is no help for $word"
+done
+
+# Where the faults of a book are: row, kind, number of a rule's fault, line and column, as tools/book.awk finds them without a program.
+places() { # how engine.csv is changed, places
+    tried=$((tried + 1))
+    changed engine.csv "$1"
+    found=$(book_awk "$work/book.csv" -v mode=faults | cut -d' ' -f1-5 | tr '\n' ';')
+    [ "$found" = "$2" ] || wrong "$1: faults at $found, and not $2"
+}
+places '' ''
+places 's/^code,M2/code,m2/; s/,A200,1/,a200,x/' '3 7 0 3 6;15 7 0 15 15;15 8 0 15 20;'
+places 's/M1+-G7/"M1+-G8"/; s/^variant,V1,P1/variant,V1,P2/' '11 12 3 11 26;14 11 0 14 12;'
+places 's/engine one/"engine\none"/; s/^construct,C4/construct,C2/' '10 10 0 11 11;'
+places '1s/.*//' '1 3 0 2 1;'
+places 's/^position/group,C9,one,M1\/M2,,\nposition/' '13 5 0 13 1;'
+
+# Neither the launcher nor a tool takes the launcher for the program: by its own name, through a link, and as a copy.
+bare=$work/bare
+mkdir -p "$bare/crates"
+cp -r "$top/partsbook" "$top/tools" "$top/tests" "$top/examples" "$bare"
+ln -s "$top/partsbook" "$work/launcher"
+for name in "$top/partsbook" "$work/launcher" "$bare/partsbook"; do
+    tried=$((tried + 2))
+    (export PARTSBOOK_PROGRAM="$name"; out check; [ $? = 125 ]) || wrong "$name as its own program has another status"
+    said 'is the script that starts the program'
+    PARTSBOOK_PROGRAM=$name timeout 60 "$top/tools/report" < "$books/engine.csv" > "$work/found" 2> "$work/said" && wrong "a tool takes $name for the program"
+    said 'is a script'
+done
+
+# Without a program: what to do is said, nothing is built, and each trial and tool ends with one line and status 1.
+printf '#!/bin/sh\ntouch "%s"\n' "$work/built" > "$bare/build"
+chmod +x "$bare/build"
+without() { (unset PARTSBOOK_PROGRAM; timeout 60 "$@" < "$books/engine.csv" > "$work/found" 2> "$work/said"); }
+without "$bare/partsbook" check
+[ $? = 125 ] || wrong 'without a program the launcher has another status'
+said 'there is no program here yet'; said './build proves and builds it'
+[ ! -e "$work/built" ] || wrong 'the launcher builds'
+for trial in "$bare"/tests/*.py "$bare"/tests/*.sh "$bare"/tests/speed/*.py "$bare"/tools/*; do
+    given=
+    case ${trial#"$bare/"} in
+    tests/speed/measure.py) given='none none 1 1 1' ;;
+    tests/speed/serve.py | tests/speed/desks.py) given=none ;;
+    tools/compare) given="1 $books/engine.csv" ;;
+    tools/make-archive) given=$work ;;
+    # This one tries what needs no program.
+    tests/launcher.sh) continue ;;
+    # What they are without a program, and parts of the others.
+    tests/trial.* | tests/service.py | tests/desk_stream.py | tests/journal-rows.py | tests/wrong-bodies.py | tests/speed/draw_book.py | tests/speed/plot.py) continue ;;
+    tools/lint) given=$books/engine.csv ;;
+    tools/json) given='order 1' ;;
+    tools/report) ;;
+    tools/*) continue ;;
+    esac
+    tried=$((tried + 1))
+    without "$trial" $given
+    status=$?
+    [ "$status" = 1 ] && [ "$(cat "$work/found" "$work/said" | wc -l)" = 1 ] && continue
+    wrong "${trial#"$bare/"} without a program: status $status"
+    cat "$work/found" "$work/said" | sed 's/^/    /'
+done
+
+# No trial leaves a process behind, nor a shell script its folder, whatever ends it.
+cat > "$work/left.py" <<'END'
+import subprocess, sys, time
+sys.path.insert(0, sys.argv[1] + "/tests")
+import trial
+left = subprocess.Popen(["sleep", sys.argv[3]])
+print("begun", flush=True)
+if sys.argv[2] == "exception":
+    raise ValueError
+time.sleep(100)
+END
+cat > "$work/left.sh" <<'END'
+top=$1 named= without=1
+. "$top/tests/trial.sh"
+way=$2
+sleep "$3" &
+echo "$work"
+[ "$way" = exception ] && exit 7
+sleep 100
+END
+# As a command at a terminal: it takes SIGINT, which the keyboard sends to the group of processes.
+takes='import os, signal, sys; signal.signal(signal.SIGINT, signal.SIG_DFL); os.setpgid(0, 0); os.execvp(sys.argv[1], sys.argv[1:])'
+# Waits until a process with these words is there, or is gone.
+comes() { tries=100; while ! pgrep -f "^sleep $1" > /dev/null && [ $((tries -= 1)) -gt 0 ]; do sleep 0.1; done; }
+goes() { tries=100; while pgrep -f "^sleep $1" > /dev/null || [ -d "$2" ]; do [ $((tries -= 1)) -gt 0 ] || return; sleep 0.1; done; }
+for script in 'sh left.sh' 'python3 left.py'; do
+    for way in KILL TERM INT HUP exception; do
+        tried=$((tried + 1))
+        long=$((1000000 + $$)).$tried
+        (cd "$work" && exec python3 -c "$takes" $script "$top" "$way" "$long" > "$work/begun" 2> /dev/null) &
+        trial=$!
+        if [ "$way" != exception ]; then
+            comes "$long" || wrong "$script starts nothing"
+            [ "$way" = INT ] && ended=-$trial || ended=$trial
+            kill -s "$way" -- "$ended"
+        fi
+        wait "$trial" 2> /dev/null
+        [ -s "$work/begun" ] || wrong "$script doesn't begin"
+        goes "$long" "$(cat "$work/begun")" || wrong "$script, ended by $way, leaves a process or its folder behind"
+    done
+done
+
+# The rest needs the program.
+if [ -z "$program" ]; then
+    [ "$failed" = 0 ] && echo "launcher: $tried things that need no program come out as they should; there is no program, so the rest wasn't tried"
+    exit "$failed"
+fi
+
 
 same "$books/compact.csv" check
 said 'read 16 codes, 6 supplementing rules, 14 constructibility rules, 3 modules, 8 positions, 21 variants'
@@ -131,13 +330,6 @@ printf 'book,T,1,10\ncode,M1,"one\ntwo\nthree"\ncode,m2,x\n' > "$work/book.csv";
 same "$books/compact.csv" order 400 P18; said 'the term of the book, which is 1 to 365'
 same "$books/compact.csv" order 40 P18 XX; said 'the book has no code `XX`'
 same "$books/compact.csv" order 40 P18 P18; said 'the code `P18` is ordered twice'
-same "$books/compact.csv" order 40 p18; said '`p18`: codes are capitals and digits'
-same "$books/compact.csv" order 40 P18,AWD; said 'codes are separated by blanks'
-same "$books/compact.csv" order 2027-02-09 P18; said 'is no day'
-same "$books/compact.csv" check "$books/van.csv"; said "partsbook check < $books/van.csv"
-same "$books/compact.csv" chek; said 'there is no command `chek`; is `check` meant?'
-same "$books/compact.csv" nonsense; said 'there is no command `nonsense`; partsbook --help has them all'
-same "$books/compact.csv"; said 'partsbook --help says'
 sed 's/^close 13 21/close 13 20/' "$books/engine.cert" > "$work/wrong.cert"
 same "$books/engine.csv" verify "$work/wrong.cert"; said 'wrong.cert, line 6: question 13 is not closed'
 same "$books/engine.csv" verify "$books/van.check.txt"; said 'is a report and no certificate'
@@ -153,80 +345,9 @@ same "$books/engine.csv" compare 2000 "$books/engine.csv"; said "day 2000 isn't 
 same "$books/compact.csv" order 40 P81; said 'the book has no code `P81`; is `P18` meant?'
 same "$books/compact.csv" ask 40 P18+-P81; said 'in the rule `P18+-P81`, at byte 6: `P81` is no code of the book; is `P18` meant?'
 
-# Each kind of wrong word is named, and what stands in its place.
-word() { # what is said, words..
-    expected=$1
-    shift
-    same "$books/compact.csv" "$@"
-    [ "$(cat "$work/wanted" | cut -c 1-6)" = 'usage:' ] || wrong "the program takes: $*"
-    said "$expected"
-}
-word '`check` has no option `--budgt`; is `--budget` meant?' check --budgt 5
-word '`check` has no option `--json`; it has --budget N and --workers N' check --json
-word '`check` has no option `-v`' check -v
-word '`order` has no option `--budget`' order 40 P18 --budget 5
-word '`free` has no option `--workers`' free 40 P18 --workers 2
-word '`--budget 0`: N is a number from 1 to 50000' check --budget 0
-word '`--budget lots`: N is a number from 1 to 50000' prove --budget=lots
-word '`--workers 99`: N is a number from 1 to 16' check --workers 99
-word '`--budget` is given twice' check --budget 5 --budget 6
-word '`--workers` is given twice' check --workers 2 --workers=3
-word '`--budget` needs a number behind it' check --budget
-word 'CERTFILE is missing' verify
-word 'FILE is missing' compare 1
-word 'DAY is missing' order
-word 'RULE is missing' ask 40
-word 'WORKERS and LINKS are missing' serve "$work/unmade.db" 8080
-grep -q 'a new one is made' "$work/said" && wrong 'a store is told to be made where words are missing'
-word 'PORT, WORKERS and LINKS are missing' serve "$work/unmade.db"
-word '`99999`: PORT is a number from 1 to 65535' serve "$work/unmade.db" 99999 2 3
-word '`17`: WORKERS is a number from 1 to 16' rejudge "$work/unmade.db" 1 17
-word '`0`: BOOK is a number from 1 to 4294967295' rejudge "$work/unmade.db" 0 1
-word '`0`: LINKS is a number from 1 to 1000000' serve "$work/unmade.db" 8080 1 0
-[ ! -e "$work/unmade.db" ] || wrong 'wrong words make a store'
-word '`7`: CODES is a multiple of 4 from 8 to 2000' sample 1 7 3
-word '`10001`: ORDERS is a number from 0 to 10000' sample 1 8 10001
-word '`4` is one word too many: partsbook sample START CODES ORDERS' sample 1 8 3 4
-word '`B` is one word too many: partsbook ask DAY RULE' ask 40 A B
-word '`-` is no file here: the book is read from standard input, and CERTFILE is another file' verify -
-word '`-` is no file here: without it the book is read from standard input' check -
-word '`P18+AWD` is a rule, and here stand codes' order 40 P18+AWD
-word '`ABCDEFGHI` is no code: a code is 1 to 8 capitals and digits' order 40 ABCDEFGHI
-word '`TRUE` is a word of the rules, and no code' order 40 TRUE
-word '`000040` is no day' order 000040 P18
-word "\`$books/van.csv\` is a file: the book is read from standard input, as in: partsbook order 40 < $books/van.csv" order 40 "$books/van.csv"
-
-# The words of which nothing is wrong are right: no sentence stands for words that the program takes.
-for words in 'check --budget=0000000010 --workers 02' 'check --' 'ask 40 -P18 --budget 5' 'ask 40 -- -P18' 'order 00040 -- P18' 'free --budget 5 40 P18' 'sample 4294967295 8 0'; do
-    same "$books/compact.csv" $words
-    grep -q '^usage' "$work/wanted" && wrong "the program doesn't take: $words"
-    LC_ALL=C awk -v table="$top/tools/faults.json" -f "$top/tools/sentences.awk" -f "$top/tools/words.awk" "$top/tools/help.txt" $words > "$work/found"
-    [ ! -s "$work/found" ] || wrong "$words: $(cat "$work/found")"
-done
-
-# Help of a command, wherever it is asked for before the word that ends options, with or without a program.
-helped() { # words..
-    tried=$((tried + 1))
-    PARTSBOOK_PROGRAM=$work/none "$top/partsbook" "$@" > "$work/found" 2> "$work/said" < /dev/null
-    [ $? = 0 ] || wrong "$*: no help"
-    [ "$(head -n 1 "$work/found" | cut -d' ' -f1-2)" = "partsbook $1" ] || wrong "$*: the help of another command"
-    silent
-}
-helped order --help
-helped order 40 P18 --help
-helped check --budgt --help
-tried=$((tried + 2))
-out help nonsense; [ $? = 2 ] || wrong 'help of no command has another status'; said 'there is no command `nonsense`'
-out chek --help; [ $? = 2 ] || wrong 'help of no command has another status'; said 'there is no command `chek`; is `check` meant?'
-
 # How large a check is, as the launcher shows it on a terminal: the slices are those of the report, and the questions those that the
 # program counts where there are too many.
 size() { book_awk "$1" -v mode=size; }
-book_awk() {
-    file=$1
-    shift
-    LC_ALL=C awk -v table="$top/tools/faults.json" "$@" -f "$top/tools/sentences.awk" -f "$top/tools/book.awk" "$file"
-}
 for book in "$books"/*.csv; do
     # Requirements aren't a book.
     grep -qE '^(require|uses),' "$book" && continue
@@ -366,95 +487,9 @@ grep -q HTTP "$work/closed.journal" && wrong 'what was told is in the store'
 "$top/partsbook" --quiet desk "$work/closed.journal" <&- > "$work/found"
 [ $? = 4 ] || wrong 'a closed input has another status than 4'
 
-# Neither the launcher nor a tool takes the launcher for the program: by its own name, through a link, and as a copy.
-bare=$work/bare
-mkdir -p "$bare/crates"
-cp -r "$top/partsbook" "$top/tools" "$top/tests" "$top/examples" "$bare"
-ln -s "$top/partsbook" "$work/launcher"
-for name in "$top/partsbook" "$work/launcher" "$bare/partsbook"; do
-    tried=$((tried + 2))
-    (PARTSBOOK_PROGRAM=$name; out check; [ $? = 125 ]) || wrong "$name as its own program has another status"
-    said 'is the script that starts the program'
-    PARTSBOOK_PROGRAM=$name timeout 60 "$top/tools/report" < "$books/engine.csv" > "$work/found" 2> "$work/said" && wrong "a tool takes $name for the program"
-    said 'is a script'
-done
-
-# Without a program: what to do is said, nothing is built, and each trial and tool ends with one line and status 1.
-printf '#!/bin/sh\ntouch "%s"\n' "$work/built" > "$bare/build"
-chmod +x "$bare/build"
-without() { (unset PARTSBOOK_PROGRAM; timeout 60 "$@" < "$books/engine.csv" > "$work/found" 2> "$work/said"); }
-without "$bare/partsbook" check
-[ $? = 125 ] || wrong 'without a program the launcher has another status'
-said 'there is no program here yet'; said './build proves and builds it'
-[ ! -e "$work/built" ] || wrong 'the launcher builds'
-for trial in "$bare"/tests/*.py "$bare"/tests/*.sh "$bare"/tests/speed/*.py "$bare"/tools/*; do
-    given=
-    case ${trial#"$bare/"} in
-    tests/speed/measure.py) given='none none 1 1 1' ;;
-    tests/speed/serve.py | tests/speed/desks.py) given=none ;;
-    tools/compare) given="1 $books/engine.csv" ;;
-    tools/make-archive) given=$work ;;
-    # What they are without a program, and parts of the others.
-    tests/trial.* | tests/service.py | tests/desk_stream.py | tests/journal-rows.py | tests/wrong-bodies.py | tests/speed/draw_book.py | tests/speed/plot.py) continue ;;
-    tools/report) ;;
-    tools/*) continue ;;
-    esac
-    tried=$((tried + 1))
-    without "$trial" $given
-    status=$?
-    [ "$status" = 1 ] && [ "$(cat "$work/found" "$work/said" | wc -l)" = 1 ] && continue
-    wrong "${trial#"$bare/"} without a program: status $status"
-    cat "$work/found" "$work/said" | sed 's/^/    /'
-done
-
-# No trial leaves a process behind, nor a shell script its folder, whatever ends it.
-cat > "$work/left.py" <<'END'
-import subprocess, sys, time
-sys.path.insert(0, sys.argv[1] + "/tests")
-import trial
-left = subprocess.Popen(["sleep", sys.argv[3]])
-print("begun", flush=True)
-if sys.argv[2] == "exception":
-    raise ValueError
-time.sleep(100)
-END
-cat > "$work/left.sh" <<'END'
-top=$1 named=
-. "$top/tests/trial.sh"
-way=$2
-sleep "$3" &
-echo "$work"
-[ "$way" = exception ] && exit 7
-sleep 100
-END
-# As a command at a terminal: it takes SIGINT, which the keyboard sends to the group of processes.
-takes='import os, signal, sys; signal.signal(signal.SIGINT, signal.SIG_DFL); os.setpgid(0, 0); os.execvp(sys.argv[1], sys.argv[1:])'
-# Waits until a process with these words is there, or is gone.
-comes() { tries=100; while ! pgrep -f "^sleep $1" > /dev/null && [ $((tries -= 1)) -gt 0 ]; do sleep 0.1; done; }
-goes() { tries=100; while pgrep -f "^sleep $1" > /dev/null || [ -d "$2" ]; do [ $((tries -= 1)) -gt 0 ] || return; sleep 0.1; done; }
-for script in 'sh left.sh' 'python3 left.py'; do
-    for way in KILL TERM INT HUP exception; do
-        tried=$((tried + 1))
-        long=$((1000000 + $$)).$tried
-        (cd "$work" && exec python3 -c "$takes" $script "$top" "$way" "$long" > "$work/begun" 2> /dev/null) &
-        trial=$!
-        if [ "$way" != exception ]; then
-            comes "$long" || wrong "$script starts nothing"
-            [ "$way" = INT ] && ended=-$trial || ended=$trial
-            kill -s "$way" -- "$ended"
-        fi
-        wait "$trial" 2> /dev/null
-        [ -s "$work/begun" ] || wrong "$script doesn't begin"
-        goes "$long" "$(cat "$work/begun")" || wrong "$script, ended by $way, leaves a process or its folder behind"
-    done
-done
-
 # Through a link, in another folder, and help.
 ln -s "$top/partsbook" "$work/linked"
 [ "$(cd "$work" && ./linked --quiet order 40 E60 TOW < "$books/compact.csv")" = 'refused ETOW' ] || wrong 'through a symbolic link it finds no program'
-for word in $("$top/partsbook" --help | sed -n 's/^  \([a-z]*\) .*/\1/p' | grep -v '^help$'); do
-    "$top/partsbook" help "$word" | grep -q "^partsbook" || wrong "there is no help for $word"
-done
 "$top/partsbook" --version | grep -q '^partsbook' || wrong 'there is no version'
 (PARTSBOOK_PROGRAM=$work/none; out check; [ $? = 125 ] || wrong 'a program that is not there has another status'); said "there is no program $work/none"
 # One standard input for many commands: the second one isn't told of the first one's bytes.
