@@ -411,8 +411,14 @@ def sheet(place):
     check("dates by a table, blanks, a header", text == 'book,T,1,240\ncode,M1," hell, grün "\n', text + error)
     (place / "dated").write_text("book;T;12.01.2027;2027-12-20\n")
     check("a date without a row is refused", "C1: `12.01.2027` is a date that" in tool("from-sheet", "--days", place / "days", place / "dated")[2])
+    (place / "header").write_text("bok,T,1,9\ncode,A,a\n")
+    status, text, error = tool("from-sheet", place / "header")
+    check("a mistyped book record is no header", status == 1 and text == "" and "A1: `bok` is no kind of record" in error, error)
+    (place / "empty").write_text("")
+    status, text, error = tool("from-sheet", place / "empty")
+    check("an empty file is no book", status == 1 and "has no record" in error, error)
     check("a date without a table is refused", "--days" in tool("from-sheet", place / "dated")[2])
-    said = f"{count} books as spreadsheets and as texts of 18 kinds came back with the same records; {len(spoilt) + 2} cells refused"
+    said = f"{count} books as spreadsheets and as texts of 18 kinds came back with the same records; {len(spoilt) + 3} cells refused"
     return said + office(place)
 
 
@@ -543,7 +549,7 @@ def lint(place):
     """Each fault that the program tells is among those that lint tells, at its row, kind and place; and of a book without one there is
     none. Then what a command line has of it."""
     dice, counts = random.Random(4), collections.Counter()
-    for _ in range(500):
+    for _ in range(250):
         data = spoilt(dice, dice.choice(BOOKS).read_bytes())
         done = subprocess.run([PROGRAM, "order", "99999"], input=data, capture_output=True, check=False)
         words = done.stdout.decode().split()
