@@ -760,13 +760,8 @@ def pages(place):
 
 
 def main(words):
-<<<<<<< HEAD
     parts = {"rows": rows, "torn": torn, "changed": changed, "trim": trim, "counts": counts, "copy": copy, "keep": keep, "next": next_}
-    parts |= {"sheet": sheet, "report": report, "common": common}
-=======
-    parts = {"rows": rows, "torn": torn, "changed": changed, "copy": copy, "keep": keep, "next": next_}
     parts |= {"sheet": sheet, "report": report, "lint": lint, "quotes": quotes, "answers": answers, "pages": pages, "common": common}
->>>>>>> a94295e3 (Pages of the new tools, a hook of git, and their trials)
     for name in words or parts:
         with tempfile.TemporaryDirectory(dir="/dev/shm" if os.path.isdir("/dev/shm") else None) as place:
             print(f"{name}: {parts[name](pathlib.Path(place))}", flush=True)
