@@ -643,6 +643,9 @@ def quotes(place):
     check("a text of two lines is told and kept", status == 0 and said.encode() == lines and "lines 9 to 10 are one text" in error, error)
     status, said, _ = tool("lint", place / "saved")
     check("and is a note of lint's", f"{place}/saved:9:10: note: lines 9 to 10 are one text" in said, said)
+    (place / "wrong.csv").write_bytes(example("compact.csv").replace(b"code,P18", b"code,p18"))
+    status, said, error = tool("compare", "40", place / "wrong.csv", text=example("compact.csv"))
+    check("compare says what a fault is", status == 3 and "line 2, column 6: `p18` has small letters" in error, said + error)
     status, _, error = tool("desks", "release", "T", place / "open.csv", "ANNA", "1")
     check("desks releases no such book", status == 1 and "isn't released while a quote in it hides records" in error, error)
     return f"an open quote is told by {count + 5} tools and ways of theirs, and neither made into a book nor released"

@@ -3,6 +3,8 @@ docs/CHECKING.md have both texts."""
 
 import csv
 import io
+import os
+import sys
 
 from faults import Fault, faults_of, quotes_of, sentence, tell_quotes
 from program import Refused, run
@@ -88,6 +90,16 @@ def faults_told(said, text):
     if words[:2] == ["limit", "questions"]:
         return [Fault(0, 0, 0, 1, 1, sentence("limit questions", slice=words[2], word=words[3]))]
     return []
+
+
+def tell_fault(said, day, *texts):
+    """Says on standard error what the fault in this line is, and where, of the first of these texts that has it."""
+    words = said.split(" ")
+    told = [f"line {fault.line}, column {fault.column}: {fault.sentence}" for fault in next(filter(None, (faults_told(said, text) for text in texts)), [])]
+    if words[:2] == ["day", "outside"]:
+        told = [sentence("day outside", word=day, book=words[2])]
+    for sentence_told in told:
+        print(f"{os.path.basename(sys.argv[0])}: {sentence_told}", file=sys.stderr)
 
 
 class Report:
