@@ -94,6 +94,7 @@ export function trouble(answer) {
       : `Under this number another order of yours is kept, of book ${third}. Take another number.`;
     case 410: return `Book ${second} was withdrawn: it takes no more orders. Choose another book.`;
     case 413: return "The text is longer than 1,048,576 bytes.";
+    case 429: return "More was asked or ordered than is allowed at a time. Try again later.";
     case 500: return "The desk had no memory for this. Send it again later.";
     case 502: case 504: return "The desk doesn't answer just now. Try again in a minute.";
     case 503: return first === "store" ? "The desk couldn't write to its store. Tell whoever runs it."

@@ -128,9 +128,28 @@ function chooseDate(date) {
   return chooseDay(day);
 }
 
-// Asks the desk about the order as it stands. An answer that comes after a later question is left aside.
-async function refresh(said = "") {
-  const asked = (now.asked += 1);
+// Asks the desk about the order as it stands. While answers are on their way nothing further is asked: what was changed meanwhile is
+// asked about behind them.
+let refreshing = null;
+let sayAfter = "";
+
+function refresh(said = "") {
+  now.asked += 1;
+  sayAfter = said;
+  refreshing ??= askUntilDone().finally(() => { refreshing = null; });
+  return refreshing;
+}
+
+async function askUntilDone() {
+  while (now.answered !== now.asked) {
+    const asked = now.asked;
+    await askAndDraw(asked);
+    if (asked === now.asked) now.answered = asked;
+  }
+  askInstead();
+}
+
+async function askAndDraw(asked) {
   const body = { day: now.day, codes: now.codes };
   const [free, why] = await Promise.all([ask("POST", `/books/${now.number}/free`, body), ask("POST", `/books/${now.number}/why`, body)]);
   if (asked !== now.asked) return;
@@ -145,13 +164,11 @@ async function refresh(said = "") {
     now.why = readWhy(why);
     if (now.free.kind === "none") await keepWhatStays(asked);
     if (asked !== now.asked) return;
-    say(said, false, true);
+    say(sayAfter, false, true);
   }
-  now.answered = asked;
   showAddress();
   drawStates();
   await drawOrder();
-  await askInstead();
 }
 
 async function sayTrouble(answer) {
@@ -237,7 +254,7 @@ function drawChoices() {
   const halves = [[], []];
   let before = 0;
   for (const group of groups) {
-    const title = el("span", null, now.book.groupName(group), el("span", { class: "id" }, group.kind === "one" ? ", exactly one" : ", at most one"));
+    const title = el("span", null, now.book.groupName(group), el("span", { class: "id" }, group.kind === "one" ? ", one" : ", one or none"));
     const box = choice(group.codes, "", title, group.id);
     boxes.set(group.id, { group, box, seen: false });
     for (const code of group.codes) options.get(code).group = group;
@@ -255,7 +272,6 @@ function drawChoices() {
 function drawIndex(groups) {
   marks.clear();
   place.index.hidden = groups.length < 3;
-  place.index.open = groups.length <= 24 && matchMedia("(min-width: 56rem)").matches;
   put(place.index, el("summary", null, `The ${groups.length} groups`), el("ul", { class: "links index" }, groups.map((group) => {
     const mark = el("span", { class: "id" });
     marks.set(group, mark);
@@ -356,8 +372,9 @@ function clicked(event, code) {
     event.preventDefault();
     return state === "forced" ? showForced(code) : showExcluded(code);
   }
-  if (state === "instead") return exchange(code, chosenOf(options.get(code).group));
-  return change([...now.codes, code], `${code} is ordered.`);
+  const { group } = options.get(code);
+  const chosen = group === undefined ? [] : chosenOf(group);
+  return chosen.length > 0 ? exchange(code, chosen) : change([...now.codes, code], `${code} is ordered.`);
 }
 
 // A code in the place of others.
