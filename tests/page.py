@@ -4,8 +4,8 @@ examples/service/haproxy.cfg and `partsbook serve`, all at ports of 127.0.0.1 an
 
     tests/page.py [--pictures FOLDER] [PART..]
 
-Parts: order, drafts, roles, hostile, keys, many, watch. Without one, all of them. --pictures leaves pictures of the page in a folder
-(those of docs/ were made so). It needs crates/partsbook/out/partsbook, or the program that PARTSBOOK_PROGRAM names, and haproxy,
+Parts: order, choices, drafts, faults, paper, waits, thousand, roles, hostile, keys, many, watch. Without one, all of them. --pictures leaves pictures of the page in a folder
+(those of docs/pictures were made so). It needs crates/partsbook/out/partsbook, or the program that PARTSBOOK_PROGRAM names, and haproxy,
 chromium and chromedriver, which it installs by apt-get where they aren't there. It ends what it began. The status is 1 where
 something is otherwise.
 """
@@ -17,6 +17,7 @@ import os
 import pathlib
 import re
 import shutil
+import signal
 import socket
 import subprocess
 import sys
@@ -176,6 +177,11 @@ class Browser:
         wait_for("the page", lambda: self.run("return document.getElementById('who').textContent !== '' || document.body.textContent.includes('signed in')"))
         self.settle()
 
+    def view(self, view):
+        """Another view of the page, by its address."""
+        self.go(f"{self.run('return location.origin')}/{view}")
+        self.settle()
+
     def run(self, script, *arguments):
         return self.send("POST", f"{self.session}/execute/sync", {"script": script, "args": list(arguments)})
 
@@ -324,11 +330,50 @@ def states(browser):
     return dict(browser.run("return [...document.querySelectorAll('.option')].map((it) => [it.querySelector('.name').textContent, it.dataset.state])"))
 
 
-def same_states(browser, book, day, codes, what):
-    """Each code has the state that the program says of it."""
-    wanted = {line.split()[1]: line.split()[0] for line in program(book, "free", day, *codes)[1:-1]}
-    found = states(browser)
-    check(f"{what}: each code has the state that the desk says", found == wanted, {code: (found.get(code), wanted[code]) for code in wanted if found.get(code) != wanted[code]})
+def free(book, day, codes):
+    """The states of the codes, or none where no car is left."""
+    return {line.split()[1]: line.split()[0] for line in program(book, "free", day, *codes)[1:-1] if " " in line}
+
+
+def groups_on(book, day):
+    """The codes of each group that counts on a day."""
+    records = [record for record in read_records(book.decode()) if record.kind == "group"]
+    return [record.get("CODES").split("/") for record in records if int(record.get("FROM") or 1) <= day <= int(record.get("UNTIL") or 99999)]
+
+
+def gone_of(book, day, codes):
+    """Where no car has all of these codes: those that clash, and those that would have to go."""
+    said = [line.split(" by ")[0].split(" within ")[0].split() for line in program(book, "why", day, *codes)]
+    named = {code for words in said if words[0] in ("clash", "leave") for code in words[1:]}
+    return [code for code in codes if code in named]
+
+
+def wanted_states(book, day, codes):
+    """What the page has to show: what `free` says, for the codes that stay; `instead` where a code could be had without what is
+    chosen of its group."""
+    wanted, gone = free(book, day, codes), []
+    if not wanted:
+        gone = gone_of(book, day, codes)
+        wanted = free(book, day, [code for code in codes if code not in gone])
+    stay = [code for code in codes if code not in gone]
+    shown = dict(wanted)
+    for group in groups_on(book, day):
+        chosen = [code for code in codes if code in group]
+        if not chosen:
+            continue
+        without = wanted if all(code in gone for code in chosen) else free(book, day, [code for code in stay if code not in group])
+        for code in group:
+            if code not in codes and without[code] != "excluded" and (without is wanted or wanted[code] == "excluded"):
+                shown[code] = "instead"
+    return {**shown, **dict.fromkeys(codes, "ordered")}
+
+
+def same_states(browser, book, day, codes, what, all_seen=False):
+    """Each code has the state that the program says of it. What stands outside the window may be unasked."""
+    wanted, found = wanted_states(book, day, codes), states(browser)
+    unasked = {code for code, state in found.items() if state == "unasked" and wanted[code] in ("excluded", "instead") and not all_seen}
+    check(f"{what}: each code has the state that the desk says", found.keys() == wanted.keys() and all(found[code] == wanted[code] for code in wanted.keys() - unasked),
+          {code: (found.get(code), wanted[code]) for code in wanted if found.get(code) != wanted[code]})
 
 
 def order(trial):
@@ -341,7 +386,7 @@ def order(trial):
     browser.write("#date", "03012027")
     check("a date is the day of the table", browser.run("return document.getElementById('day').value") == "60", browser.run("return document.getElementById('day').value"))
     legends = browser.run("return [...document.querySelectorAll('legend')].map((it) => it.textContent)")
-    check("each group is a choice", [word for word in legends if word.startswith("Exactly one GTRIM")] and "Further codes" in legends, legends)
+    check("each group is a choice", [word for word in legends if word.startswith("trim GTRIM")] and "Further codes" in legends, legends)
     check("codes have their texts", "electric drive, 64 kWh" in browser.text("#order"))
     same_states(browser, book, 60, [], "nothing chosen")
     for code in ("SPORT", "MNO", "E64"):
@@ -407,6 +452,8 @@ def order(trial):
     browser.write("#number", own)
     browser.click("button.main", "Place the order")
     check("a number that is used is told", "another order of yours" in browser.text("#said"), browser.text("#said"))
+    next_one = browser.run("return document.getElementById('number').value")
+    check("the next free number is in the field, and said", next_one == str(int(own) + 1) and f"{next_one} is the next free one" in browser.text("#said"), (own, next_one))
     # A day on which the diesel has ended; and a book that is withdrawn under the order.
     browser.click("button", "Leave E64 out")
     browser.click("button", "Leave CBL out")
@@ -680,6 +727,333 @@ def keys(trial):
     return "an order was placed at 400 pixels by keys alone; each step had the focus where it can be seen"
 
 
+def choices(trial):
+    """What could stand in the place of a choice, a clash, what is still to choose, a car to begin with, search, index, address."""
+    number = trial.tarn_book()
+    book = (EXAMPLES / "tarn.csv").read_bytes()
+    # So high that each group is seen.
+    browser = trial.browser("KIEL1", height=3000)
+    browser.view(f"#order/{number}/60/")
+    check("the book and day are those of the address", browser.run("return [document.getElementById('book').value, document.getElementById('day').value]") == [str(number), "60"])
+    # Nothing is chosen: no trouble, and a car to begin with.
+    orange = "return document.querySelectorAll('.verdict.no, .bar .no').length"
+    check("nothing is orange before the first choice", browser.run(orange) == 0)
+    add = next(line for line in program(book, "why", 60) if line.startswith("add ")).split()[1:]
+    shown = browser.text(".verdict")
+    check("a car to begin with is offered, and nothing is refused", all(code in shown for code in add) and "begin with a car" in shown and "refused" not in shown, shown)
+    open_groups = "return [...document.querySelectorAll('#summary .links a')].map((it) => it.getAttribute('href'))"
+
+    def wanted_open(codes):
+        there = wanted_states(book, 60, codes)
+        records = [record for record in read_records(book.decode()) if record.kind == "group" and record.get("GROUPKIND") == "one"]
+        return [f"#group-{record.fields[1]}" for record in records if not any(there[code] in ("ordered", "forced", "comes") for code in record.get("CODES").split("/"))]
+
+    check("what is still to choose is listed", browser.run(open_groups) == wanted_open([]) and len(wanted_open([])) > 3, browser.run(open_groups))
+    browser.look("nothing chosen")
+    browser.click("button", "Begin with this car")
+    same_states(browser, book, 60, add, "begun with a car", all_seen=True)
+    browser.shows(".verdict.ok", "It can be placed")
+    check("the address has the order", browser.run("return location.hash") == f"#order/{number}/60/{'+'.join(add)}", browser.run("return location.hash"))
+    for code in add:
+        browser.click("button", f"Leave {code} out")
+    # A link leads to its group.
+    browser.click("#summary .links a", "market")
+    check("a link leads to its group", browser.focused()[0] == "code-MDE", browser.focused())
+    for code in ("SPORT", "MNO", "E64"):
+        browser.click(f"#code-{code}")
+    chosen = ["SPORT", "MNO", "E64"]
+    same_states(browser, book, 60, chosen, "three chosen", all_seen=True)
+    found = states(browser)
+    check("some alternatives can stand in the place of a choice and some can't", found["PURE"] == "instead" and found["P15"] == "excluded", found)
+    check("they are told so", browser.text("#code-PURE-state") == "instead of SPORT" and browser.text("#code-P15-state") == "not possible")
+    check("what is still to choose is listed", browser.run(open_groups) == wanted_open(chosen), (browser.run(open_groups), wanted_open(chosen)))
+    check("what is only open isn't orange", browser.run(orange) == 0)
+    before = len(trial.place.logged)
+    browser.click("#code-PURE")
+    wait_for("the log", lambda: len(trial.place.logged) > before)
+    same_states(browser, book, 60, ["PURE", "MNO", "E64"], "exchanged", all_seen=True)
+    asked = [line for line in trial.place.logged[before:] if f"/books/{number}/" in line]
+    check("an exchange asks for the order and once for each other group with a choice", len(asked) <= 5, asked)
+    browser.click("#code-SPORT")
+    same_states(browser, book, 60, chosen, "and back", all_seen=True)
+    # A clash: by the address, as a colleague would open it.
+    browser.view(f"#order/{number}/300/SPORT+MGB+D20+TOW")
+    clash = ["SPORT", "MGB", "D20", "TOW"]
+    same_states(browser, book, 300, clash, "a clash", all_seen=True)
+    gone = gone_of(book, 300, clash)
+    marked = browser.run("return [...document.querySelectorAll('.chosen .clashes .name')].map((it) => it.textContent)")
+    check("what clashes is marked in the order", marked == gone and gone == ["D20"], (marked, gone))
+    check("and among the choices", browser.text("#code-D20-state") == "ordered, clashes" and browser.run("return document.querySelectorAll('.option.clashes').length") == 1)
+    check("the verdict says for which codes the choices are", "The choices are shown for SPORT" in browser.text(".verdict.no"), browser.text(".verdict"))
+    browser.look("a clash")
+    browser.run("document.activeElement.blur(); scrollTo(0, 0)")
+    browser.scheme("light")
+    browser.size(1100, 900)
+    browser.picture(trial.pictures, "page-clash")
+    browser.size(1100, 3000)
+    browser.click("#code-P20")
+    check("an alternative takes the place of what clashes", browser.run("return location.hash") == f"#order/{number}/300/SPORT+MGB+P20+TOW", browser.run("return location.hash"))
+    same_states(browser, book, 300, ["SPORT", "MGB", "P20", "TOW"], "without the clash", all_seen=True)
+    # A reload keeps the order; what the book doesn't have is told.
+    browser.send("POST", f"{browser.session}/refresh", {})
+    wait_for("the page", lambda: browser.run("return document.querySelectorAll('.option').length > 0"))
+    browser.settle()
+    same_states(browser, book, 300, ["SPORT", "MGB", "P20", "TOW"], "after a reload", all_seen=True)
+    browser.view(f"#order/{number}/60/SPORT+NOSUCH+<b>+SPORT")
+    check("a code that isn't in the book is told", "NOSUCH" in browser.text("#said") and browser.run("return location.hash") == f"#order/{number}/60/SPORT", browser.text("#said"))
+    browser.view("#order/4000/60/SPORT")
+    check("a book that isn't there is told", "takes no orders" in browser.text("#said"), browser.text("#said"))
+    # Search, index, and names of groups.
+    browser.view(f"#order/{number}/60/SPORT")
+    browser.write("#search", "paint metallic")
+    seen = browser.run("return [...document.querySelectorAll('.option')].filter((it) => it.checkVisibility()).map((it) => it.querySelector('.name').textContent)")
+    check("a search shows the codes with its words", seen == ["CGY", "CBL", "CGN"] and "3 of 64 codes" in browser.text(".fields"), (seen, browser.text(".fields")))
+    browser.look("a search")
+    index = browser.run("return [...document.querySelectorAll('.index li')].map((it) => it.textContent)")
+    check("the index names the groups and what is chosen", len(index) == len(groups_on(book, 60)) and "trim GTRIM ✓ SPORT" in index and "paint GCOL " in index, index)
+    browser.click("summary", "The 16 groups")
+    browser.click(".index a", "headlamps")
+    check("the index leads to a group, and ends the search", browser.focused()[0] in ("code-LHA", "code-LLE", "code-LMX") and browser.run("return document.getElementById('search').value") == "")
+    # A proposal of many codes is folded.
+    many_codes = trial.place.release("NEEDS", NEEDS.encode())
+    browser.view(f"#order/{many_codes}/1/A0")
+    check("a long proposal is folded", "8 codes" in browser.text(".verdict details summary") and not browser.run("return document.querySelector('.verdict details').open")
+          and browser.text(".verdict button") == "Add these 8 codes", browser.text(".verdict"))
+    browser.click(".verdict button", "Add these 8 codes")
+    browser.shows(".verdict.ok", "It can be placed")
+    browser.close(allowed=("409", "422", "410"))
+    return "alternatives, a clash, what is open, a car to begin with, search, index and address: each state is the program's"
+
+
+# A book of which A0 needs eight further codes, none of which comes by itself.
+NEEDS = "book,NEEDS,1,9\n" + "".join(f"code,A{at},\n" for at in range(9)) + "construct,C,A0,%s,,\n" % "+".join(f"A{at}" for at in range(1, 9))
+
+
+def paper(trial):
+    """An order on paper: by itself, on one page, with its number, book and day."""
+    number = trial.tarn_book()
+    trial.place.ask("KIEL1", "PUT", "/orders/5001", b'{"book":%d,"day":60,"codes":["SPORT","MNO","E64","CGY","SUN","SVC"]}' % number)
+    browser = trial.browser("KIEL1")
+
+    def printed(what, wanted, unwanted):
+        pdf = base64.b64decode(browser.cdp("Page.printToPDF", printBackground=True)["data"])
+        pages = len(re.findall(rb"/Type\s*/Page\b", pdf))
+        check(f"{what}: one page", pages == 1, pages)
+        browser.cdp("Emulation.setEmulatedMedia", media="print")
+        shown = browser.text("body")
+        check(f"{what}: what has to be there is", all(words in shown for words in wanted), shown[:400])
+        check(f"{what}: nothing else is", not any(words in shown for words in unwanted), shown[:400])
+        columns = browser.run("const it = document.querySelector('.partslist'); return it === null ? null : it.getClientRects().length")
+        browser.cdp("Emulation.setEmulatedMedia", media="")
+        return columns
+
+    browser.view("#orders")
+    browser.write("#asked", "5001")
+    browser.click("#orders button", "Show it")
+    parts = [line.split(",")[2] for line in program((EXAMPLES / "tarn.csv").read_bytes(), "order", 60, "SPORT", "MNO", "E64", "CGY", "SUN", "SVC")[2:]]
+    columns = printed("an own order", ["Order 5001", f"Book {number} (TARN27), day 60", *parts], ["My orders", "Orders by their numbers", "Show it"])
+    check("its parts stand in two columns", columns == 2, columns)
+    browser.view(f"#order/{number}/60/SPORT+MNO+E64+CGY")
+    printed("an order that isn't placed", ["Your order", f"Book {number} (TARN27), day 60", "SPORT"], ["Find codes", "P15", "Place the order", "trim GTRIM"])
+    browser.click("button.main", "Place the order")
+    placed = browser.text(".placed h3")
+    columns = printed("a placed order", [placed, f"Book {number} (TARN27), day 60"], ["Find codes", "P15", "Comes by itself"])
+    check("its parts stand in two columns", columns == 2, columns)
+    browser.close()
+    return "an own order, one before it is placed and one after it: each on one page, its parts in two columns"
+
+
+def waits(trial):
+    """A desk that doesn't answer for some seconds."""
+    number = trial.tarn_book()
+    browser = trial.browser("KIEL1")
+    browser.view(f"#order/{number}/60/")
+    trial.place.service.send_signal(signal.SIGSTOP)
+    try:
+        browser.run("document.getElementById('code-SPORT').click()")
+        time.sleep(1)
+        check("for a second nothing is said", browser.text(".waiting") == "", browser.text(".waiting"))
+        said = wait_for("the wait", lambda: browser.text(".waiting"))
+        check("then for how long the desk is waited for", re.fullmatch(r"waiting for the desk, [23] s", said), said)
+        wait_for("the seconds", lambda: browser.text(".waiting") == "waiting for the desk, 4 s")
+    finally:
+        trial.place.service.send_signal(signal.SIGCONT)
+    browser.settle()
+    check("afterwards it is gone", browser.text(".waiting") == "" and states(browser)["SPORT"] == "ordered", browser.text(".waiting"))
+    browser.close()
+    return "after two seconds the page says for how long it waits"
+
+
+ENGINE = (EXAMPLES / "engine.csv").read_text()
+
+
+def changed(row, becomes):
+    """The book of an engine with one line otherwise."""
+    lines = ENGINE.splitlines()
+    lines[row - 1] = becomes
+    return "\n".join(lines) + "\n"
+
+
+def fault_cases():
+    """Texts with a fault, each with the key of its sentence, the words in it, and the line that is told."""
+    last = len(ENGINE.splitlines())
+    return [
+        ("", "book 3 empty", {}, None),
+        ("boek,T,1,9\ncode,A,\n", "book 3", {"word": "boek,T,1,9"}, None),
+        ("record,name\n" + ENGINE, "book 3 later", {"word": "record,name"}, None),
+        (ENGINE.replace("book", "Book", 1), "book 3 letters", {"word": "Book"}, None),
+        (ENGINE.replace(",", ";"), "book 3 semicolons", {}, None),
+        (ENGINE.replace(",", "\t"), "book 3 tabs", {}, None),
+        (ENGINE.encode("latin-1").replace(b"air", b"K\xe4lte"), "book 2", {}, None),
+        (b"PK\x03\x04\xff\xfe", "book 2 sheet", {}, None),
+        (ENGINE.encode("utf-16"), "book 3 utf16", {}, None),
+        (ENGINE + "book,T,1,9\n", "book 4", {}, last + 1),
+        (changed(3, "cod,M2,engine two"), "book 5", {"word": "cod"}, 3),
+        (changed(3, "Code,M2,engine two"), "book 5 letters", {"word": "Code", "right": "code"}, 3),
+        (ENGINE + "group,G,one,M1/M2,,\n", "book 5 group", {}, last + 1),
+        (changed(3, "code,M2"), "book 6", {"kind": "code", "needed": 3, "found": 2}, 3),
+        (changed(3, "code,M2,engine two, large"), "book 6 more", {"kind": "code", "needed": 3, "found": 4}, 3),
+        (changed(1, "book,T,1"), "book 6 book", {"kind": "book", "found": 3}, 1),
+        (changed(3, "code,M-2,engine two"), "book 7", {"word": "M-2"}, 3),
+        (changed(3, "code,,engine two"), "book 7 empty", {}, 3),
+        (changed(3, "code,m2,engine two"), "book 7 letters", {"word": "m2"}, 3),
+        (changed(3, "code,TRUE,engine two"), "book 7 code", {"word": "TRUE"}, 3),
+        (ENGINE.replace("A200", "A-200"), "book 7 part", {"word": "A-200"}, last),
+        (ENGINE.replace("mandatory", "needed"), "book 7 kind", {"word": "needed"}, last - 2),
+        (ENGINE.replace("1,1000", "1,1000,2") + "group,G,two,M1/M2,,\n", "book 7 groupkind", {"word": "two"}, last + 1),
+        (ENGINE.replace("1,1000", "1,1000,2") + "group,G,one,M1/M1,,\n", "book 7 codes", {"word": "M1/M1"}, last + 1),
+        (ENGINE.replace("C1,*,M1/M2,,", "C1,*,M1/M2,x,"), "book 8 day", {"word": "x"}, 7),
+        (ENGINE.replace("S1,10,", "S1,ten,"), "book 8 rank", {"word": "ten"}, 11),
+        (ENGINE.replace("A200,1,", "A200,0,"), "book 8 quantity", {"word": "0"}, last),
+        (ENGINE.replace("1,1000", "1,1000,3"), "book 8 form", {"word": "3"}, 1),
+        (ENGINE.replace("C1,*,M1/M2,,", "C1,*,M1/M2,9,8"), "book 9", {"word": "9", "last": "8"}, 7),
+        (changed(3, "code,M1,engine two"), "book 10", {"word": "M1", "line": 2}, 3),
+        (ENGINE.replace("construct,C2", "construct,C1"), "book 10 rule", {"word": "C1", "line": 7}, 8),
+        (ENGINE.replace("construct,C2,M1", "construct,C2,M3"), "book 11 code", {"word": "M3"}, 8),
+        (ENGINE.replace("position,P1,MOT", "position,P1,MOTT"), "book 11 module", {"word": "MOTT"}, last - 2),
+        (ENGINE.replace("variant,V2,P1", "variant,V2,P2"), "book 11 position", {"word": "P2"}, last),
+        (ENGINE.replace("C1,*,M1/M2,,", "C1,*,,,"), "book 12", {"rule": "", "what": ("rule 1", {})}, 7),
+        (ENGINE.replace("C1,*,M1/M2,,", "C1,*,M1/m2,,"), "book 12 at", {"rule": "M1/m2", "byte": 4, "what": ("rule 2", {"word": "m2"})}, 7),
+        (ENGINE.replace("C1,*,M1/M2,,", "C1,*,M1/M3,,"), "book 12 at", {"rule": "M1/M3", "byte": 4, "what": ("rule 3", {"word": "M3"})}, 7),
+        (ENGINE.replace("C1,*,M1/M2,,", "C1,*,M1/+M2,,"), "book 12 at", {"rule": "M1/+M2", "byte": 4, "what": ("rule 4", {"word": "+"})}, 7),
+        (ENGINE.replace("C1,*,M1/M2,,", "C1,*,M1/,,"), "book 12 end", {"rule": "M1/", "what": ("rule 4 end", {})}, 7),
+        (ENGINE.replace("C1,*,M1/M2,,", "C1,*,(M1/M2,,"), "book 12 end", {"rule": "(M1/M2", "what": ("rule 4 bracket", {})}, 7),
+        (ENGINE.replace("C1,*,M1/M2,,", "C1,*,%sM1%s,," % ("(" * 65, ")" * 65)), "book 12 at", {"rule": "(" * 65 + "M1" + ")" * 65, "byte": 65, "what": ("rule 5", {})}, 7),
+        (ENGINE.replace("C1,*,M1/M2,,", "C1,*,M1%s,," % ("+M1" * 300)), "book 12 at", {"rule": "M1" + "+M1" * 300, "byte": 769, "what": ("rule 6", {})}, 7),
+        ("book,T,1,9\n" + "".join(f"code,C{at},\n" for at in range(2001)), "book 13", {"word": "codes", "most": "2,000"}, 2002),
+        ("book,T,1,99\n" + "".join(f"construct,C{at},*,TRUE,{at + 1},\n" for at in range(66)), "limit slices", {"word": 66}, None),
+    ]
+
+
+def faults(trial):
+    """Each fault of a text in the sentence of the table, with its line and word; and what an open quote hides."""
+    table = json.loads((HOME / "tools" / "faults.json").read_text())
+    check("the page's table of sentences is that of the tools", (EXAMPLES / "service" / "page" / "faults.json").read_bytes() == (HOME / "tools" / "faults.json").read_bytes())
+
+    def cut(word):
+        return word if not isinstance(word, str) or len(word) <= 160 else word[:157] + "..."
+
+    def filled(key, words):
+        words = {name: filled(*word) if isinstance(word, tuple) else cut(word) for name, word in words.items()}
+        return table[key].format(**words)
+
+    browser = trial.browser("ANNA")
+    browser.view("#drafts")
+    cases = fault_cases()
+    for text, key, words, line in cases:
+        trial.place.ask("ANNA", "PUT", "/drafts/FAULTY", text if isinstance(text, bytes) else text.encode())
+        browser.write("#draft", "FAULTY")
+        browser.click("form button", "Open")
+        browser.click("button.main", "Check")
+        wanted = filled(key, words).replace("`", "")
+        wanted = f"{wanted[0].upper() + wanted[1:] if line is None else f'Line {line}: {wanted}'}."
+        said = browser.text(".report .verdict")
+        check(f"the fault {key}", said.replace("\n", " ") == wanted, (said, wanted))
+    # An order's faults.
+    number = trial.tarn_book()
+    browser.view(f"#order/{number}/60/")
+    browser.write("#day", "999")
+    wanted = filled("order 1", {"word": 999, "first": 1, "last": 365})
+    check("a day outside the term", browser.text("#said").startswith(wanted[0].upper() + wanted[1:]), browser.text("#said"))
+    # An open quote hides records: it is told, and the release asks once more.
+    compact = (EXAMPLES / "compact.csv").read_text()
+    whole, all_records = compact.replace("code,AWD,all-wheel drive", 'code,AWD,"all-wheel drive'), len(read_records(compact))
+    check("the quote is there", whole != compact)
+    first = trial.place.release("COMPACT", compact.encode())
+    at = compact.splitlines().index("code,AWD,all-wheel drive") + 1
+    trial.place.ask("ANNA", "PUT", "/drafts/COMPACT", whole.encode())
+    browser.view("#drafts")
+    browser.write("#draft", "COMPACT")
+    browser.click("form button", "Open")
+    head = browser.text("#drafts")
+    check("the records are counted beside those of the last book", f"{at} records; book {first} had {all_records}" in head, head[:600])
+    wanted = filled("quote open", {"first": at, "last": len(compact.splitlines())})
+    check("an open quote is told", f"Line {at}: {wanted}." in browser.text(".odd"), browser.text(".odd"))
+    check("in red", browser.run("return getComputedStyle(document.querySelector('.odd')).color") == "rgb(179, 38, 30)", browser.run("return getComputedStyle(document.querySelector('.odd')).color"))
+    browser.look("an open quote")
+    books = trial.place.ask("ANNA", "GET", "/books")[1]
+    browser.click("button.main", "Check")
+    browser.click("button", "Release as a book")
+    check("the release asks once more", browser.text(".report h2") == "Release all the same?" and trial.place.ask("ANNA", "GET", "/books")[1] == books, browser.text(".report"))
+    browser.look("a second question")
+    browser.run("document.activeElement.blur(); scrollTo(0, 0)")
+    browser.scheme("light")
+    browser.picture(trial.pictures, "page-quote")
+    browser.click("button", "Don't release it")
+    check("it isn't released", trial.place.ask("ANNA", "GET", "/books")[1] == books)
+    browser.click("button", "Release as a book")
+    browser.click("button", "Release all the same")
+    check("it is where that is meant", len(trial.place.ask("ANNA", "GET", "/books")[1].splitlines()) == len(books.splitlines()) + 1, browser.text(".report"))
+    # A text over several lines, with and without what looks like a record.
+    for text, key, words in ((ENGINE.replace("engine two", '"engine\ntwo"'), "text lines", {"first": 3, "last": 4}),
+                             (ENGINE.replace("engine two", '"engine two').replace("air", 'air"'), "quote lines", {"first": 3, "last": 6})):
+        trial.place.ask("ANNA", "PUT", "/drafts/QUOTES", text.encode())
+        browser.write("#draft", "QUOTES")
+        browser.click("form button", "Open")
+        wanted = filled(key, words)
+        check(f"told: {key}", browser.text(".odd").lower() == f"{wanted}.".lower(), (browser.text(".odd"), wanted))
+    # Mended in the table the line is gone, and the release asks nothing.
+    trial.place.ask("ANNA", "PUT", "/drafts/QUOTES", ENGINE.replace("engine two", '"engine\ntwo"').encode())
+    browser.write("#draft", "QUOTES")
+    browser.click("form button", "Open")
+    mend(browser, "code", "M2", "TEXT", "engine two")
+    check("a mended text is told no more", browser.run("return document.querySelectorAll('.odd').length") == 0)
+    browser.click("button", "Save")
+    browser.click("button", "Release as a book")
+    browser.shows(".report", "takes orders")
+    browser.close(allowed=("409", "422"))
+    return f"{len(cases)} faults, each in the sentence of the table with its line and word; a draft with an open quote is released after a second question"
+
+
+def thousand(trial):
+    """A book of 1,000 codes: how long a click takes until each state is shown."""
+    text = subprocess.run([sys.executable, TOP / "tests" / "speed" / "draw_book.py", "1000", "1", "120"], capture_output=True, check=True).stdout
+    book = trial.place.release("THOUSAND", text)
+    browser = trial.browser("KIEL1")
+    browser.view(f"#order/{book}/1/")
+    check("each code is shown", browser.run("return document.querySelectorAll('.option').length") == 1000)
+    script = """
+        const done = arguments[1], row = document.getElementById(`code-${arguments[0]}`).closest('.option'), begun = performance.now();
+        document.getElementById(`code-${arguments[0]}`).click();
+        const look = () => row.dataset.state === 'ordered' ? done(performance.now() - begun) : setTimeout(look, 1);
+        look()"""
+    took = []
+    for at in range(12):
+        open_codes = browser.run("return [...document.querySelectorAll('.option')].filter((it) => ['open', 'comes'].includes(it.dataset.state)).map((it) => it.querySelector('.name').textContent)")
+        code = open_codes[at * 37 % len(open_codes)]
+        took.append(browser.send("POST", f"{browser.session}/execute/async", {"script": script, "args": [code]}))
+        browser.settle()
+    took.sort()
+    check("a click is answered", took[-1] < 5000, took)
+    typed = browser.run("const it = document.getElementById('search'), begun = performance.now(); it.value = 'g04'; it.dispatchEvent(new Event('input')); document.body.offsetHeight; return performance.now() - begun")
+    shown = browser.run("return [...document.querySelectorAll('.option')].filter((it) => it.checkVisibility()).length")
+    wanted = sum(1 for line in text.decode().splitlines() if line.startswith("code,") and "g04" in line.lower())
+    check("a search finds them", shown == wanted > 0, (shown, wanted))
+    browser.look("1,000 codes")
+    browser.close()
+    return f"1,000 codes: half the clicks answered within {took[len(took) // 2]:.0f} ms, all within {took[-1]:.0f} ms; a search within {typed:.0f} ms"
+
+
 def watch(trial):
     """What the watch sees, and what is logged."""
     place = trial.place
@@ -728,7 +1102,7 @@ def many(trial):
     return f"{len(numbers)} orders: listed by thousands, and the next free number found"
 
 
-PARTS = {"order": order, "drafts": drafts, "roles": roles, "hostile": hostile, "keys": keys, "many": many, "watch": watch}
+PARTS = {"order": order, "choices": choices, "drafts": drafts, "faults": faults, "paper": paper, "waits": waits, "thousand": thousand, "roles": roles, "hostile": hostile, "keys": keys, "many": many, "watch": watch}
 
 
 def main(words):
