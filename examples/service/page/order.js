@@ -41,8 +41,13 @@ export function showAddress() {
 export async function open(address) {
   if (`#${["order", ...address].join("/")}` === addressOf()) return;
   const [number, day, codes] = address;
-  const wanted = now.books.find((book) => `${book.number}` === number);
-  if (wanted === undefined) return say(`Book ${/^\d{1,10}$/.test(number) ? number : "of the address"} takes no orders.`, true);
+  // A book may have been released meanwhile.
+  if (inForce(number) === undefined) await listBooks();
+  const wanted = inForce(number);
+  if (wanted === undefined) {
+    place.book.value = now.number;
+    return say(`Book ${/^\d{1,10}$/.test(number) ? number : "of the address"} takes no orders.`, true);
+  }
   if (await bookOf(wanted.number) === null) return;
   const all = [...new Set((codes ?? "").split("+").filter((code) => /^[A-Z0-9]{1,8}$/.test(code)))];
   now.codes = all;
@@ -60,7 +65,7 @@ function frame() {
   place.term = el("span", { id: "term", class: "soft" });
   place.search = el("input", { id: "search", type: "search", autocomplete: "off", size: 18, oninput: search });
   place.found = el("span", { class: "soft", role: "status" });
-  place.index = el("details", { class: "card", hidden: true });
+  place.index = el("details", { class: "card", hidden: true, "aria-label": "Index of groups" });
   place.choices = el("div", { class: "choices" });
   place.order = el("div", { class: "card summary", id: "summary", tabindex: -1, "aria-labelledby": "summary-title" });
   place.bar = el("div", { class: "bar" });
@@ -75,15 +80,23 @@ function frame() {
     place.bar);
 }
 
-async function loadBooks(address) {
+async function listBooks() {
   const answer = await ask("GET", "/books");
   if (!answer.good) return say(trouble(answer), true);
   now.books = readBooks(answer).filter((book) => !book.withdrawn).reverse();
   put(place.book, now.books.map((book) => el("option", { value: book.number }, `${book.title}, ${days(book.first, book.last)} (book ${book.number})`)));
+}
+
+async function loadBooks(address) {
+  await listBooks();
   if (now.books.length === 0) return put(place.choices, el("p", null, "No book is in force: an engineer has to release one."));
-  if (now.books.some((book) => `${book.number}` === address[0])) return open(address);
+  if (inForce(address[0]) !== undefined) return open(address);
   await chooseBook(now.books[0].number);
   if (address.length > 0) say(`The book of this address takes no orders: this is book ${now.number}.`, true);
+}
+
+function inForce(number) {
+  return now.books.find((book) => `${book.number}` === number);
 }
 
 async function bookOf(number) {
@@ -500,7 +513,7 @@ function goToGroup({ id }) {
 
 // Some codes; more than four are folded.
 function folded(codes) {
-  return codes.length > 4 ? el("details", null, el("summary", null, `${codes.length} codes`), list(codes, "and")) : list(codes, "and");
+  return codes.length > 4 ? el("details", { "aria-label": "Proposed codes" }, el("summary", null, `${codes.length} codes`), list(codes, "and")) : list(codes, "and");
 }
 
 function verdict(open) {
