@@ -107,7 +107,9 @@ def is_open(link):
     """Whether the other side of a connection hasn't ended it."""
     link.settimeout(0.05)
     try:
-        return link.recv(4096) != b""
+        while link.recv(4096):
+            pass
+        return False
     except TimeoutError:
         return True
     except OSError:
@@ -502,13 +504,13 @@ def try_orders(program, _given):
     return f"{over(program, trial)}; {over(program, day, DESK_ORDERS='3')}"
 
 
-# What a dealer may not name, and other ways to write it: METHOD and target.
+# What a dealer may not name, and other ways to write it: method and target, where SITE is the name of the site.
 DENIED = [
     ("GET", "/drafts/T"), ("PUT", "/drafts/T"), ("GET", "//drafts/T"), ("GET", "/%64rafts/T"), ("GET", "/books/../drafts/T"), ("GET", "/./drafts/T"),
     ("GET", "/drafts/T?/orders/1"), ("GET", "/orders/1/../../drafts/T"), ("GET", "/DRAFTS/T"), ("GET", "/drafts"), ("POST", "/drafts/T/check"),
     ("POST", "/drafts/T/release"), ("POST", "/drafts/T/owner"), ("GET", "/drafts/T/owner"), ("POST", "/books/1/withdraw"), ("POST", "/books/1/withdraw/"),
     ("POST", "//books/1/withdraw"), ("POST", "/books/1/withdraw?x=/free"), ("GET", "/books/1/certificate"), ("GET", "/books/1/certificate#/free"),
-    ("GET", "http://localhost/drafts/T"), ("GET", "https://localhost/drafts/T"), ("GET", "http://a/b?http://localhost/orders/1"), ("GET", "http:///drafts/T"),
+    ("GET", "http://SITE/drafts/T"), ("GET", "https://SITE/drafts/T"), ("GET", "https://localhost/drafts/T"), ("POST", "https://SITE/books/1/withdraw?/free"), ("GET", "http://a/b?http://localhost/orders/1"), ("GET", "http:///drafts/T"),
     ("GET", "*http:///drafts/T"), ("OPTIONS", "*"), ("GET", "drafts/T"), ("DELETE", "/orders/1"), ("POST", "/orders/1"), ("GET", "/orders/0"),
     ("GET", "/orders/1234567890"), ("GET", "/orders/1/"), ("GET", "/books/1/x"), ("GET", "/metrics"), ("GET", "/metrics/desk"), ("GET", "/up"),
     ("GET", "/alive"), ("GET", "/\\drafts/T"), ("GET", "/;/drafts/T"), ("CONNECT", "localhost:1"), ("PUT", "/books/1/free"), ("GET", "/books/1/free"),
@@ -519,6 +521,7 @@ def raw(hall, name, method, target, body=b"", more=""):
     """The status, the head and the body of the answer to a request with just this target."""
     link = tls(hall.proxy, HONEST)
     fields = f"Host: localhost:{hall.proxy.port}\r\nAuthorization: {password(name)}\r\nConnection: close\r\nContent-Length: {len(body)}{more}"
+    target = target.replace("SITE", f"localhost:{hall.proxy.port}")
     link.sendall(f"{method} {target} HTTP/1.1\r\n{fields}\r\n\r\n".encode() + body)
     said = b""
     with contextlib.suppress(OSError):
@@ -540,10 +543,10 @@ def try_paths(program, _given):
             return len(DENIED)
 
         count, beside = hall.beside(targets)
-        for method, target, status in (("GET", "/books", 200), ("GET", "/books/1", 200), ("GET", "/books/1?x", 200), ("GET", "https://localhost/books/1", 200), ("GET", "/orders", 200),
+        for method, target, status in (("GET", "/books", 200), ("GET", "/books/1", 200), ("GET", "/books/1?x", 200), ("GET", "https://SITE/books/1", 200), ("GET", "/orders", 200),
                                        ("GET", "/orders/after/3", 200), ("GET", "/orders/999", 404), ("GET", "/who", 200), ("GET", "/", 200)):
             must("what dealers may is answered", raw(hall, "KIEL1", method, target)[0] == status, method, target)
-        for target in ("/drafts/T", "/drafts/T?x", "https://localhost/drafts/T"):
+        for target in ("/drafts/T", "/drafts/T?x", "https://SITE/drafts/T"):
             status, _, body = raw(hall, "ANNA", "GET", target)
             must("an engineer gets it", status == 200 and body == book, target, status)
         status, _, body = raw(hall, "KIEL1", "GET", "/who", more="\r\nX-Caller: ANNA")

@@ -12,7 +12,7 @@
 # written, or 0 of other programs (see `due_status`). Commands of the tools that prove and build (see `is_left_out`) are not
 # typed. The status is 1 where a page differs.
 # Where PAGES_FROM names a folder, pages are typed in copies of it, as of an archive that was unpacked (tests/archive.sh).
-# It needs curl, git, sqlite3, xxd, python3, soffice (LibreOffice) and haproxy, for the pages that use them.
+# It needs curl, git, sqlite3, xxd, python3, soffice (LibreOffice), openssl and haproxy, for the pages that use them.
 top=$(cd "$(dirname "$0")/.." && pwd) || exit 1
 named=$1
 [ $# -gt 0 ] && shift
@@ -27,7 +27,7 @@ typed=0
 printf 'silent\nshow-error\n' > "$work/.curlrc"
 export CURL_HOME="$work" HOME="$work"
 
-for tool in curl git sqlite3 xxd python3 soffice haproxy; do
+for tool in curl git sqlite3 xxd python3 soffice openssl haproxy; do
     command -v "$tool" > /dev/null || echo "there is no $tool: pages that use it will differ"
 done
 
@@ -121,7 +121,7 @@ due_status() { # text, folder, found
 said_of() { # text, said
     [ -z "$PAGES_FROM" ] || return
     case $1 in
-    soffice\ * | haproxy\ *) ;;
+    soffice\ * | *DESK_BY_HAND=1\ *haproxy\ *) ;;
     *) grep -v '^Killed$' "$2" ;;
     esac
 }
