@@ -27,16 +27,19 @@ import argparse
 import base64
 import contextlib
 import http.client
+import json
 import os
 import pathlib
 import pwd
 import select
 import socket
+import ssl
 import subprocess
 import sys
 import tempfile
 import threading
 import time
+import types
 
 sys.path.insert(1, str(pathlib.Path(__file__).resolve().parent / "speed"))
 from trial import TOP, built
@@ -194,37 +197,42 @@ class Hall:
         return dict(zip(counts[-1][::2], map(int, counts[-1][1::2])))
 
     def beside(self, trial):
-        """Does the trial while another dealer orders. What it gave, how many orders, and how long one of them took at most."""
-        done, begun, longest, first = threading.Event(), threading.Event(), 0, self.count + 1
-
-        def work():
-            begun.wait(PATIENCE)
+        """Does the trial while another dealer orders. What it gave, and how the orders fared."""
+        words = [sys.executable, __file__, "--deal", str(self.proxy.port), str(self.proxy.pem), str(self.count)]
+        with subprocess.Popen(words, stdin=subprocess.PIPE, stdout=subprocess.PIPE, text=True) as dealer:
             try:
-                return trial()
+                must("a first order before it", dealer.stdout.readline() == "begun\n")
+                gave = trial()
+                said, _ = dealer.communicate("", timeout=PATIENCE)
             finally:
-                done.set()
+                dealer.kill()
+        last, longest, wrong = json.loads(said)
+        must("another dealer's orders are accepted", wrong is None, wrong)
+        must("and answered soon", longest < SOON, longest)
+        must("orders came beside it", last >= self.count + 3, last - self.count)
+        told = f"beside it {last - self.count} orders of another dealer, the longest {1000 * longest:.0f} ms"
+        self.count = last
+        return gave, told
 
-        def deal():
-            nonlocal longest
-            dealer = Caller(self.proxy, "OSLO1")
-            try:
-                while not done.is_set():
-                    # Each order comes over a connection of its own.
-                    self.count += 1
-                    asked = time.time()
-                    answer = dealer.place(self.count)
-                    dealer.close()
-                    longest = max(longest, time.time() - asked)
-                    must("another dealer's order is accepted", answer == (201, ACCEPTED), self.count, answer, longest)
-                    must("another dealer's order is answered soon", longest < SOON, longest)
-                    begun.set()
-                    done.wait(0.05)
-            finally:
-                begun.set()
 
-        gave = at_once([work, deal])[0]
-        must("orders came beside it", self.count >= first + 2, self.count - first + 1)
-        return gave, f"beside it {self.count - first + 1} orders of another dealer, the longest {1000 * longest:.0f} ms"
+def deal(port, pem, before):
+    """What the other dealer does, in a process of his own, so that nobody who tries something keeps him from it here: he orders until
+    his input ends, each time over a connection of its own. His last number, how long one took at most, and what was wrong."""
+    dealer = Caller(types.SimpleNamespace(port=int(port), trust=ssl.create_default_context(cafile=pem)), "OSLO1")
+    number, longest, wrong = int(before), 0, None
+    while wrong is None:
+        number += 1
+        asked = time.time()
+        answer = dealer.place(number)
+        dealer.close()
+        longest = max(longest, time.time() - asked)
+        if answer != (201, ACCEPTED):
+            wrong = [number, *answer]
+        if number == int(before) + 1:
+            print("begun", flush=True)
+        if select.select([sys.stdin], [], [], 0.05)[0]:
+            break
+    print(json.dumps([number, longest, wrong]))
 
 
 def over(program, trial, **settings):
@@ -400,10 +408,12 @@ def try_questions(program, _given):
             return counts
 
         largest, first = hall.beside(lambda: ask('{"day":1,"codes":[],"budget":50000}', 3))
-        must("a dealer names no budget", set(largest) == {403}, largest)
+        must("a dealer names no budget", set(largest) <= {403, 429} and largest[403] > 50, largest)
         for body in ('{"day":1,"codes":[],"\\u0062udget":50000}', '{"day":1,"codes":[],"budget":1,"budget":50000}', '{"budget" : 50000,"day":1,"codes":[]}'):
             said = Caller(hall.proxy, "KIEL1").ask("POST", f"/books/{number}/free", body)
             must("nor in another way", said[0] in (400, 403), body, said)
+        # Until what was refused counts no longer among his requests.
+        time.sleep(11)
         none, second = hall.beside(lambda: ask('{"day":1,"codes":[]}'))
         must("he is answered without one", set(none) == {200}, none)
         anna = Caller(hall.proxy, "ANNA")
@@ -640,6 +650,8 @@ def try_told(program, _given):
 
 
 def main():
+    if sys.argv[1:2] == ["--deal"]:
+        return deal(*sys.argv[2:])
     subjects = {
         "files": try_files, "half": try_half, "up": try_up, "passwords": try_passwords, "questions": try_questions, "slow": try_slow,
         "orders": try_orders, "paths": try_paths, "eyes": try_eyes, "told": try_told,
