@@ -332,9 +332,9 @@ def keep(place):
     held.stdin.flush()
     while not (place / "s.db-wal").exists() or (place / "s.db-wal").stat().st_size < 100:
         pass
-    held.stdin.write(request("GET", "/orders/66", "HALL6"))
-    held.stdin.flush()
-    time.sleep(0.5)
+    until = time.monotonic() + 120
+    while not any(row[0] == "HALL6" for row in stores.read_store(place / "s.db")["orders"]) and time.monotonic() < until:
+        time.sleep(0.1)
     held.kill()
     held.wait()
     (place / "after").mkdir()
