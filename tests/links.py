@@ -18,7 +18,7 @@ MOST_WORDS = 30000
 PAGE = re.compile(r'(?<![\w$/-])((?:[a-z_]+/)*[A-Za-z-]+\.md)((?:(?:,| and) "[^"]+")*)')
 OWN = re.compile(r'"([^"]+)", (?:below|above)')
 # The short names of pages in docs/ANSWERS.md.
-SHORT = re.compile(r'(?<=: )([A-Z][A-Z-]+)(?=,? ["|])')
+SHORT = re.compile(r'(?<=: )([A-Z][A-Z-]+)(?=, "| |$)')
 LINK = re.compile(r"\]\(([^)#:\s]+)\)")
 # A line's end within a comment or a paragraph.
 WRAP = re.compile(r"\n[ \t]*(?://[/!]?|#|--)?[ \t]*")
