@@ -1,6 +1,6 @@
 #!/usr/bin/env python3
 """Draws the plot of docs/SPEED.md, docs/speed.svg, from the numbers in docs/speed.csv, and prints the page's first tables: the
-rows of the fewest and of the most slices.
+rows of the fewest and of the most slices, of which the page shows some.
 
     plot.py [NUMBERS [PICTURE]]
 """
