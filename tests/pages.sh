@@ -1,6 +1,7 @@
 #!/bin/sh
 # Tries the pages: types each command that README.md and docs/*.md show, and compares what comes out with what stands below it;
-# and looks whether each wrong body is told of (tests/wrong-bodies.py), and the books among the cases of worked_runs are those that are there.
+# and looks whether what the texts cite is there (tests/links.py), each wrong body is told of (tests/wrong-bodies.py), and the books
+# among the cases of worked_runs are those that are there.
 #
 #   tests/pages.sh [PROGRAM [PAGE..]]
 #
@@ -126,6 +127,13 @@ said_of() { # text, said
     esac
 }
 
+# Whether a command that goes on has written its first line, or where none is shown listens at its port.
+has_begun() { # step, text
+    [ ! -s "$1.wanted" ] || { [ -s "$1.found" ]; return; }
+    port=$(printf '%s\n' "$2" | sed -n 's/.* serve [^ ]* \([0-9]*\) .*/\1/p')
+    awk -v port="$(printf ':%04X' "${port:-0}")" '$2 ~ port "$" && $4 == "0A" { found = 1 } END { exit !found }' /proc/net/tcp
+}
+
 type_page() { # page
     folder=$work/$(basename "$1" .md)
     mkdir -p "$folder/page" "$folder/steps"
@@ -149,13 +157,12 @@ type_page() { # page
         typed=$((typed + 1))
         why=
         case $text in
-        *'&') # It goes on while the page is typed, which waits for its first line, or for two seconds where none is shown.
+        *'&') # It goes on while the page is typed, which waits for its first line, or where none is shown until it listens.
             (cd "$folder/page" && exec sh -c "exec ${text%&}") > "$step.found" 2> "$step.said" < /dev/null &
             listeners="$listeners $!"
             services="$services $step"
             tries=60
-            [ -s "$step.wanted" ] || tries=4
-            while [ ! -s "$step.found" ] && [ $((tries -= 1)) -gt 0 ]; do sleep 0.5; done
+            while ! has_begun "$step" "$text" && [ $((tries -= 1)) -gt 0 ]; do sleep 0.5; done
             ;;
         *)
             (cd "$folder/page" && sh -c "$text") > "$step.found" 2> "$step.said" < /dev/null
@@ -200,6 +207,7 @@ for copy in T:engine VAN:van COMPACT:compact COMPACTG:compact-groups YEAR:year T
     fi
 done
 "$top/tests/wrong-bodies.py" --check || failed=1
+"$top/tests/links.py" || failed=1
 for page; do
     if [ -r "$page" ]; then
         type_page "$page"
