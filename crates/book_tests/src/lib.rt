@@ -1,9 +1,26 @@
-//! Tests of what no contract of the lower crates says: that memory is ample, how rules are printed, what goes to the system, and that both bodies of completing agree.
+//! Tests of the crates from `pb_base` to `book_sample`, a file for each subject: of what no contract of theirs says and no run of
+//! the program shows.
 #![tactic(auto)]
 
 #[cfg(test)]
+mod chain_steps;
+#[cfg(test)]
+mod coded;
+#[cfg(test)]
 mod completing;
+#[cfg(test)]
+mod effort;
+#[cfg(test)]
+mod generated;
+#[cfg(test)]
+mod moved_chains;
 #[cfg(test)]
 mod outside;
 #[cfg(test)]
 mod printing;
+#[cfg(test)]
+mod questions;
+#[cfg(test)]
+mod threads;
+#[cfg(test)]
+mod trails;

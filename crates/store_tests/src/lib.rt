@@ -1,9 +1,18 @@
-//! Tests of the store in a file, of what no contract says: what the statements write and read, and a keeper over a real file.
+//! Tests of the two kinds of stores, of what no contract says: what the bytes of a journal and the rows of a database are, what is
+//! there after a stop, and keepers over real files.
 #![tactic(auto)]
 
 #[cfg(test)]
-mod file_keeper;
+mod journal_calls;
 #[cfg(test)]
-mod row;
+mod journal_files;
 #[cfg(test)]
-mod statements;
+mod journal_rows;
+#[cfg(test)]
+mod journal_stops;
+#[cfg(test)]
+mod sql_keeper;
+#[cfg(test)]
+mod sql_row;
+#[cfg(test)]
+mod sql_statements;
