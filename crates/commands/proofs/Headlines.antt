@@ -1,9 +1,11 @@
 -- What a desk and a service do is what the headline promises.
 use Rattle.std.proofs.Common.{◌≡◌, ◌∙◌, List, [], ◌∷◌, ◌++◌, refl, sym, subst, ap, inl, inr}
-use Rattle.std.specs.Prelude.{◌⊎◌, ℕ, ◌/◌, Result, Ok, Err}
+use Rattle.std.specs.Prelude.{◌⊎◌, ℕ, Result, Ok, Err}
 use Rattle.pb_outside.specs.Sink.{SinkTold}
 use Rattle.pb_door.specs.LinkTold.{LinkTold as Linked}
-use Rattle.pb_door.specs.PortTold.{PortTold}
+use Rattle.pb_door.specs.DoorTold.{counts}
+use Rattle.pb_door.specs.PortTold.{PortTold, new_ports}
+use Rattle.turn_book.specs.History.{end_of}
 use Rattle.turn_book.specs.Standing.{Opened}
 use Rattle.command_words.specs.Parts.{Words}
 use Rattle.command_words.specs.Service.{Service}
@@ -11,11 +13,12 @@ use Rattle.command_words.specs.declared.task.Task.TheVariants.{Desk, Serve}
 use Rattle.desk_words.specs.declared.call.Call.{Call}
 use Rattle.http_wire.specs.declared.message.Message.{Message}
 use Rattle.http_api.specs.declared.denied.Denied.{Denied}
+use Rattle.order_desk.specs.History.{IsLegal}
 use Rattle.order_desk.specs.Tables.{State}
 use Rattle.answering.specs.Hand.{Hand}
 use Rattle.answering.proofs.EventNames.{released_book}
 use Rattle.session.specs.Dealing.{AreExchanges, DealsWith, HasDealt, IsExchange, IsDealing}
-use Rattle.session.specs.Responses.{IsUnasked}
+use Rattle.session.specs.Responses.{Asks, IsUnasked}
 use Rattle.session.specs.Session.{LinkTold, told}
 use Rattle.session.specs.declared.end.SessionEnd.{SessionEnd}
 use Rattle.serve_run.specs.ServeRun as serving
@@ -26,12 +29,11 @@ use Rattle.serve_run.specs.declared.end.ServeEnd.TheVariants.{Closed, NoWorkers,
 use Rattle.desk_run.specs.DeskRun as alone
 use Rattle.desk_run.specs.declared.end.DeskEnd.{DeskEnd}
 use Rattle.desk_run.specs.declared.end.DeskEnd.TheVariants.{NotStarted, Served}
-use Rattle.desk_run.specs.declared.run.TheConstants.{MOST_STEPS}
 use Rattle.desk_run.proofs.Released.{told_released}
 use Rattle.book_commands.specs.declared.run_status.RunStatus.{RunStatus}
 use Rattle.commands.specs.Does.{Does}
 use Rattle.commands.specs.Exchanges.{Exchange, of_links, of_messages, of_session, with_asked, with_message}
-use Rattle.commands.specs.Headline.{AreHolders, AreInTurn, Headline, IsPromised}
+use Rattle.commands.specs.Headline.{AreHolders, AreInTurn, DeskHeadline, IsHeldBy, IsPromised, ServiceHeadline, share_of_steps}
 use Rattle.commands.specs.Outside.{Outside}
 use Rattle.commands.specs.Released.{AskDesk, AskService, IsUnstarted}
 use Rattle.commands.specs.Serves.{HasServed, ServesBy, ServiceEnd, served, unstarted}
@@ -39,9 +41,9 @@ use Rattle.commands.proofs.DeskTold.{Ran, ToldFrom, same_reads, unstarted_status
 
 -- ---- the exchanges of a link
 
-promised : (call : Call) (m : Message) (h : Hand) (text : List ℕ) (new : Hand) (d : IsDealing call m.head h text new)
-    → IsPromised (record { call = call; before = h; said = d.said; after = new; head = m.head; text = text })
-promised call m h text new d = record {
+promised : (call : Call) (m : Message) (asks : Asks m (Ok call)) (h : Hand) (text : List ℕ) (new : Hand) (d : IsDealing call m.head h text new)
+    → IsPromised (record { message = m; call = call; asks = asks; before = h; said = d.said; after = new; text = text })
+promised call m asks h text new d = record {
   books = λ number b there. released_book new.state.tables number b d.dealt.valid there;
   named = d.dealt.book;
   order = d.dealt.order;
@@ -53,16 +55,16 @@ promised call m h text new d = record {
 from_same : (h between new : Hand) (later : List Exchange) → between ≡ h → AreInTurn between later new → AreInTurn h later new
 from_same h between new later same rest = subst (λ (k : Hand). AreInTurn k later new) same rest
 
-asked_first : (asked : Result Call Denied) (m : Message) (h : Hand) (text : List ℕ) (between new : Hand)
+asked_first : (asked : Result Call Denied) (m : Message) (asks : Asks m asked) (h : Hand) (text : List ℕ) (between new : Hand)
     (deals : DealsWith asked m.head h text between) (later : List Exchange)
-    → AreInTurn between later new → AreInTurn h (with_asked asked m.head h text between deals later) new
-asked_first (Ok call) m h text between new deals later rest = (refl, promised call m h text between deals, rest)
-asked_first (Err denied) m h text between new denies later rest = from_same h between new later denies.1 rest
+    → AreInTurn between later new → AreInTurn h (with_asked m asked asks h text between deals later) new
+asked_first (Ok call) m asks h text between new deals later rest = (refl, promised call m asks h text between deals, rest)
+asked_first (Err denied) m asks h text between new denies later rest = from_same h between new later denies.1 rest
 
 message_first : (m : Message) (h : Hand) (text : List ℕ) (between new : Hand)
     (one : IsExchange m h text between ⊎ IsUnasked m.head h text between) (later : List Exchange)
     → AreInTurn between later new → AreInTurn h (with_message m h text between one later) new
-message_first m h text between new (inl x) later rest = asked_first x.asked m h text between new x.deals later rest
+message_first m h text between new (inl x) later rest = asked_first x.asked m x.asks h text between new x.deals later rest
 message_first m h text between new (inr unasked) later rest = from_same h between new later unasked.no_effect rest
 
 messages_in_turn : (messages : List Message) (h : Hand) (out : List ℕ) (new : Hand) (are : AreExchanges messages h out new)
@@ -113,11 +115,9 @@ holders book share history ports places faults runs = absurd runs
 
 -- ---- desks
 
-abbrev Comes : Outside → Outside → RunStatus → Type 0
-Comes before after status = IsUnstarted before after status ⊎ Headline before after
-
 by_end : (how : DeskEnd) (before after : Outside) (middle : SinkTold) (status : RunStatus) → Ran how before after middle
-    → ToldFrom how before after middle status → after.reads.files ≡ before.reads.files → Comes before after status
+    → ToldFrom how before after middle status → after.reads.files ≡ before.reads.files
+    → IsUnstarted before after status ⊎ DeskHeadline before after
 by_end (Served end) before after middle status run ends files =
     let s = run.served in
     inr (record {
@@ -127,16 +127,17 @@ by_end (Served end) before after middle status run ends files =
       legal = s.reaches.1;
       last = s.new.state;
       reached = s.reaches.2;
+      books = λ number b there. released_book s.new.state.tables number b s.valid there;
       rows = s.rows;
       released = told_released s.new.state.tables after.keeper.rows s.valid s.rows;
-      holders = inl (record {
+      held = record {
         end = end;
         middle = middle;
         new = s.new;
         dealt = s.dealt;
         in_turn = session_in_turn end (alone.hand_at run.old) (told before.reads.source before.writes.sink) (told after.reads.source middle) s.new s.dealt;
         reached = refl;
-      });
+      };
     })
 by_end (NotStarted why) before after middle status run told files = inl (record {
   untouched = same_reads why before after middle run files;
@@ -145,55 +146,62 @@ by_end (NotStarted why) before after middle status run told files = inl (record 
 
 -- ---- services
 
--- no link was served
-unserved : (how : ServeEnd) (service : Service) (before after : Outside) (status : RunStatus) (run : HasServed how service before after status)
-    → run.serves.new ≡ run.old → Headline before after
-unserved how service before after status run same = record {
-  start = run.old;
-  started = run.started;
-  history = [];
-  legal = tt;
-  last = run.serves.new;
-  reached = sym same;
-  rows = run.serves.rows;
-  released = told_released run.serves.new.tables after.keeper.rows run.serves.valid run.serves.rows;
-  holders = inr (inr refl);
-}
-
-by_workers : (how : ServeEnd) (service : Service) (before after : Outside) (status : RunStatus) → HasServed how service before after status
-    → Headline before after
-by_workers (Worked end) service before after status run =
-    let s = run.serves.run.served in
+-- what a service did, by who made its steps
+by_history : (how : ServeEnd) (service : Service) (before after : Outside) (status : RunStatus) (run : HasServed how service before after status)
+    (history : Log) → IsLegal run.old history → end_of run.old history ≡ run.serves.new
+    → IsHeldBy service before after run.old run.serves.new history → ServiceHeadline service before after
+by_history how service before after status run history legal reached held =
+    let left = run.serves.new.tables in
     record {
       start = run.old;
       started = run.started;
-      history = s.history;
-      legal = s.legal;
+      history = history;
+      legal = legal;
       last = run.serves.new;
-      reached = s.reached;
+      reached = reached;
+      books = λ number b there. released_book left number b run.serves.valid there;
       rows = run.serves.rows;
-      released = told_released run.serves.new.tables after.keeper.rows run.serves.valid run.serves.rows;
-      holders = inr (inl (record {
-        book = s.book;
-        opened = s.opened;
-        share = MOST_STEPS / service.workers;
-        places = s.places;
-        holders = holders s.book (MOST_STEPS / service.workers) s.history after.door.told.back s.places run.serves.faults s.runs;
-        whole = s.whole;
-      }));
+      released = told_released left after.keeper.rows run.serves.valid run.serves.rows;
+      held = held;
     }
-by_workers NoWorkers service before after status run = unserved NoWorkers service before after status run run.serves.run.0.0
-by_workers (Closed why) service before after status run = unserved (Closed why) service before after status run run.serves.run.0.0
+
+-- no link was served
+unserved : (how : ServeEnd) (service : Service) (before after : Outside) (status : RunStatus) (run : HasServed how service before after status)
+    → run.serves.new ≡ run.old
+    → (after.door.told ≡ counts after.door.told.faults before.door.told) ⊎ (after.door.told.back ≡ new_ports service.links service.workers)
+    → ServiceHeadline service before after
+unserved how service before after status run same ports =
+    by_history how service before after status run [] tt (sym same) (inr (record { ports = ports; history = refl; unchanged = same }))
+
+by_workers : (how : ServeEnd) (service : Service) (before after : Outside) (status : RunStatus) → HasServed how service before after status
+    → ServiceHeadline service before after
+by_workers (Worked end) service before after status run =
+    let s = run.serves.run.served in
+    let share = share_of_steps service in
+    by_history (Worked end) service before after status run s.history s.legal s.reached (inl (record {
+      book = s.book;
+      opened = s.opened;
+      places = s.places;
+      holders = holders s.book share s.history after.door.told.back s.places run.serves.faults s.runs;
+      whole = s.whole;
+    }))
+by_workers NoWorkers service before after status run =
+    unserved NoWorkers service before after status run run.serves.run.0.0 (inr (ap (λ d. d.back) run.serves.run.1))
+by_workers (Closed why) service before after status run =
+    unserved (Closed why) service before after status run run.serves.run.0.0 (inl run.serves.run.1)
 
 by_service_end : (how : ServiceEnd) (service : Service) (before after : Outside) (status : RunStatus) → ServesBy how service before after status
-    → Comes before after status
+    → IsUnstarted before after status ⊎ ServiceHeadline service before after
 by_service_end (served how) service before after status run = inr (by_workers how service before after status run)
 by_service_end (unstarted why) service before after status run =
     inl (record { untouched = run.untouched; statuses = unstarted_status why before after before.writes.sink status run.told })
 
-pub Does-headline : (words : Words) (before after : Outside) (status : RunStatus) → Does words before after status
-    → AskDesk words ⊎ AskService words → IsUnstarted before after status ⊎ Headline before after
-Does-headline words before after status does (inl asks) =
+pub Does-desk : (words : Words) (before after : Outside) (status : RunStatus) → Does words before after status
+    → AskDesk words → IsUnstarted before after status ⊎ DeskHeadline before after
+Does-desk words before after status does asks =
     let h = does.asked (Desk asks.store) asks.asked in by_end h.how before after h.middle status h.run h.told h.files
-Does-headline words before after status does (inr asks) =
+
+pub Does-service : (words : Words) (before after : Outside) (status : RunStatus) → Does words before after status
+    → (asks : AskService words) → IsUnstarted before after status ⊎ ServiceHeadline asks.service before after
+Does-service words before after status does asks =
     let h = does.asked (Serve asks.service) asks.asked in by_service_end h.how asks.service before after status h.runs

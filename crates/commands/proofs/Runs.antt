@@ -7,7 +7,7 @@ use Rattle.commands.specs.Does.{Does}
 use Rattle.commands.specs.Outside.{Outside}
 use Rattle.commands.specs.Run.{IsRun}
 use Rattle.commands.proofs.Caused.{Does-caused, Does-usage}
-use Rattle.commands.proofs.Headlines.{Does-headline}
+use Rattle.commands.proofs.Headlines.{Does-desk, Does-service}
 use Rattle.commands.proofs.Releasable.{IsCaused-released, IsCaused-blocked}
 use Rattle.commands.proofs.Decided.{IsCaused-decided, reply_nothing}
 use Rattle.commands.proofs.Sure.{Does-sure, Does-unfailing}
@@ -23,7 +23,8 @@ Does-run words before after status does = record {
   decided = IsCaused-decided words before after status (Does-caused words before after status does);
   leaves_nothing = reply_nothing words before after status;
   advises = λ h. tells_orders h.command h.input before.reads.files after.reads.files h.reply h.replies;
-  headline = Does-headline words before after status does;
+  desk = Does-desk words before after status does;
+  service = Does-service words before after status does;
   complete = Does-sure words before after status does;
   unfailing = Does-unfailing words before after status does;
 }

@@ -1,6 +1,6 @@
 -- The calls that sessions answered, in the words of the trade.
---     Exchange                     a call that was answered: what was asked, by a holder who stood so before and after it, the
---                                  reply, and the text that was written for it
+--     Exchange                     a call that was answered: the message, the call that its bytes ask for, the holder who made
+--                                  it, before and after, the reply, and the text that was written for it
 --     of_session end h ..          those of a session, in their order
 --     of_links ends h ..           those of the links of a port, one after the other
 -- A message that was denied, or found no memory for its call, changed nothing and isn't among them.
@@ -8,35 +8,36 @@ use Rattle.std.proofs.Common.{inl, inr}
 use Rattle.std.specs.Prelude.{◌⊎◌, ℕ, List, [], ◌∷◌, ◌++◌, Result, Ok, Err}
 use Rattle.pb_door.specs.LinkTold.{LinkTold as Linked}
 use Rattle.http_api.specs.declared.denied.Denied.{Denied}
-use Rattle.http_wire.specs.declared.head.Head.{Head}
 use Rattle.http_wire.specs.declared.message.Message.{Message}
 use Rattle.desk_words.specs.declared.call.Call.{Call}
 use Rattle.desk_words.specs.declared.reply.Reply.{Reply}
 use Rattle.answering.specs.Hand.{Hand}
 use Rattle.session.specs.Dealing.{AreExchanges, DealsWith, HasDealt, IsExchange}
-use Rattle.session.specs.Responses.{IsUnasked}
+use Rattle.session.specs.Responses.{Asks, IsUnasked}
 use Rattle.session.specs.Session.{LinkTold, told}
 use Rattle.session.specs.declared.end.SessionEnd.{SessionEnd}
 use Rattle.serve_run.specs.Work.{ServesLinks}
 
 pub record Exchange : Type 0 where
+  pub message : Message
   pub call : Call
+  -- the call is the one at the route of the message's path, with what its head and body say
+  pub asks : Asks message (Ok call)
   pub before : Hand
   pub said : Reply
   pub after : Hand
-  pub head : Head
   pub text : List ℕ
 
 -- one more, if the message asked for a call
-abbrev pub with_asked : (asked : Result Call Denied) (head : Head) (h : Hand) (text : List ℕ) (new : Hand)
-    → DealsWith asked head h text new → List Exchange → List Exchange
-with_asked (Ok call) head h text new deals later =
-    record { call = call; before = h; said = deals.said; after = new; head = head; text = text } ∷ later
-with_asked (Err denied) head h text new deals later = later
+abbrev pub with_asked : (m : Message) (asked : Result Call Denied) → Asks m asked → (h : Hand) (text : List ℕ) (new : Hand)
+    → DealsWith asked m.head h text new → List Exchange → List Exchange
+with_asked m (Ok call) asks h text new deals later =
+    record { message = m; call = call; asks = asks; before = h; said = deals.said; after = new; text = text } ∷ later
+with_asked m (Err denied) asks h text new deals later = later
 
 abbrev pub with_message : (m : Message) (h : Hand) (text : List ℕ) (new : Hand) → IsExchange m h text new ⊎ IsUnasked m.head h text new
     → List Exchange → List Exchange
-with_message m h text new (inl one) later = with_asked one.asked m.head h text new one.deals later
+with_message m h text new (inl one) later = with_asked m one.asked one.asks h text new one.deals later
 with_message m h text new (inr unasked) later = later
 
 abbrev pub of_messages : (messages : List Message) (h : Hand) (out : List ℕ) (new : Hand) → AreExchanges messages h out new → List Exchange

@@ -1,11 +1,15 @@
 -- What a desk and a service promise, on one page.
 --     IsPromised e                 what is promised of each call that is answered, memory and store allowing
 --     AreInTurn h exchanges new    one holder's, each beginning as the one before it ended
---     Headline before after        a desk was started from the rows; all steps of all holders are one legal history from there to
---                                  the rows that are left; and each call of each session is answered as promised
-use Rattle.std.specs.Prelude.{◌≡◌, ◌⊎◌, ℕ, ◌≤◌, List, [], ◌∷◌, None, Some, All, IfSome, length}
+--     Headline Held before after   a desk was started from the rows; all steps of its holders are one legal history from there to
+--                                  the rows that are left; Held says who made them
+--     DeskHeadline before after    a desk's, by the holder of its one link; each call is answered as promised
+--     ServiceHeadline service ..   a service's, by the holder of each port, who has its share of the steps; or no port gave a link
+use Rattle.std.specs.Prelude.{◌≡◌, ◌⊎◌, ℕ, ◌≤◌, ◌/◌, List, [], ◌∷◌, Some, All, IfSome, length}
 use Rattle.pb_outside.specs.Sink.{SinkTold}
-use Rattle.pb_door.specs.PortTold.{PortTold}
+use Rattle.pb_door.specs.DoorTold.{DoorTold, counts}
+use Rattle.pb_door.specs.PortTold.{PortTold, new_ports}
+use Rattle.command_words.specs.Service.{Service}
 use Rattle.turn_book.specs.History.{AreAllBelow, end_of}
 use Rattle.turn_book.specs.Places.{Rises, at_places}
 use Rattle.turn_book.specs.Standing.{Opened}
@@ -27,6 +31,7 @@ use Rattle.session.specs.declared.end.SessionEnd.{SessionEnd}
 use Rattle.desk_run.specs.DeskRun as alone
 use Rattle.desk_run.specs.DeskRun.{IsStarted}
 use Rattle.desk_run.specs.Released.{IsReleasedRow}
+use Rattle.desk_run.specs.declared.run.TheConstants.{MOST_STEPS}
 use Rattle.serve_run.specs.ServeRun.{Log, all_of}
 use Rattle.serve_run.specs.ServeRun as serving
 use Rattle.serve_run.specs.Work.{ServesLinks}
@@ -48,7 +53,7 @@ pub record IsPromised (e : Exchange) : Type 0 where
   pub stays : Grows e.before.state.tables e.after.state.tables
   -- the holder's own steps, the last of which led to what it has seen then
   pub later : IsLaterHand e.before e.after
-  pub written : IsResponse e.head e.said e.text
+  pub written : IsResponse e.message.head e.said e.text
 
 abbrev pub AreInTurn : Hand → List Exchange → Hand → Type 0
 AreInTurn h [] new = new ≡ h
@@ -80,22 +85,43 @@ AreHolders book share history (port ∷ ports) (own ∷ places) =
 AreHolders book share history ports places = ⊥
 
 -- each entry of the history is a step of just one holder
-pub record HasHolders (start : State) (history : Log) (ports : List PortTold) : Type 0 where
+pub record HasHolders (share : ℕ) (start : State) (history : Log) (ports : List PortTold) : Type 0 where
   pub book : Opened State
   pub opened : book.start ≡ start
-  pub share : ℕ
   pub places : List (List ℕ)
   pub holders : AreHolders book share history ports places
   pub whole : AreAllBelow (length history) (all_of places)
 
-pub record Headline (before after : Outside) : Type 0 where
+-- nothing was served, and nothing done: the door gave no ports, and is as it was but for its faults; or they came back as they were
+-- given, none of which had given a link
+pub record WasUnserved (service : Service) (start last : State) (history : Log) (before after : DoorTold) : Type 0 where
+  pub ports : (after ≡ counts after.faults before) ⊎ (after.back ≡ new_ports service.links service.workers)
+  pub history : history ≡ []
+  pub unchanged : last ≡ start
+
+pub record Headline (Held : State → State → Log → Type 0) (before after : Outside) : Type 0 where
   pub start : State
   pub started : IsStarted (desk_outside before before.writes.sink) start
   pub history : Log
   pub legal : IsLegal start history
   pub last : State
   pub reached : end_of start history ≡ last
+  -- every book that is left can be released, and so can each of the rows, where these are told
+  pub books : (number : ℕ) (b : KeptBook) → book_at last.tables.books number ≡ Some b → IsReleasedAt last.tables number
   pub rows : IfSome after.keeper.rows (λ rows. rows ≡ rows_of last.tables)
   pub released : IfSome after.keeper.rows (λ rows. All IsReleasedRow rows.books)
-  -- of a desk, of a service whose workers ended, or of one for which no link was served
-  pub holders : HasOneHolder start last before after ⊎ (HasHolders start history after.door.told.back ⊎ (history ≡ []))
+  pub held : Held start last history
+
+abbrev pub DeskHeadline : Outside → Outside → Type 0
+DeskHeadline before after = Headline (λ start last history. HasOneHolder start last before after) before after
+
+-- the workers share the steps of the run
+abbrev pub share_of_steps : Service → ℕ
+share_of_steps service = MOST_STEPS / service.workers
+
+abbrev pub IsHeldBy : Service → Outside → Outside → State → State → Log → Type 0
+IsHeldBy service before after start last history =
+    HasHolders (share_of_steps service) start history after.door.told.back ⊎ WasUnserved service start last history before.door.told after.door.told
+
+abbrev pub ServiceHeadline : Service → Outside → Outside → Type 0
+ServiceHeadline service before after = Headline (IsHeldBy service before after) before after

@@ -11,7 +11,7 @@ use Rattle.commands.specs.Ample.{AskAmple}
 use Rattle.commands.specs.Causes.{GivesReply, IsCaused, IsUsageStatus}
 use Rattle.commands.specs.Complete.{IsValidInput, CannotFail, NoCountRose, IsAnswered, LacksRoom}
 use Rattle.commands.specs.Does.{Does}
-use Rattle.commands.specs.Headline.{Headline}
+use Rattle.commands.specs.Headline.{DeskHeadline, ServiceHeadline}
 use Rattle.commands.specs.Outside.{Outside}
 use Rattle.commands.specs.Released.{AskRelease, AskCheck, AskDesk, AskService, IsReleasableInput, IsBlockedInput, IsUnstarted}
 use Rattle.command_words.specs.Meaning.{AsksNothing}
@@ -34,8 +34,9 @@ pub record IsRun (words : Words) (before after : Outside) (status : RunStatus) :
   pub leaves_nothing : AskAmple words before → (h : GivesReply words before after status) → LeavesNothing h.reply
   -- what free, why and ask tell is so of the orders that the book accepts
   pub advises : (h : GivesReply words before after status) → IfOk (book_of h.input) (λ b. TellsOrders h.command b h.reply)
-  -- whatever the status, a desk that was started, alone or for many workers, keeps what it promises
-  pub headline : AskDesk words ⊎ AskService words → IsUnstarted before after status ⊎ Headline before after
+  -- whatever the status, a desk that was started keeps what it promises, and so does one that was started for many workers
+  pub desk : AskDesk words → IsUnstarted before after status ⊎ DeskHeadline before after
+  pub service : (asks : AskService words) → IsUnstarted before after status ⊎ ServiceHeadline asks.service before after
   -- where no call fails from here on, valid words and inputs have their answer, memory and the sink's room allowing
   pub complete : CannotFail words before → IsAnswered words before after status ⊎ LacksRoom words before after status
   -- and they have it where no count rose, memory allowing
