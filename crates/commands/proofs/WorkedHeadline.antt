@@ -83,15 +83,15 @@ accepted_kept e promised alone w = by (promised.order w.number w.order w.asked w
   where
     by : PlacesOrder e.before e.call.caller w.number w.order e.said e.after
         → e.after.state.tables ≡ with_order e.before.state.tables (key_of e.call.caller w.number) w.order
-    by (inl (memory, same)) = let told = w.told in absurd (cc)
+    by (inl (memory, same)) = let accepted = w.told in absurd (cc)
     by (inr (last, comes)) =
         let comes_now : OrderComes e.before.state e.call.caller w.number w.order e.said e.after.state =
         subst (λ (s : State). OrderComes s e.call.caller w.number w.order e.said e.after.state) (last.at_once alone) comes in
         elim ((comes_now.fresh w.book w.new).built w.built) [
           | inl accepted ↦ accepted.kept
           | inr unkept ↦ elim unkept [
-            | inl memory ↦ let was = memory.told in let told = w.told in absurd (cc)
-            | inr fault ↦ let was = fault.told in let told = w.told in absurd (cc)
+            | inl memory ↦ let was = memory.told in let accepted = w.told in absurd (cc)
+            | inr fault ↦ let was = fault.told in let accepted = w.told in absurd (cc)
           ]
         ]
 

@@ -1,5 +1,6 @@
 //! Connections over TCP.
-ghost use Rattle.std.specs.Prelude.{◌≡◌, ◌≤◌, [], true, IfOk, OnOk, OnErr};
+ghost use Rattle.std.specs.Prelude.{◌≡◌, ◌≢◌, ◌≤◌, ◌++◌, [], true, IfOk, OnOk, OnErr};
+ghost use Rattle.pb_outside.specs.Sink.{TakesFront, TakesPiece};
 ghost use Rattle.pb_outside.specs.Faults.{Rose};
 ghost use Rattle.pb_outside.specs.Source.{Appends, ReadsPiece};
 ghost use Rattle.pb_door.specs.LinkTold.{IsUnwritten, link_told};
@@ -7,8 +8,10 @@ ghost use Rattle.tcp_door.specs.Untold.{untold};
 
 use crate::patience::{Progress, before_read, bound_waits, end_connection, is_late, write_whole};
 use crate::watch::Watch;
+use crate::write_both::WriteBoth;
 use pb_outside::{Ends, FaultCount, Link, OutError, Sink, Source, StreamSource};
 use std::net::TcpStream;
+use std::time::Clock;
 
 /// A connection over TCP. It tells how often reading and writing have failed, and none of its bytes. A peer that sends
 /// nothing for 30 seconds, takes nothing for as long, or takes more than 120 seconds for the head and the body of one
@@ -117,25 +120,50 @@ impl<W: Watch + Drop> Sink for TcpLink<W> {
     fn write(&mut self, piece: &[u8]) -> Result<(), OutError> {
         self.progress = Progress::Awaited;
         let mut stream = &self.stream;
-        if write_whole(&mut stream, &self.watch, &[], piece) {
-            return Ok(());
-        }
-        self.write_faults.fail()
+        write_in_time(&mut stream, &self.watch, &mut self.write_faults, &[], piece)
     }
 
     fn write_both(&mut self, first: &[u8], second: &[u8]) -> Result<(), OutError> {
         self.progress = Progress::Awaited;
         let mut stream = &self.stream;
-        if write_whole(&mut stream, &self.watch, first, second) {
-            self.watch.note_answered();
-            return Ok(());
-        }
-        self.write_faults.fail()
+        write_in_time(
+            &mut stream,
+            &self.watch,
+            &mut self.write_faults,
+            first,
+            second,
+        )?;
+        self.watch.note_answered();
+        Ok(())
     }
 
     fn write_faults(&self) -> u64 {
         self.write_faults.faults()
     }
+}
+
+// Writes two pieces whole, one behind the other. Where the stream refused a part of them, or where they took too long, that is
+// a fault of the connection, and never the end of what was due.
+fn write_in_time<S: WriteBoth, C: Clock>(
+    stream: &mut S,
+    clock: &C,
+    faults: &mut FaultCount,
+    first: &[u8],
+    second: &[u8],
+) -> Result<(), OutError>
+    ensures whole { let piece = first.now ++ second.now in
+        OnOk result (TakesPiece piece (S.contents stream.old) (S.contents stream.new)) }
+    ensures cut { let piece = first.now ++ second.now in
+        OnErr result (TakesFront piece (S.contents stream.old) (S.contents stream.new)) }
+    ensures stays { OnOk result (faults.new ≡ faults.old) }
+    ensures rose { OnErr result (Rose faults.old faults.new) }
+    ensures no_memory { result ≢ Err OutError.Memory }
+    ensures never_falls { faults.old ≤ faults.new }
+{
+    if write_whole(stream, clock, first, second) {
+        return Ok(());
+    }
+    faults.fail()
 }
 
 impl<W: Watch + Drop> Link for TcpLink<W> {}
