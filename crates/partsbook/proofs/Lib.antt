@@ -1,3 +1,0 @@
-mod Crossing
-pub mod Fresh
-mod Named

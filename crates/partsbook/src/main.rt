@@ -1,19 +1,18 @@
 //! The program: it does what its words ask, mostly of a book that it reads from standard input.
 #![tactic(auto)]
 
-mod counted;
-mod store;
+mod named;
 mod watching;
 
 ghost use Rattle.std.specs.Prelude.{◌≡◌};
 ghost use Rattle.std.specs.Process.{exit_status};
 ghost use Rattle.book_commands.specs.Numbers.{status_number};
 
-use crate::counted::Counted;
-use crate::store::{FileStore, Store};
+use crate::named::store_of;
 use crate::watching::watch_of;
 use answering::NoGate;
 use commands::{Begun, Channels, RunEnd, RunLog, RunStatus, World, begin_given, run_service};
+use file_store::{Counted, FileStore, close};
 use pb_outside::{StreamSink, StreamSource, SystemFiles};
 use std::process::ExitCode;
 use std::{env, io};
@@ -32,7 +31,7 @@ fn main(rt: HostRuntime) -> ExitCode {
     };
     let world = World {
         keeper: Counted {
-            store: Store::Unopened(rt),
+            store: store_of(rt, alloc, &words),
             orders: watch.orders(),
         },
         channels,
@@ -69,13 +68,4 @@ fn closed(rt: HostRuntime, status: RunStatus, store: FileStore) -> ExitCode
         );
     }
     exit_code(status)
-}
-
-// Whether the store is in its file alone. A journal always is.
-fn close(store: FileStore) -> bool {
-    match store {
-        Store::Sql(keeper) => keeper.close(),
-        Store::Journal(_keeper) => true,
-        Store::Unopened(_rt) => true,
-    }
 }

@@ -12,8 +12,8 @@ use Rattle.keeper_sql.proofs.sql_keeper.SqlKeeper.TheSendSync as sql
 use Rattle.keeper_sql.specs.contracts.file_keeper.FileKeeper as FileKeeper
 use Rattle.journal_keeper.specs.contracts.file_journal.FileJournal as FileJournal
 use Rattle.journal_keeper.proofs.file_journal.FileJournal.TheSendSync as journal
-use Rattle.partsbook.specs.contracts.counted.Counted as Counted
-use Rattle.partsbook.proofs.store.Store.TheSendSync as either
+use Rattle.file_store.proofs.counted.Counted.TheSendSync as counted
+use Rattle.file_store.proofs.store.Store.TheSendSync as either
 
 -- an open file of the system
 host_send : IsSend Host.the_row

@@ -1,27 +1,25 @@
 //! A store whose orders are counted.
 
-use crate::store::FileStore;
 use keeper::{BookRow, DraftRow, Keeper, OrderRow, Rows};
 use pb_outside::OutError;
 use std::sync::atomic::{AtomicU64, Ordering};
 
-/// A store, and where each order that it keeps is counted, for who looks on from outside. As a keeper it is the store alone.
+/// A store, and where each order that it keeps is counted, for who looks on from outside. As a keeper it is the store alone:
+/// it tells what that tells, and makes each call of that once.
 #[derive(Drop)]
-pub(crate) struct Counted<'a> {
-    pub(crate) store: FileStore,
-    pub(crate) orders: &'a AtomicU64,
+pub struct Counted<'a, K> {
+    pub store: K,
+    pub orders: &'a AtomicU64,
 }
 
-impl Keeper for Counted<'_> {
-    ghost use Rattle.std.specs.Prelude.{None};
+impl<K: Keeper> Keeper for Counted<'_, K> {
+    ghost told = { λ c. K.told c.store };
 
-    ghost told = { λ _. None };
+    ghost failures = { λ c. K.failures c.store };
 
-    ghost failures = { λ c. ⟦<FileStore as Keeper>⟧.failures c.store };
+    ghost calls = { λ c. K.calls c.store };
 
-    ghost calls = { λ _. None };
-
-    ghost may_begin = { λ c. ⟦<FileStore as Keeper>⟧.may_begin c.store };
+    ghost may_begin = { λ c. K.may_begin c.store };
 
     fn begin(&mut self, name: &str) -> Result<(), OutError> {
         self.store.begin(name)
