@@ -11,6 +11,8 @@ mod journal_rows;
 #[cfg(test)]
 mod journal_stops;
 #[cfg(test)]
+mod run_store;
+#[cfg(test)]
 mod sql_keeper;
 #[cfg(test)]
 mod sql_row;
