@@ -1,5 +1,4 @@
 //! The store of a run: what is put through it is there for the next run, in a file of the kind that its name says.
-ghost use Rattle.std.specs.Prelude.{IfOk};
 
 use crate::sql_row::{is_order, order};
 use file_store::{Counted, close, store_at};
