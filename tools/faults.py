@@ -71,6 +71,8 @@ def faults_of(data):
         line, column = before.count(b"\n") + 1, len(before) - before.rfind(b"\n")
         said = "book 3 utf16" if data[:2] in (b"\xff\xfe", b"\xfe\xff") else "book 2"
         return [Fault(0, 2, 0, line, column, sentence(said))]
+    if data[:2] in (b"b\0", b"\0b"):
+        return [Fault(1, 3, 0, 1, 1, sentence("book 3 utf16"))]
     found = [line.split(" ", 5) for line in of_book(data, "faults")]
     return [Fault(*map(int, numbers), said) for *numbers, said in found]
 
