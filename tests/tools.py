@@ -713,7 +713,7 @@ def answers(place):
     asked = [("order", "40", "P18", "AWD", "AT8"), ("order", "40", "E60", "TOW"), ("order", "40"), ("order", "40", "E60"), ("free", "40", "P18", "AWD"),
              ("free", "40", "E60", "TOW"), ("free", "40"), ("free", "40", "--budget", "1"), ("why", "40", "E60", "TOW"), ("why", "40", "P18", "AWD", "AT8"),
              ("why", "40"), ("why", "40", "--budget", "1", "E60", "TOW"), ("why", "305")]
-    calls = [(words, example(book)) for words in asked for book in ("compact.csv", "estate.csv", "van.csv")]
+    calls = [(words, example(book)) for words in asked for book in ("compact.csv", "van.csv")]
     calls += [(("changes", path), text) for text, path in next_books(place)]
     for words, text in calls:
         done = subprocess.run([PROGRAM, *words], input=text, capture_output=True, check=False)
