@@ -91,7 +91,7 @@ try '--help --budget --workers' partsbook check ''
 try '--budget' partsbook free 40 --b
 try 'engine.csv engine.cert' partsbook verify engine.c
 try 'a book.csv' partsbook compare 1 'a b'
-try '' partsbook compare ''
+try '--help --budget --workers' partsbook compare ''
 try 'tarn-laws.csv' partsbook require --budget 5 tarn-
 try 'supplements' partsbook help su
 rm 'a book.csv'
