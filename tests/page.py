@@ -969,8 +969,8 @@ def faults(trial):
         browser.write("#draft", "FAULTY")
         browser.click("form button", "Open")
         browser.click("button.main", "Check")
-        wanted = filled(key, words).replace("`", "")
-        wanted = f"{wanted[0].upper() + wanted[1:] if line is None else f'Line {line}: {wanted}'}."
+        wanted = filled(key, words)
+        wanted = f"{wanted[0].upper() + wanted[1:] if line is None else f'Line {line}: {wanted}'}.".replace("`", "")
         said = browser.text(".report .verdict")
         check(f"the fault {key}", said.replace("\n", " ") == wanted, (said, wanted))
     # An order's faults.

@@ -13,16 +13,18 @@ async function load() {
 }
 
 // The sentence of this key with these words in it, as what an element takes; or null where there is none. What stands between
-// backticks is a word of a book.
+// backticks is a word of a book; a word may be a sentence itself.
 export async function sentence(key, words = {}) {
   table ??= await load();
   if (table[key] === undefined) return null;
-  return table[key].split("`").map((piece, at) => (at % 2 === 1 ? name(shorten(filled(piece, words))) : filled(piece, words)));
+  return table[key].split("`").flatMap((piece, at) => (at % 2 === 1 ? name(shorten(filled(piece, words))) : pieces(piece, words)));
 }
 
-async function plain(key, words) {
-  table ??= await load();
-  return filled(table[key] ?? "", words);
+function pieces(piece, words) {
+  return piece.split(/(\{\w+\})/).flatMap((part) => {
+    const word = words[part.slice(1, -1)];
+    return Array.isArray(word) ? word : filled(part, words);
+  });
 }
 
 function filled(piece, words) {
@@ -155,12 +157,12 @@ function unknownKey(fields, records) {
 // A rule that is none: where in it, and the word that stands there.
 async function ruleKey({ fields }, number, at) {
   const rule = new Map(named(fields)).get("RULE") ?? "";
-  if (number === 1) return { key: "book 12", words: { rule, what: await plain("rule 1") } };
+  if (number === 1) return { key: "book 12", words: { rule, what: await sentence("rule 1") } };
   const rest = rule.slice(at);
   const word = /^[A-Za-z0-9]+/.exec(rest)?.[0] ?? [...rest][0] ?? "";
   const open = rule.split("(").length > rule.split(")").length;
   const key = number !== 4 || (rest !== "" && rest[0] !== ";") ? `rule ${number}` : open && /[A-Z0-9)]\s*$/.test(rule.slice(0, at)) ? "rule 4 bracket" : "rule 4 end";
-  return { key: rest === "" ? "book 12 end" : "book 12 at", words: { rule, byte: at + 1, what: await plain(key, { word }) } };
+  return { key: rest === "" ? "book 12 end" : "book 12 at", words: { rule, byte: at + 1, what: await sentence(key, { word }) } };
 }
 
 // What is odd about the quotes of a text: [key, words] of each, in the lines' order.
