@@ -2,11 +2,11 @@
 """Tries the shipped proxy (examples/service/haproxy.cfg) before a service with callers who want to stop it or to get what they may not,
 and looks whether another dealer's orders are answered meanwhile, each within two seconds.
 
-    tests/hostile-proxy.py [PROGRAM [SUBJECT..]]
+    tests/hostile-proxy.py [--book "CODES SLICES GROUPS"] [PROGRAM [SUBJECT..]]
 
 PROGRAM is crates/partsbook/out/partsbook without the word, and SUBJECT one of these. The service has the words of the shipped unit,
 but its port. The proxy has the shipped file as it is; its variables of the environment give it ports, a certificate made on the
-spot and a place for its log, and some subjects limits that are reached sooner. Where root tries it, HAProxy becomes its own user in
+spot and a place for its log, and some subjects limits that are reached sooner. The large book is drawn by tests/speed/draw_book.py. Where root tries it, HAProxy becomes its own user in
 its empty folder, as under its unit. The callers come from addresses of their own, 127.0.0.2 and so on.
 
 files      the proxy's files and the units pass `haproxy -c` and `systemd-analyze verify` without a warning.
@@ -50,6 +50,8 @@ from draw_book import Drawn
 
 # How long another dealer's order may take, in seconds.
 SOON = 2
+# How long the release of a large book may take.
+LARGE_PATIENCE = 580
 SECRETS = {"ANNA": "a-secret", "OTTO": "an-eye", "KIEL1": "another-secret", "OSLO1": "one-more-secret"}
 WATCH, STRANGER, ATTACKER, HONEST = "127.0.0.1", "127.0.0.66", "127.0.0.5", "127.0.0.2"
 ORDER = '{"book":1,"day":%d,"codes":["M1"]}'
@@ -63,8 +65,8 @@ def password(name, secret=None):
 class Caller:
     """One who asks through the proxy from an address, over a connection that is kept while the proxy keeps it."""
 
-    def __init__(self, proxy, name, source=HONEST, secret=None):
-        self.proxy, self.source, self.link = proxy, source, None
+    def __init__(self, proxy, name, source=HONEST, secret=None, patience=PATIENCE):
+        self.proxy, self.source, self.link, self.patience = proxy, source, None, patience
         self.fields = {} if name is None else {"Authorization": password(name, secret)}
 
     def ask(self, method, path, body=None):
@@ -72,7 +74,7 @@ class Caller:
         for last in (False, True):
             fresh = self.link is None
             if fresh:
-                self.link = http.client.HTTPSConnection("localhost", self.proxy.port, timeout=PATIENCE, context=self.proxy.trust, source_address=(self.source, 0))
+                self.link = http.client.HTTPSConnection("localhost", self.proxy.port, timeout=self.patience, context=self.proxy.trust, source_address=(self.source, 0))
             try:
                 self.link.request(method, path, body, self.fields)
                 answer = self.link.getresponse()
@@ -382,18 +384,18 @@ def try_passwords(program, _given):
     return over(program, trial)
 
 
-def release_large(hall):
-    """The number of a large book, and the bytes of its certificate."""
-    anna = Caller(hall.proxy, "ANNA")
-    must("a large draft", anna.ask("PUT", "/drafts/L", Drawn(300, 24, 40).text().encode()) == (201, "kept L 1\n"))
+def release_large(hall, given):
+    """The number of a large book."""
+    anna = Caller(hall.proxy, "ANNA", patience=LARGE_PATIENCE)
+    must("a large draft", anna.ask("PUT", "/drafts/L", Drawn(*map(int, given.book.split())).text().encode()) == (201, "kept L 1\n"))
     status, said = anna.ask("POST", "/drafts/L/release", '{"revision":1}')
     must("a large book", status == 201, status, said)
     return int(said.split()[1])
 
 
-def try_questions(program, _given):
+def try_questions(program, given):
     def trial(hall):
-        number = release_large(hall)
+        number = release_large(hall, given)
 
         def ask(body, seconds=10):
             counts = {}
@@ -409,11 +411,11 @@ def try_questions(program, _given):
 
         largest, first = hall.beside(lambda: ask('{"day":1,"codes":[],"budget":50000}', 3))
         must("a dealer names no budget", set(largest) <= {403, 429} and largest[403] > 50, largest)
+        # Until what was refused counts no longer among his requests.
+        time.sleep(11)
         for body in ('{"day":1,"codes":[],"\\u0062udget":50000}', '{"day":1,"codes":[],"budget":1,"budget":50000}', '{"budget" : 50000,"day":1,"codes":[]}'):
             said = Caller(hall.proxy, "KIEL1").ask("POST", f"/books/{number}/free", body)
             must("nor in another way", said[0] in (400, 403), body, said)
-        # Until what was refused counts no longer among his requests.
-        time.sleep(11)
         none, second = hall.beside(lambda: ask('{"day":1,"codes":[]}'))
         must("he is answered without one", set(none) == {200}, none)
         anna = Caller(hall.proxy, "ANNA")
@@ -430,9 +432,9 @@ def try_questions(program, _given):
     return over(program, trial)
 
 
-def try_slow(program, _given):
+def try_slow(program, given):
     def trial(hall):
-        number = release_large(hall)
+        number = release_large(hall, given)
         size = 0
 
         def read_slowly():
@@ -448,10 +450,11 @@ def try_slow(program, _given):
             for _ in range(20):
                 must("it goes on", link.recv(16) != b"")
                 time.sleep(0.5)
-            # Another certificate waits for this one: it is the worker of these alone that is taken.
-            return link
+            # Where the certificate is more than what the proxy keeps, another one waits for it: the worker of these alone is taken.
+            other = Caller(hall.proxy, "OTTO", patience=5).ask("GET", f"/books/{number}/certificate")[0]
+            return link, "another one waited" if other == 0 else "another one was had"
 
-        link, first = hall.beside(read_slowly)
+        (link, other), first = hall.beside(read_slowly)
         must("a dealer gets no certificate", Caller(hall.proxy, "KIEL1").ask("GET", f"/books/{number}/certificate")[0] == 403)
         link.close()
         whole = Caller(hall.proxy, "ANNA").ask("GET", f"/books/{number}/certificate")
@@ -471,7 +474,7 @@ def try_slow(program, _given):
             return time.time() - begun
 
         took, second = hall.beside(send_slowly)
-        return f"a certificate of {size} bytes was read slowly for ten seconds, {first}; a slow body was given up after {took:.0f} s, {second}"
+        return f"a certificate of {size} bytes was read slowly for ten seconds, and {other}, {first}; a slow body was given up after {took:.0f} s, {second}"
 
     return over(program, trial)
 
@@ -656,7 +659,8 @@ def main():
         "files": try_files, "half": try_half, "up": try_up, "passwords": try_passwords, "questions": try_questions, "slow": try_slow,
         "orders": try_orders, "paths": try_paths, "eyes": try_eyes, "told": try_told,
     }
-    reader = argparse.ArgumentParser(usage="tests/hostile-proxy.py [PROGRAM [SUBJECT..]]")
+    reader = argparse.ArgumentParser(usage="tests/hostile-proxy.py [--book 'CODES SLICES GROUPS'] [PROGRAM [SUBJECT..]]")
+    reader.add_argument("--book", default="300 24 40")
     reader.add_argument("program", nargs="?", default=PROGRAM, type=built)
     reader.add_argument("subject", nargs="*")
     return try_subjects(subjects, reader.parse_args())
