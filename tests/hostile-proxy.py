@@ -412,7 +412,7 @@ def try_questions(program, given):
         largest, first = hall.beside(lambda: ask('{"day":1,"codes":[],"budget":50000}', 3))
         must("a dealer names no budget", set(largest) <= {403, 429} and largest[403] > 50, largest)
         # Until what was refused counts no longer among his requests.
-        time.sleep(11)
+        time.sleep(21)
         for body in ('{"day":1,"codes":[],"\\u0062udget":50000}', '{"day":1,"codes":[],"budget":1,"budget":50000}', '{"budget" : 50000,"day":1,"codes":[]}'):
             said = Caller(hall.proxy, "KIEL1").ask("POST", f"/books/{number}/free", body)
             must("nor in another way", said[0] in (400, 403), body, said)
