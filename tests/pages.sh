@@ -196,14 +196,14 @@ type_page() { # page
 
 # The text of this name among the cases of worked_runs.
 case_text() {
-    awk -v head="--- text $1" '/^(---|===|#) ?/ { inside = $0 == head; next } inside' "$top/crates/worked_runs/stdin"
+    awk -v head="--- text $1" '/^(---|===|#) ?/ { inside = $0 == head; next } inside' "$top"/crates/worked_runs/data/*
 }
 
 # The cases have copies of the books of examples/.
 for copy in T:engine VAN:van COMPACT:compact COMPACTG:compact-groups YEAR:year TARN:tarn ESTATE:estate; do
     if ! case_text "${copy%%:*}" | cmp -s - "$top/examples/${copy##*:}.csv"; then
         failed=1
-        echo "differs: the text ${copy%%:*} of crates/worked_runs/stdin, from examples/${copy##*:}.csv"
+        echo "differs: the text ${copy%%:*} of crates/worked_runs/data, from examples/${copy##*:}.csv"
     fi
 done
 "$top/tests/wrong-bodies.py" --check || failed=1

@@ -10,7 +10,7 @@ use crate::lines::{put_code, put_group, put_heading, put_module};
 use pb_base::{Body, Memory, Text};
 use std::alloc::Global;
 
-/// The text of the generated book with so many codes, which `start` tells from others. See docs/SAMPLE.md.
+/// The text of the generated book with so many codes, which `start` tells from others. See the README.
 pub fn sample_book(alloc: Global, start: u32, codes: u32) -> Result<Body, Memory>
     requires { MaySample codes }
     ensures { IfOk result (λ text. text ≡ sample_text start codes) }

@@ -1,4 +1,4 @@
-//! Goes through the sections of a text of cases, and does the runs of each case.
+//! Goes through the sections of files of cases, and does the runs of each case.
 
 use crate::case::Case;
 use crate::door::SaidLink;
@@ -22,6 +22,8 @@ use std::thread::Threads;
 pub struct Bench<'a> {
     alloc: Global,
     texts: Vec<NamedText<'a>>,
+    /// Whether the cases of the file are done.
+    does_cases: bool,
     case: Case<'a>,
     /// The text that is being written, and what it is for.
     written: Text,
@@ -41,6 +43,7 @@ impl<'a> Bench<'a> {
         Bench {
             alloc,
             texts: Vec::new(alloc),
+            does_cases: false,
             case: Case::new(alloc, ""),
             written: Text::new(alloc),
             goal: None,
@@ -51,14 +54,22 @@ impl<'a> Bench<'a> {
         }
     }
 
-    /// Does all cases of a text, also where one alone is told of, since it may take up what those before it leave.
-    pub fn take_cases<R: Threads + Wait + Sync>(
+    /// Takes the texts of a file, and does all its cases where one of them is asked for: that one may take up what those before it
+    /// leave.
+    pub fn take_file<R: Threads + Wait + Sync>(
         &mut self,
         rt: &R,
         cases: &'a str,
     ) -> Result<(), Memory> {
         let sections = sections_of(self.alloc, cases)?;
+        self.does_cases = self.asks_in(&sections);
+        self.case = Case::new(self.alloc, "");
         self.take_all(rt, &sections)
+    }
+
+    /// Tells at the end of all files how many cases come out otherwise.
+    pub fn end(&mut self) -> Result<(), Memory> {
+        self.report.put_end()
     }
 
     /// What is told of the cases.
@@ -74,8 +85,17 @@ impl<'a> Bench<'a> {
         for section in sections {
             self.take(rt, section)?;
         }
-        self.end_case(rt)?;
-        self.report.put_end()
+        self.end_case(rt)
+    }
+
+    // Whether one of the cases that these sections open is asked for.
+    fn asks_in(&self, sections: &[Section<'a>]) -> bool {
+        for section in sections {
+            if section.opens_case && self.report.asks_for(section.head) {
+                return true;
+            }
+        }
+        false
     }
 
     fn take<R: Threads + Wait + Sync>(
@@ -165,7 +185,7 @@ impl<'a> Bench<'a> {
     // Does the runs of the case, and tells of what came out of them.
     fn end_case<R: Threads + Wait + Sync>(&mut self, rt: &R) -> Result<(), Memory> {
         self.end_text()?;
-        if self.case.is_blank() {
+        if !self.does_cases || self.case.is_blank() {
             return Ok(());
         }
         let rows = mem::replace(&mut self.rows, no_rows(self.alloc));

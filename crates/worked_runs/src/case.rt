@@ -20,6 +20,8 @@ pub struct Case<'a> {
     pub wrong: Vec<&'a str>,
     /// What has to come out. A case that says nothing of it is never as it says.
     pub comes: Text,
+    /// Whether something else has to come out than it says.
+    pub is_otherwise: bool,
     /// The words of each run, in a line.
     pub runs: Vec<&'a str>,
     pub input: Text,
@@ -62,6 +64,7 @@ impl<'a> Case<'a> {
             name,
             wrong: Vec::new(alloc),
             comes: Text::new(alloc),
+            is_otherwise: false,
             runs: Vec::new(alloc),
             input: Text::new(alloc),
             pieces: Vec::new(alloc),
@@ -114,6 +117,7 @@ impl<'a> Case<'a> {
             Setting::CutEverywhere => self.inputs = Inputs::CutEverywhere,
             Setting::EndedEverywhere => self.inputs = Inputs::EndedEverywhere,
             Setting::MessagesEnded => self.inputs = Inputs::MessagesEnded,
+            Setting::Otherwise => self.is_otherwise = true,
         }
         Ok(())
     }

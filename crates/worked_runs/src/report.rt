@@ -37,17 +37,18 @@ impl<'a> Report<'a> {
             return Ok(());
         }
         self.has_case = true;
-        if !case.says(came) {
+        if !case.wrong.is_empty() || case.says(came) == case.is_otherwise {
             self.otherwise = self.otherwise.saturating_add(1);
             return put_otherwise(&mut self.text, case, came);
         }
         match self.only {
-            Some(name) => put_as_said(&mut self.text, name, came),
+            Some(_) => put_as_wanted(&mut self.text, case, came),
             None => Ok(()),
         }
     }
 
-    fn asks_for(&self, name: &str) -> bool {
+    /// Whether a case of this name is asked for.
+    pub fn asks_for(&self, name: &str) -> bool {
         match self.only {
             Some(only) => only == name,
             None => true,
@@ -84,14 +85,20 @@ impl<'a> Report<'a> {
     }
 }
 
-fn put_as_said(text: &mut Text, name: &str, came: &[u8]) -> Result<(), Memory> {
-    put_came(text, name, came)?;
+fn put_as_wanted(text: &mut Text, case: &Case<'_>, came: &[u8]) -> Result<(), Memory> {
+    put_came(text, case.name, came)?;
+    if case.is_otherwise {
+        return text.put(b"# otherwise than it says, as it has to\n");
+    }
     text.put(b"# as it says\n")
 }
 
 fn put_otherwise(text: &mut Text, case: &Case<'_>, came: &[u8]) -> Result<(), Memory> {
     put_came(text, case.name, came)?;
     put_wrong(text, &case.wrong)?;
+    if case.is_otherwise {
+        return text.put(b"# it has to come out otherwise than it says\n");
+    }
     put_difference(text, case.comes.bytes(), came)
 }
 

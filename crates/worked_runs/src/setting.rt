@@ -26,6 +26,8 @@ pub enum Setting<'a> {
     EndedEverywhere,
     /// Each run is made once for each front of each message of the input, over the rows that the messages before it left.
     MessagesEnded,
+    /// The case has to come out otherwise than it says.
+    Otherwise,
 }
 
 /// What a head sets, or None where it sets nothing.
@@ -40,6 +42,7 @@ pub fn setting_in<'a>(key: &str, rest: &'a str) -> Option<Setting<'a>> {
         "cut_everywhere" => Some(Setting::CutEverywhere),
         "ended_everywhere" => Some(Setting::EndedEverywhere),
         "messages_ended" => Some(Setting::MessagesEnded),
+        "otherwise" => Some(Setting::Otherwise),
         _ => None,
     }
 }
