@@ -1,0 +1,9 @@
+pub mod SolvingLaws
+pub mod InquiryLaws
+pub mod SharedLaws
+pub mod EngineLaws
+pub mod ClauseLaws
+pub mod AddedLaws
+pub mod PartLaws
+pub mod WorkedRules
+pub mod WorkedClauses
