@@ -12,6 +12,7 @@ use Rattle.keeper_sql.proofs.sql_keeper.SqlKeeper.TheSendSync as sql
 use Rattle.keeper_sql.specs.contracts.file_keeper.FileKeeper as FileKeeper
 use Rattle.journal_keeper.specs.contracts.file_journal.FileJournal as FileJournal
 use Rattle.journal_keeper.proofs.file_journal.FileJournal.TheSendSync as journal
+use Rattle.file_store.specs.contracts.counted.Counted as Counted
 use Rattle.file_store.proofs.counted.Counted.TheSendSync as counted
 use Rattle.file_store.proofs.store.Store.TheSendSync as either
 

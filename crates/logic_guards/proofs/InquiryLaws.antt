@@ -1,5 +1,5 @@
 -- What is told of questions, part by part.
-use Rattle.std.proofs.Common.{◌≡◌, ℕ, Bool, true, false, List, [], ◌∷◌, ◌++◌, length, refl, sym, ap, subst, ◌∙◌, arith}
+use Rattle.std.proofs.Common.{◌≡◌, ℕ, true, List, [], ◌∷◌, ◌++◌, refl, sym, subst, ◌∙◌, arith}
 use Rattle.std.specs.Prelude.{Contains}
 use Rattle.std.specs.List.{AllByRecursion}
 use Rattle.std.proofs.lemmas.Bool.{true≢false}
@@ -9,7 +9,7 @@ use Rattle.inquiry.specs.Form.{Form}
 use Rattle.inquiry.specs.Told.{IsTold}
 use Rattle.inquiry.specs.declared.told.Told.{Told}
 use Rattle.inquiry.specs.declared.told.Told.TheVariants.{Finding, Undecided}
-use Rattle.logic_guards.specs.Inquiries.{AllShown, EachTold, IsNotPassedOver, IsShown, SomethingTold, asked_of}
+use Rattle.logic_guards.specs.Inquiries.{AllShown, EachTold, IsNotPassedOver, IsShown}
 
 joined : {X : Type 0} (P : X → Type 0) (xs ys : List X) → AllByRecursion P xs → AllByRecursion P ys → AllByRecursion P (xs ++ ys)
 joined P [] ys h k = k

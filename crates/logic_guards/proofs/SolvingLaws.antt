@@ -1,9 +1,8 @@
 -- What the contract of a search says of its answers.
 use Rattle.std.proofs.Common.{◌≡◌, ℕ, ◌*◌, ◌<◌, Bool, true, false, not, List, refl, sym, ap, subst, ◌∙◌}
 use Rattle.std.proofs.lemmas.Bool.{false≢true, true≢false}
-use Rattle.pb_base.specs.Sets.{has as has_code}
 use Rattle.clause_pool.specs.Literal.{literal, complement, is_true}
-use Rattle.clause_pool.specs.Clause.{has, AreBelow, Follows, Sat}
+use Rattle.clause_pool.specs.Clause.{AreBelow, Follows, Sat}
 use Rattle.clause_pool.specs.Derivation.{AllFollow}
 use Rattle.clause_pool.proofs.LiteralLaws.{is_true-complement}
 use Rattle.clause_pool.proofs.ClauseLaws.{TrueLiteral, true_literal, all_found}
@@ -12,7 +11,7 @@ use Rattle.clausify.proofs.Truth.{true_positive, true_negative}
 use Rattle.solver.specs.Solver.{Solving, Onwards, IsRight}
 use Rattle.solver.specs.declared.answer.Answer.{Answer}
 use Rattle.solver.specs.declared.answer.Answer.TheVariants.{Set, Closed, Spent}
-use Rattle.logic_guards.specs.Solving.{AllTrue, HasLearnt, HoldsAssumed, IsBelow, IsRefuted}
+use Rattle.logic_guards.specs.Solving.{HasLearnt, HoldsAssumed, IsBelow, IsRefuted}
 
 pub learnt_all : (s : Solving) (assumed : List ℕ) (budget : ℕ) (answer : Answer) → IsRight s assumed budget answer → HasLearnt budget answer
 learnt_all s assumed budget (Set x) h = tt

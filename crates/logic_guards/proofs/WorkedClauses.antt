@@ -1,6 +1,6 @@
 -- Clauses at small formulas and books, which a wrong body would make otherwise. A clause is written as its literals' codes: twice the
 -- variable, plus one where it is negative.
-use Rattle.std.proofs.Common.{◌≡◌, ℕ, false, List, [], ◌∷◌, Some, map, refl}
+use Rattle.std.proofs.Common.{◌≡◌, false, List, [], ◌∷◌, Some, map, refl}
 use Rattle.std.specs.Prelude.{codes}
 use Rattle.pb_base.specs.Rule.{either}
 use Rattle.book_model.specs.Contents.{Contents}

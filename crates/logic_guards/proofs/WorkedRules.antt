@@ -1,9 +1,9 @@
 -- Definitions at small books, which a wrong body would get wrong.
-use Rattle.std.proofs.Common.{◌≡◌, ℕ, Bool, true, false, List, [], ◌∷◌, refl}
+use Rattle.std.proofs.Common.{◌≡◌, true, false, List, [], ◌∷◌, refl}
 use Rattle.std.specs.Prelude.{codes}
-use Rattle.pb_base.specs.Rule.{both, code, negation}
+use Rattle.pb_base.specs.Rule.{both, negation}
 use Rattle.book_model.specs.Contents.{Contents}
-use Rattle.book_model.specs.WorkedBook.{book_t, five_gears, m1, m2, g5, g7, set_t}
+use Rattle.book_model.specs.WorkedBook.{book_t, five_gears, m1, g5, g7, set_t}
 use Rattle.book_model.specs.declared.record.Supplement.{Supplement}
 use Rattle.supplement.specs.Completion.{completion_by}
 use Rattle.chosen_parts.specs.Chosen.{is_same_use}

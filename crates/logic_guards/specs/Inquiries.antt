@@ -1,7 +1,7 @@
 -- What is told of questions, whatever they are.
 --     AllShown f told         each finding has a set that shows what its question asks for
 --     EachTold f qs told      of each question that some set shows something is told
-use Rattle.std.specs.Prelude.{◌≡◌, ℕ, Bool, true, List, Contains, length}
+use Rattle.std.specs.Prelude.{◌≡◌, Bool, true, List, Contains, length}
 use Rattle.std.specs.List.{AllByRecursion}
 use Rattle.inquiry.specs.Form.{Form}
 use Rattle.inquiry.specs.declared.told.Told.{Told}
