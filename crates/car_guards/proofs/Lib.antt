@@ -1,0 +1,4 @@
+pub mod BlamedLaws
+pub mod StateLaws
+pub mod StayLaws
+pub mod WorkedRequirements
