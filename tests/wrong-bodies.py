@@ -1,6 +1,6 @@
 #!/usr/bin/env python3
-"""Lists the wrong bodies that the gate tries, by name in plain words: the edits in crates/*/must-fail in the order of crates.txt,
-and for each what it would do, by a line of this script.
+"""Lists what the gate refuses: the guards of the crates .._guards, by the tables of their READMEs, and the edits in crates/*/must-fail
+in the order of crates.txt, by name in plain words, for each what it would do, by a line of this script.
 
     tests/wrong-bodies.py          writes tests/WRONG-BODIES.md, which is not kept
     tests/wrong-bodies.py --check  ends with 1, and says which, where an edit has no line here or a line no edit
@@ -14,41 +14,18 @@ PAGE = TOP / "tests" / "WRONG-BODIES.md"
 
 # What the changed code would do.
 WOULD = {
-    "a_set_of_another_day": "a car of one day would be told for a question of another",
-    "a_set_that_shows_nothing": "a question would be told as answered by a car that doesn't show it",
-    "an_answer_of_another_question": "what a search says of one question would be told of its neighbour",
-    "closed_by_its_neighbours_where_it_is_left": "a question that was given up would be told as one to which no car is the answer",
     "a_failed_read_told_as_an_empty_file": "a desk would begin anew over a store that it couldn't read",
     "a_failed_write_told_as_done": "an order would be answered as kept that isn't in the store",
     "a_folder_that_is_not_synced": "a new store could be gone after a loss of power",
     "a_lock_that_is_not_taken": "two desks could write one store",
-    "runs_told_in_another_order": "with several workers the slices of a book would be told in another order",
-    "a_requirement_asked_on_its_first_slice_alone": "a requirement that fails later would be told as kept",
-    "idle_that_is_not_told": "a requirement about cars that there are none of would be told as kept",
-    "a_run_joined_over_days_that_differ": "days on which a requirement is kept would be told as days on which it fails",
-    "a_chosen_code_left_out": "what can still be chosen would be told of cars that lack a chosen code",
-    "the_first_cars_values_told_as_forced": "a code would be told as forced or excluded by one car alone",
-    "none_left_where_the_search_was_left": "no car would be told to be left though the search for one was given up",
-    "an_undecided_code_told_as_open": "a code would be told as open though the search for one of the two cars was given up",
     "each_open_code_comes": "a code would be told to come with the order though it isn't in the completed set",
-    "passes_end_after_the_first": "codes would be added to an order that it doesn't need once others are gone",
-    "a_code_tried_beside_itself": "each code would be taken for one that isn't needed, and the order told wouldn't be accepted",
-    "no_usage_is_given": "no question about a variant would have a literal to assume",
     "another_set_is_told_of_a_common_car": "a set would be told of a car of both books that isn't that car's",
-    "a_groups_pairs_without_their_guard": "codes of a group would be kept apart in searches that leave the group out",
-    "told_with_no_second_search": "rules would be told as to blame by a hint alone, with no search over just these",
-    "needed_where_the_search_was_left": "a rule would be told as needed though nothing was found without it",
-    "left_where_none_was_tried": "a rule that was never tried would be told as undecided",
     "codes_that_are_not_accepted": "an order would be told to be accepted with codes with which it isn't",
     "a_code_left_that_stays": "a code would be told to be left out that can stay",
     "no_order_where_a_search_was_left": "a day would be told to have no car though the search for one was given up",
-    "none_told_where_the_search_was_left": "rules would be told as to blame though a car may meet the rule",
-    "a_code_left_out_where_the_search_was_left": "a code of an order would be told to be left out though it may stay",
-    "equal_parts_with_another_quantity": "a car that gets two of a part would count as one that gets one of it",
     "positions_of_the_second_book_left_out": "a part at a place that only the other book knows would be overlooked",
     "codes_of_one_book_left_free": "a car would be shown that one of the two books can't order",
     "another_part_is_the_same_position": "a position whose parts changed under the same formulas would count as the same, with no search",
-    "rules_told_apart_by_their_ids": "other codes would be told to come to orders where only the ids of rules changed",
     "a_car_that_the_other_book_has_is_lost": "a car would be told as lost that the next book allows",
     "a_rule_of_another_formula_is_the_same": "a rule whose formula changed would count as the same, and the cars that it loses go unsaid",
     "a_run_over_days_of_one_book_alone": "days would be compared that are in the term of one book alone",
@@ -64,11 +41,6 @@ WOULD = {
     "the_end_of_the_last_worker_alone_is_told": "a port that failed would go unsaid where a later one ended well",
     "a_session_that_goes_on_after_a_failed_write": "a call would have its effect after a response that could not be written, and nobody would be told of it",
     "another_port": "a service would listen at another port than the words name, and its callers would find nobody",
-    "a_chain_without_its_last_part": "a rule that breaks cars by the last part of its formula alone would go unsaid",
-    "a_finding_of_another_slice": "a rule that breaks cars would be told with the days of another slice",
-    "a_pair_that_is_asked_is_skipped": "two rules that keep each other from firing would go unsaid",
-    "a_rule_is_read_without_the_code": "a rule would be asked of the car as it is, and not of the car with the code that is added",
-    "both_formulas_must_be_lost": "two rules of which only one keeps the other from firing would go unsaid",
     "a_closed_gate_written_again": "the gate could be torn open by a write to it while the record behind it was never synced",
     "a_gate_in_doubt_forgotten": "a change that failed late would be told as never made, and be there at the next start",
     "a_gate_opened_before_its_record_is_synced": "a stop in the middle of a change would leave a record of bytes that nobody wrote",
@@ -83,39 +55,23 @@ WOULD = {
     "a_file_of_just_the_limit_is_too_long": "a file that may just be read would be refused as too long",
     "a_short_write_whose_rest_is_dropped": "where a write takes a part of the bytes, the others would be lost without a word",
     "the_end_after_a_fault_of_reading": "a failed read would be taken for the end of the input, and half a book for a whole one",
-    "rules_applied_once_in_rank_order": "a supplementing rule that comes true late would add nothing",
-    "constructibility_asked_of_the_codes_as_ordered_alone": "an order would be tested without the codes that are added to it",
-    "the_first_selected_variant_taken_and_no_count_asked": "a car with two parts for one place would be accepted, with the first of them",
-    "resolve_tests_the_complement": "a step of a proof would be taken though its literal isn't there",
-    "no_pair_of_an_optional_position_asked": "two parts at one optional place would never be found",
-    "a_unit_clause_missed_after_back_to": "after going back, the search would overlook what a rule forces",
-    "a_clause_counts_twice": "a question would be left undecided with fewer clauses than the budget",
-    "a_core_without_a_literal": "an assumption that is to blame would not be named, so others would be blamed alone",
-    "a_foreign_variable_counted": "a question would be left undecided for clauses about variables that aren't the book's",
-    "an_assumption_is_dropped": "a set would be shown that doesn't have all that was asked for",
-    "a_void_slice_is_released": "a book would be released though on some days no car can be ordered",
-    "a_clause_of_other_periods_is_taken": "a fault would go unsaid by what rules come to that aren't active then",
-    "no_period_is_assumed": "a car would be told that breaks the rules of its days",
-    "a_rule_without_its_period": "a rule would be kept on days on which it isn't active",
-    "the_first_slice_alone_is_checked": "a book would be released though later days have faults",
     "a_write_dropped_from_the_history": "what a thread did at the machine would be missing from the history",
     "an_answer_invented": "a thread would be told an answer that the machine never gave",
     "the_opening_state_always_shown": "a thread would see the machine as it was at first, and not what others did since",
     "a_failure_that_is_not_counted": "a failure of the store would leave no trace in its count",
     "a_fault_told_as_want_of_memory": "a failure of the store would be told as a want of memory",
-    "found_with_an_empty_report": "a draft would be refused for findings, and none of them told",
-    "undecided_without_clauses": "a draft would be refused as undecided, and no question named",
     "a_book_written_before_the_growth": "a book could be in the store that the desk has no room for, so that the two differ",
     "a_repeated_order_under_the_newest_book": "an order that is sent again would be answered by another book than the one that accepted it",
     "a_load_before_a_put": "each new order would wait until all rows of the store were read",
     "a_read_fault_of_a_desk_told_as_done": "a desk whose connection broke would end as if all were answered",
     "a_service_that_takes_no_link": "a service would end without having taken a connection, and tell what its store had at the start",
     "every_service_told_as_a_door_fault": "a service that has served all its connections would end as if its port had failed",
+    "a_cut_response_told_as_written": "a session would go on behind a response that its caller never got",
 }
 
 HEAD = """# Wrong bodies that have to be refused
 
-A contract that is too weak would let wrong code pass. So the gate changes the code at a few places, in the ways that would do harm, and the prover has to refuse each change. A wrong body is an edit in the folder `must-fail` of a crate; `rt must-fail NAME` tries those of one crate. `tests/wrong-bodies.py` makes this list from them.
+A contract that is too weak would let wrong code pass. Two things tell that it is: a guard is a function that calls another and ensures that a run can't do a harm, proved from the contract of the callee alone, or a lemma that evaluates a definition at a small value; it excludes all bodies that do this harm. Where no contract above says the harm, the gate changes the code in the way that would do it, and the prover has to refuse the change: a wrong body is an edit in the folder `must-fail` of a crate; `rt must-fail NAME` tries those of one crate. `tests/wrong-bodies.py` makes this list from them.
 """
 
 
@@ -136,12 +92,19 @@ def linked(crate, edit):
     return f"[{edit.stem.replace('_', ' ')}](../crates/{crate}/must-fail/{edit.name})"
 
 
+def guards(crate):
+    """The table of the guards of one crate, as its README has it."""
+    lines = (TOP / "crates" / crate / "README.md").read_text().splitlines()
+    return [f"## `{crate}`", "", *(line for line in lines if not line or line.startswith("|")), ""]
+
+
 def page():
     """The whole text."""
     parts = [found for found in map(rows, crate_names()) if found]
-    sums = f"There are {sum(map(len, parts))} in {len(parts)} crates.\n"
+    sums = f"There are {sum(map(len, parts))} wrong bodies in {len(parts)} crates.\n"
     table = ["| Crate | Wrong body | What it would do |", "|---|---|---|"]
-    return "\n".join([HEAD, sums, *table, *(row for part in parts for row in part)]) + "\n"
+    held = [line for crate in crate_names() if crate.endswith("_guards") for line in guards(crate)]
+    return "\n".join([HEAD, sums, *table, *(row for part in parts for row in part), "", *held]) + "\n"
 
 
 def check():

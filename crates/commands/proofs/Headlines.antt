@@ -171,7 +171,7 @@ unserved : (how : ServeEnd) (service : Service) (before after : Outside) (status
     → (after.door.told ≡ counts after.door.told.faults before.door.told) ⊎ (after.door.told.back ≡ new_ports service.links service.workers)
     → ServiceHeadline service before after
 unserved how service before after status run same ports =
-    by_history how service before after status run [] tt (sym same) (inr (record { ports = ports; history = refl; unchanged = same }))
+    by_history how service before after status run [] tt (sym same) (inr (record { ports = ports; idle = refl; unchanged = same }))
 
 by_workers : (how : ServeEnd) (service : Service) (before after : Outside) (status : RunStatus) → HasServed how service before after status
     → ServiceHeadline service before after

@@ -1,7 +1,10 @@
 -- What the headline refuses: two engines accepted, on the worked book; a desk that accepts an order and keeps nothing; a service that
 -- answers an order and makes no step, or tells that none of its ports gave a link though one did.
 use Rattle.std.proofs.Common.{◌≡◌, ◌≤◌, ◌++◌, ◌∙◌, ℕ, zero, suc, Bool, true, List, [], ◌∷◌, None, Some, inl, inr, refl, sym, subst, ap, map}
-use Rattle.std.specs.Prelude.{Option, IfSome, Ordering, Less, Equal, Greater}
+use Rattle.std.specs.Prelude.{Option, IfSome}
+use Rattle.std.specs.Ordering.{match_ordering}
+use Rattle.std.specs.declared.cmp.Ordering.{Ordering}
+use Rattle.std.specs.declared.cmp.Ordering.TheVariants.{Less, Equal, Greater}
 use Rattle.std.specs.List.{AllByRecursion}
 use Rattle.std.specs.BTreeMap.{insert_entry}
 use Rattle.pb_door.specs.DoorTold.{DoorTold}
@@ -117,6 +120,10 @@ nothing_at : (book : Opened State) (places : List ℕ) → at_places (steps_of b
 nothing_at book [] = refl
 nothing_at book (place ∷ places) = nothing_at book places
 
+ends_in : (more : List Made) (one : Made) → more ++ one ∷ [] ≡ [] → ⊥
+ends_in [] one is = cc
+ends_in (m ∷ more) one is = cc
+
 -- a call by which an order is told as placed is a step of its holder
 placed_made : (e : Exchange) → IsPromised e → (book : Opened State) → e.before.book ≡ Some book → (number : ℕ) (order : OrderWords)
     → e.call.what ≡ Order number order → 2 ≤ e.before.left → (fresh : Bool) (text : List ℕ) → e.said ≡ Placed fresh text → e.after.made ≡ [] → ⊥
@@ -130,10 +137,6 @@ placed_made e promised book seated number order asked left fresh text said none 
         let made : e.after.made ≡ last.between.made ++ one ∷ [] =
         subst (λ (o : Option (Opened State)). e.after.made ≡ with_made o last.between.made one) its last.step.made in
         ends_in last.between.made one (sym made ∙ none)
-
-    ends_in : (more : List Made) (one : Made) → more ++ one ∷ [] ≡ [] → ⊥
-    ends_in [] one is = cc
-    ends_in (m ∷ more) one is = cc
 
 -- no port of a service whose history has no entry has placed an order by its one call
 no_step : (book : Opened State) (share : ℕ) (port : PortTold) (places : List ℕ) (holder : IsHolder book share [] port places) (e : Exchange)

@@ -96,7 +96,7 @@ pub record HasHolders (share : ℕ) (start : State) (history : Log) (ports : Lis
 -- given, none of which had given a link
 pub record WasUnserved (service : Service) (start last : State) (history : Log) (before after : DoorTold) : Type 0 where
   pub ports : (after ≡ counts after.faults before) ⊎ (after.back ≡ new_ports service.links service.workers)
-  pub history : history ≡ []
+  pub idle : history ≡ []
   pub unchanged : last ≡ start
 
 pub record Headline (Held : State → State → Log → Type 0) (before after : Outside) : Type 0 where

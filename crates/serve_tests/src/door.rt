@@ -219,3 +219,37 @@ fn a_file_stops_a_door(rt: HostRuntime) -> Result<(), Fail> {
     assert!(rt; !absent.is_stopped());
     Ok(())
 }
+
+// Whether the link refuses one of so many responses.
+fn refuses<W: Watch + Drop>(link: &mut TcpLink<W>) -> bool {
+    for _ in 0..1_000 {
+        if link
+            .write_both(b"HTTP/1.1 200 OK\r\n\r\n", &[0; 8_192])
+            .is_err()
+        {
+            return true;
+        }
+    }
+    false
+}
+
+#[test]
+fn a_response_to_a_caller_that_is_gone_is_a_fault(rt: HostRuntime) -> Result<(), Fail> {
+    let alloc = rt.alloc();
+    let watch = SystemWatch::new(&rt, None, 0, 0);
+    let mut door = TcpDoor::new(alloc, &rt, &watch);
+    let mut port = only_port(alloc, &mut door, 0, 1)?;
+    let client = TcpStream::connect(&rt, port.address()?)?;
+    match port.next()? {
+        Some(mut link) => {
+            drop(client);
+            let refused = refuses(&mut link);
+            let faults = link.write_faults();
+            port.done(link);
+            assert!(rt; refused);
+            assert_eq!(rt; faults, 1);
+        }
+        None => panic!(rt; "a connection waits"),
+    }
+    Ok(())
+}
