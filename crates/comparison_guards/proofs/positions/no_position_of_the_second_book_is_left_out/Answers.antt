@@ -1,0 +1,7 @@
+use Rattle.comparison_guards.proofs.PartsHave.{ok_map}
+use Rattle.comparison_guards.proofs.PositionLaws.{added_told}
+use Rattle.comparison_guards.proofs.positions.no_position_of_the_second_book_is_left_out.Goals as goal
+
+pub returns : goal.returns
+returns c =
+    ok_map _ _ (λ notes h. added_told c.args.first.now.book c.args.second.now.book c.args.day c.args.budget notes.items h) c.compare.result c.compare.ensures.notes
