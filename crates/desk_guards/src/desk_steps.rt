@@ -10,8 +10,7 @@ ghost use Rattle.desk_guards.specs.Steps.{IsOfItsBook, IsOneCallAtMost};
 
 use caller_laws::caller_laws;
 use keeper::Keeper;
-use order_desk::{Answer, Desk, Event, Reading};
-use pb_base::Id;
+use order_desk::{Answer, Desk, Event};
 
 /// A step that reads rows beside its one write would take the longer, the more is kept.
 pub fn no_row_is_read_before_a_put<P: Keeper>(desk: &mut Desk<P>, event: Event) -> Answer
@@ -33,14 +32,14 @@ pub fn no_row_stays_of_a_step_without_memory<P: Keeper>(desk: Desk<P>, event: Ev
     (answer, desk.finish())
 }
 
-/// A caller who asks for an old order would be told the parts of a newer book.
+/// A caller who asks for an old order, or sends it once more, would be told the parts of a newer book.
 pub fn no_kept_order_is_answered_by_another_book<P: Keeper>(
     desk: &mut Desk<P>,
-    caller: Id,
-    number: u32,
+    event: Event,
 ) -> Answer
+    requires { Fits desk.old.tables event }
     ensures { (order : OrderWords) (book : Release) → result ≡ Answer.Kept order book
         → IsOfItsBook desk.old.tables order book }
 {
-    desk.step(Event::Read(Reading::Order { caller, number }))
+    desk.step(event)
 }
