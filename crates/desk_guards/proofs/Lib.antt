@@ -1,3 +1,4 @@
 pub mod StepLaws
 pub mod PutLaws
 pub mod OwnBooks
+pub mod SessionLaws
