@@ -9,7 +9,10 @@ mod positions;
 mod repairs;
 mod runs;
 
-pub use cars::{no_lost_car_is_left_out, no_other_car_is_told_as_one_of_both};
+pub use cars::{
+    no_cause_of_a_lost_car_is_left_out, no_lost_car_is_left_out,
+    no_other_car_is_told_as_one_of_both,
+};
 pub use days::no_run_has_a_day_of_another_outcome;
 pub use kept_orders::{no_order_is_judged_by_its_own_book, no_order_is_told_the_answer_of_another};
 pub use positions::{
