@@ -494,7 +494,8 @@ ln -s "$top/partsbook" "$work/linked"
 (PARTSBOOK_PROGRAM=$work/none; out check; [ $? = 125 ] || wrong 'a program that is not there has another status'); said "there is no program $work/none"
 # One standard input for many commands: the second one isn't told of the first one's bytes.
 { read -r _; "$top/partsbook" check 2> "$work/said" > "$work/found"; } < "$books/van.csv"
-grep -q read "$work/said" && wrong 'a book is counted whose first line another command has read'
+grep -q 'partsbook: read' "$work/said" && wrong 'a book is counted whose first line another command has read'
+said 'another command has read from this book before'
 
 [ "$failed" = 0 ] && echo "launcher: $tried commands come out as the program's, and are told as they should be"
 exit "$failed"
