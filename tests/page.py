@@ -5,7 +5,7 @@ examples/service/haproxy.cfg and `partsbook serve`, all at ports of 127.0.0.1 an
     tests/page.py [--pictures FOLDER] [PART..]
 
 Parts: order, choices, drafts, faults, paper, waits, thousand, roles, hostile, keys, many, watch. Without one, all of them. --pictures leaves pictures of the page in a folder
-(those of docs/pictures were made so). It needs crates/partsbook/out/partsbook, or the program that PARTSBOOK_PROGRAM names, and haproxy,
+(those of docs/pictures were made so, and by `pngquant 64` smaller). It needs crates/partsbook/out/partsbook, or the program that PARTSBOOK_PROGRAM names, and haproxy,
 chromium and chromedriver, which it installs by apt-get where they aren't there. It ends what it began. The status is 1 where
 something is otherwise.
 """
