@@ -4,10 +4,10 @@ examples/service/haproxy.cfg and `partsbook serve`, all at ports of 127.0.0.1 an
 
     tests/page.py [--pictures FOLDER] [PART..]
 
-Parts: order, choices, drafts, faults, paper, waits, thousand, roles, hostile, keys, many, watch. Without one, all of them. --pictures leaves pictures of the page in a folder
-(those of docs/pictures were made so, and by `pngquant 64` smaller). It needs crates/partsbook/out/partsbook, or the program that PARTSBOOK_PROGRAM names, and haproxy,
-chromium and chromedriver, which it installs by apt-get where they aren't there. It ends what it began. The status is 1 where
-something is otherwise.
+Parts: order, choices, drafts, faults, paper, waits, thousand, roles, hostile, keys, many, watch. Without one, all of them.
+--pictures leaves pictures of the page in a folder (those of docs/pictures were made so, and by `pngquant 64` smaller). It needs
+crates/partsbook/out/partsbook, or the program that PARTSBOOK_PROGRAM names, and haproxy, chromium and chromedriver, which it installs
+by apt-get where they aren't there. It ends what it began. The status is 1 where something is otherwise.
 """
 
 import base64
@@ -1030,7 +1030,8 @@ def faults(trial):
 
 
 def thousand(trial):
-    """A book of 1,000 codes: how long a click takes until each state is shown."""
+    """A book of 1,000 codes: how long a click takes until each state is shown. That depends on what else the machine does, and is told
+    alone: a click that isn't answered ends the trial."""
     text = subprocess.run([sys.executable, TOP / "tests" / "speed" / "draw_book.py", "1000", "1", "120"], capture_output=True, check=True).stdout
     book = trial.place.release("THOUSAND", text)
     browser = trial.browser("KIEL1")
@@ -1048,7 +1049,6 @@ def thousand(trial):
         took.append(browser.send("POST", f"{browser.session}/execute/async", {"script": script, "args": [code]}))
         browser.settle()
     took.sort()
-    check("a click is answered", took[-1] < 5000, took)
     typed = browser.run("const it = document.getElementById('search'), begun = performance.now(); it.value = 'g04'; it.dispatchEvent(new Event('input')); document.body.offsetHeight; return performance.now() - begun")
     shown = browser.run("return [...document.querySelectorAll('.option')].filter((it) => it.checkVisibility()).length")
     wanted = sum(1 for line in text.decode().splitlines() if line.startswith("code,") and "g04" in line.lower())
