@@ -5,13 +5,14 @@ and looks whether another dealer's orders are answered meanwhile, each within tw
     tests/hostile-proxy.py [--book "CODES SLICES GROUPS"] [PROGRAM [SUBJECT..]]
 
 PROGRAM is crates/partsbook/out/partsbook without the word, and SUBJECT one of these. The service has the words of the shipped unit,
-but its port. The proxy has the shipped file as it is; its variables of the environment give it ports, a certificate made on the
-spot and a place for its log, and some subjects limits that are reached sooner. The large book is drawn by tests/speed/draw_book.py. Where root tries it, HAProxy becomes its own user in
-its empty folder, as under its unit. The callers come from addresses of their own, 127.0.0.2 and so on.
+but its port, and its store in memory, so that the disk of a busy machine keeps nobody waiting. The proxy has the shipped file as it
+is; its variables of the environment give it ports, a certificate made on the spot and a place for its log, and some subjects limits
+that are reached sooner. Where root tries it, HAProxy becomes its own user in its empty folder, as under its unit. The large book is
+drawn by tests/speed/draw_book.py. The callers come from addresses of their own, 127.0.0.2 and so on.
 
 files      the proxy's files and the units pass `haproxy -c` and `systemd-analyze verify` without a warning.
 half       a hundred requests of one address that have half a head and no password, and 700 connections on which nothing comes.
-up         /up asked as fast as it goes, by a stranger and by the watch; /alive and /up where the service is gone or full of calls.
+up         /up asked as fast as it goes, by a stranger and by the watch; both /up and /alive where the service is gone and comes back.
 passwords  200 wrong passwords of one address, and then right ones.
 questions  three sockets of one dealer who asks `free` and `why` of a large book with the largest budget, and with none.
 slow       one who reads a certificate a few bytes a second, and one whose body comes so.
@@ -43,7 +44,7 @@ import types
 
 sys.path.insert(1, str(pathlib.Path(__file__).resolve().parent / "speed"))
 from trial import TOP, built
-from desk_stream import PROGRAM, example
+from desk_stream import PROGRAM, example, work_place
 from proxy import CONFIGURATION, Proxy, make_certificate, unit_words
 from service import ACCEPTED, PATIENCE, Broken, Service, at_once, kept_orders, must, try_subjects
 from draw_book import Drawn
@@ -238,7 +239,7 @@ def deal(port, pem, before):
 
 
 def over(program, trial, **settings):
-    with tempfile.TemporaryDirectory() as folder, Hall(program, folder, **settings) as hall:
+    with tempfile.TemporaryDirectory(dir=work_place()) as folder, Hall(program, folder, **settings) as hall:
         if "DESK_EYES" not in settings:
             hall.release()
         return trial(hall)
@@ -339,7 +340,7 @@ def try_up(program, _given):
         counts = hall.told()
         asked = sum(strangers.values()) + sum(watch.values())
         must("the service isn't reached by them", counts["links"] < before + 60 and asked > 500, counts, before, asked)
-        # The service is gone, then there, then one without steps for its workers would answer `full calls`; which isn't waited for here.
+        # The service is gone, and comes back.
         caller = Caller(hall.proxy, None, WATCH)
 
         def wait(path, wanted):
@@ -417,7 +418,7 @@ def try_questions(program, given):
             said = Caller(hall.proxy, "KIEL1").ask("POST", f"/books/{number}/free", body)
             must("nor in another way", said[0] in (400, 403), body, said)
         none, second = hall.beside(lambda: ask('{"day":1,"codes":[]}'))
-        must("he is answered without one", set(none) == {200}, none)
+        must("he is answered without one, as often as a user may ask", set(none) <= {200, 429} and none[200] > 10, none)
         anna = Caller(hall.proxy, "ANNA")
         (status, said), third = hall.beside(lambda: anna.ask("POST", f"/books/{number}/free", '{"day":1,"codes":[],"budget":50000}'))
         must("an engineer may name one", status == 200 and said.startswith("now "), status, said[:80])
