@@ -502,7 +502,7 @@ def try_orders(program, _given):
         must("some are kept, and the rest refused", set(counts) <= {201, 429, 0} and counts[201] and counts[429] > counts[201] // 2, counts)
         kept = sum(caller == "KIEL1" for caller, _ in kept_orders(hall.store))
         must("what was answered 201 is kept, and no more", kept == counts[201], kept, counts)
-        return f"of {sum(counts.values())} orders of one user in 12 s {counts[201]} were kept and {counts[429]} refused; {beside}"
+        return f"of {sum(counts.values())} orders of one user in 12 s {counts[201]} were kept, {counts[429]} refused, and the others had no connection; {beside}"
 
     def day(hall):
         caller = Caller(hall.proxy, "KIEL1")
