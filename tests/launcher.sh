@@ -187,7 +187,7 @@ for trial in "$bare"/tests/*.py "$bare"/tests/*.sh "$bare"/tests/speed/*.py "$ba
     # This one tries what needs no program.
     tests/launcher.sh) continue ;;
     # What they are without a program, and parts of the others.
-    tests/trial.* | tests/service.py | tests/desk_stream.py | tests/journal-rows.py | tests/wrong-bodies.py | tests/speed/draw_book.py | tests/speed/plot.py) continue ;;
+    tests/trial.* | tests/service.py | tests/desk_stream.py | tests/journal-rows.py | tests/wrong-bodies.py | tests/crates.py | tests/links.py | tests/gate-minutes.py | tests/proxy.py | tests/speed/draw_book.py | tests/speed/plot.py) continue ;;
     tools/lint) given=$books/engine.csv ;;
     tools/json) given='order 1' ;;
     tools/report) ;;

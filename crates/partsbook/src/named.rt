@@ -12,7 +12,7 @@ use std::io;
 /// The store of the task that the words ask for. Where they name none, or there is no memory to read them, it has no keeper.
 pub(crate) fn store_of(rt: HostRuntime, alloc: Global, words: &io::Result<Vec<String>>) -> FileStore
     ensures { let may_begin = ⟦<FileStore as Keeper>⟧.may_begin result in
-        IfOk words.entry (λ given. (store : List ℕ) → NamesStore (texts_of given.items) store → may_begin store) }
+        IfOk words.now (λ given. (store : List ℕ) → NamesStore (texts_of given.items) store → may_begin store) }
 {
     match words {
         Ok(given) => named_store(rt, alloc, given),
