@@ -1,0 +1,2 @@
+mod LaterHands
+pub mod PortLaws
