@@ -1,7 +1,6 @@
 -- What a holder makes while links are served is within the steps that are left.
-use Rattle.std.proofs.Common.{◌≡◌, inl, inr, ℕ, ◌+◌, ◌≤◌, List, [], ◌∷◌, ◌++◌, Option, None, Some, length, refl, sym, subst, ◌∙◌, arith}
+use Rattle.std.proofs.Common.{◌≡◌, inl, inr, ℕ, ◌≤◌, List, [], ◌∷◌, ◌++◌, Option, Some, length, refl, sym, subst, ◌∙◌, arith}
 use Rattle.std.specs.Prelude.{MatchOption, Result, Ok, Err}
-use Rattle.std.proofs.lemmas.List.{length-append}
 use Rattle.desk_words.specs.declared.call.Call.{Call}
 use Rattle.http_wire.specs.declared.message.Message.{Message}
 use Rattle.http_api.specs.declared.denied.Denied.{Denied}

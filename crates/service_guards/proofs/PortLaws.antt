@@ -1,5 +1,5 @@
 -- What the end of a service says of its ports.
-use Rattle.std.proofs.Common.{◌≡◌, ℕ, ◌≤◌, true, List, [], ◌∷◌, length, refl, sym, ap, subst, ◌∙◌}
+use Rattle.std.proofs.Common.{◌≡◌, ℕ, ◌≤◌, true, List, [], ◌∷◌, length, refl, ap, subst, ◌∙◌}
 use Rattle.std.specs.List.{AllByRecursion}
 use Rattle.pb_door.specs.DoorTold.{DoorTold}
 use Rattle.pb_door.specs.PortTold.{PortTold}
